@@ -167,12 +167,12 @@ read fields content more ten size =
     let n = length content in
     let long : length bytes ≡ 10 + (n + length more) = omega (arith, length-append fields (content ++ more), length-append content more, ten) in
     let reported : word_at bytes 8 ≡ n = word_prefix fields (content ++ more) 8 (omega (arith, ten)) ∙ size in
-    let behind : drop 10 bytes ≡ content ++ more = drop_at fields (content ++ more) 10 ten in
+    let trailing : drop 10 bytes ≡ content ++ more = drop_at fields (content ++ more) 10 ten in
     passes _ _ _ _ (not_less (length bytes) 10 (omega (arith, long)))
     (passes _ _ _ _ (not_less (length bytes) (10 + word_at bytes 8) (omega (arith, long, reported)))
     (same_pair _ _ _ _ _ _ _ _ (word_prefix fields (content ++ more) 0 (omega (arith, ten))) (word_prefix fields (content ++ more) 2 (omega (arith, ten)))
-    (ap (λ k. take (10 + k - 10) (drop 10 bytes)) reported ∙ ap (λ k. take k (drop 10 bytes)) (ten_less n) ∙ ap (λ l. take n l) behind ∙ take_at content more n refl)
-    (ap (λ k. drop (10 + k) bytes) reported ∙ sym (drop-drop n 10 bytes) ∙ ap (λ l. drop n l) behind ∙ drop_at content more n refl)))
+    (ap (λ k. take (10 + k - 10) (drop 10 bytes)) reported ∙ ap (λ k. take k (drop 10 bytes)) (ten_less n) ∙ ap (λ l. take n l) trailing ∙ take_at content more n refl)
+    (ap (λ k. drop (10 + k) bytes) reported ∙ sym (drop-drop n 10 bytes) ∙ ap (λ l. drop n l) trailing ∙ drop_at content more n refl)))
 
 record Fields (bytes : List ℕ) (r : Record) (rest : List ℕ) : Type 0 where
   fields : List ℕ
@@ -206,14 +206,14 @@ fields_by bytes r rest false false p q e =
     let long : length content ≡ w = omega (arith, length-take (10 + w - 10) (drop 10 bytes), length-drop 10 bytes, enough) in
     let pair = some_pair (record_at bytes, drop (10 + w) bytes) (r, rest) e in
     let first : record_at bytes ≡ r = ap (λ (q : Record × List ℕ). q.0) pair in
-    let behind : drop (10 + w) bytes ≡ rest = ap (λ (q : Record × List ℕ). q.1) pair in
+    let trailing : drop (10 + w) bytes ≡ rest = ap (λ (q : Record × List ℕ). q.1) pair in
     record {
       fields = take 10 bytes;
       content = content;
       ten = ten;
       size = word_taken bytes 8 (omega arith) ∙ sym long;
       whole =
-          sym (take-append-drop 10 bytes) ∙ ap (λ l. take 10 bytes ++ l) (drop_split bytes 10 (10 + w) (omega arith) ∙ ap (λ l. content ++ l) behind);
+          sym (take-append-drop 10 bytes) ∙ ap (λ l. take 10 bytes ++ l) (drop_split bytes 10 (10 + w) (omega arith) ∙ ap (λ l. content ++ l) trailing);
       same = sym first ∙ same_record _ _ _ _ content (sym (word_taken bytes 0 (omega arith))) (sym (word_taken bytes 2 (omega arith)));
     }
 
@@ -230,15 +230,15 @@ record First (bytes : List ℕ) (r : Record) (rest : List ℕ) : Type 0 where
 
 first_by : (bytes : List ℕ) (r : Record) (rest : List ℕ) (o : Option (List ℕ)) → after_the_name 0 bytes ≡ o → option_and_then record_after o ≡ Some (r, rest) → First bytes r rest
 first_by bytes r rest None is e = absurd (cc e)
-first_by bytes r rest (Some behind) is e =
-    let c = cut 0 bytes behind is in
-    let f = fields_of behind r rest e in
+first_by bytes r rest (Some trailing) is e =
+    let c = cut 0 bytes trailing is in
+    let f = fields_of trailing r rest e in
     let name = flat_map label_bytes c.owner ++ c.ending in
     record {
       s = record { owner = c.owner; ending = c.ending; fields = f.fields; content = f.content };
       is = record { owner = c.sized; ending = c.closed; fields = f.ten; content = f.size };
       whole =
-          c.whole ∙ ap (λ l. l ++ (name ++ behind)) (none_in c.label c.size) ∙ ap (λ l. name ++ l) (f.whole ∙ sym (append_assoc f.fields f.content rest))
+          c.whole ∙ ap (λ l. l ++ (name ++ trailing)) (none_in c.label c.size) ∙ ap (λ l. name ++ l) (f.whole ∙ sym (append_assoc f.fields f.content rest))
           ∙ sym (append_assoc name (f.fields ++ f.content) rest);
       same = f.same;
     }

@@ -22,11 +22,11 @@ pub(crate) fn answer_of_records(count: u16, bytes: &[u8]) -> Option<Answer>
 {
     let mut rest = bytes;
     for _number in 0..count {
-        let (found, behind) = first_record(rest)?;
+        let (found, trailing) = first_record(rest)?;
         if let Some(address) = address_in(found) {
             return Some(Answer::Address(address));
         }
-        rest = behind;
+        rest = trailing;
     }
     Some(Answer::NoAddress)
 }
@@ -73,27 +73,27 @@ fn after_the_name(bytes: &[u8]) -> Option<&[u8]>
     ensures { option_map (λ rest. rest.now) result ≡ after_the_name 0 bytes.now }
 {
     let mut rest = bytes;
-    while let [first, behind @ ..] = rest {
+    while let [first, trailing @ ..] = rest {
         let count = usize::from(*first);
         if count == 0 {
-            return Some(behind);
+            return Some(trailing);
         }
         if count >= 64 {
-            return after_pointer(*first, behind);
+            return after_pointer(*first, trailing);
         }
-        if behind.len() < count {
+        if trailing.len() < count {
             return None;
         }
-        rest = &behind[count..];
+        rest = &trailing[count..];
     }
     None
 }
 
 /// Returns the bytes after a pointer, if this was the first byte of one.
-fn after_pointer(first: u8, behind: &[u8]) -> Option<&[u8]>
-    ensures { option_map (λ rest. rest.now) result ≡ if nat_lt first 192 then None else after_pointer behind.now }
+fn after_pointer(first: u8, trailing: &[u8]) -> Option<&[u8]>
+    ensures { option_map (λ rest. rest.now) result ≡ if nat_lt first 192 then None else after_pointer trailing.now }
 {
-    match behind {
+    match trailing {
         [_, rest @ ..] if first >= 192 => Some(rest),
         _ => None,
     }

@@ -1,5 +1,5 @@
 -- The names that the proofs of this crate cite: of std, of the crates below, and of its own definitions. Declares nothing.
-pub use Rattle.link_client.specs.Prelude.{AbstractClient, Client, ClientStep, Did, client_datagram, client_receives, has_more_to_send, idle, is_opened, is_receiving, received_with, standing, syn_of, takes_text}
+pub use Rattle.link_client.specs.Prelude.{AbstractClient, Client, ClientStep, Did, client_datagram, client_receives, has_more_to_send, idle, is_opened, is_receiving, received_with, abstract_client, syn_of, takes_text}
 unfoldable pub use Rattle.link_client.specs.Prelude.{sends_next, takes_in_order}
 pub use Rattle.link_client.specs.declared.client_state.ClientState.{ClientState}
 pub use Rattle.link_client.specs.declared.client_state.ClientState.TheVariants.{Closing, Reset}

@@ -17,8 +17,8 @@ use Rattle.link_client.specs.declared.client_state.ClientState.TheVariants.{Idle
 use Rattle.link_client.specs.declared.setup.Setup.{Setup}
 
 -- a client of the code with its request and the bytes that it accepted, as an abstract client
-abbrev pub standing : Client → List ℕ → List ℕ → AbstractClient
-standing c request received = record {
+abbrev pub abstract_client : Client → List ℕ → List ℕ → AbstractClient
+abstract_client c request received = record {
   setup = c.setup;
   request = request;
   state = c.state;
@@ -97,7 +97,8 @@ received_with false received text = received
 -- a call did this step at a segment of this text; a client with this request accepted the text or not
 abbrev pub DidAtText : (AbstractClient → ClientStep) → List ℕ → List ℕ → Bool → Client → Client → Option ℕ → List ℕ → Type 0
 DidAtText f request text took old new answer area =
-    (received : List ℕ) → Did (f (standing old request received)) (standing new request (received_with took received text)) answer area
+    (received : List ℕ) → Did (f (abstract_client old request received))
+    (abstract_client new request (received_with took received text)) answer area
 
 -- it has sent a segment, and was not reset
 abbrev pub has_spoken : ClientState → Bool

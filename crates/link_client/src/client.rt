@@ -2,7 +2,7 @@
 
 ghost use Rattle.std.specs.Prelude.{◌≡◌, ◌+◌, ◌≤◌, ◌++◌, ◌&&◌, ℕ, [], List, Some, is_some, length, slice_range};
 ghost use Rattle.link_client.specs.Calls.{Did, FitsRequest, KeepsAfter, can_abort, has_more_to_send};
-ghost use Rattle.link_client.specs.Calls.{has_spoken, client_receives, is_opened, standing, client_hands};
+ghost use Rattle.link_client.specs.Calls.{has_spoken, client_receives, is_opened, abstract_client, client_hands};
 ghost use Rattle.link_client.specs.Client.{client_aborts, client_again, client_closes, client_opens, idle, advertises_window};
 
 use crate::client_state::ClientState;
@@ -62,7 +62,7 @@ impl Client {
     pub fn new(setup: Setup) -> Client
         requires least { 1 ≤ setup.seg }
         requires most { setup.seg ≤ 1460 }
-        ensures idle { (request : List ℕ) → standing result request [] ≡ idle setup request }
+        ensures idle { (request : List ℕ) → abstract_client result request [] ≡ idle setup request }
         ensures fits { (request : List ℕ) → length request ≤ 4096 → FitsRequest result request }
     {
         Client {
@@ -84,9 +84,9 @@ impl Client {
         ensures fits { (request : List ℕ) → FitsRequest self.old request → FitsRequest self.new request }
         ensures setup { self.new.setup ≡ self.old.setup }
         ensures room { length area.new ≡ length area.old }
-        ensures behind { KeepsAfter (Some result) area.old area.new }
-        ensures step { (request received : List ℕ) → Did (client_opens (standing self.old request received))
-            (standing self.new request received) (Some result) area.new }
+        ensures trailing { KeepsAfter (Some result) area.old area.new }
+        ensures step { (request received : List ℕ) → Did (client_opens (abstract_client self.old request received))
+            (abstract_client self.new request received) (Some result) area.new }
     {
         self.state = ClientState::Opening;
         self.send_syn(area)
@@ -100,11 +100,11 @@ impl Client {
         ensures fits { FitsRequest self.new request.now }
         ensures setup { self.new.setup ≡ self.old.setup }
         ensures room { length area.new ≡ length area.old }
-        ensures behind { KeepsAfter result.sent area.old area.new }
+        ensures trailing { KeepsAfter result.sent area.old area.new }
         ensures inside { result.fresh_at + result.fresh_len ≤ length datagram.now }
         ensures none { result.fresh_len ≡ 0 → result.fresh_at ≡ 0 }
-        ensures step { (received : List ℕ) → Did (client_hands (standing self.old request.now received)
-            (client_receives self.old.setup datagram.now)) (standing self.new request.now
+        ensures step { (received : List ℕ) → Did (client_hands (abstract_client self.old request.now received)
+            (client_receives self.old.setup datagram.now)) (abstract_client self.new request.now
             (received ++ slice_range datagram.now result.fresh_at (result.fresh_at + result.fresh_len))) result.sent area.new }
     {
         let Some(segment) = receive(&self.setup, datagram) else {
@@ -126,10 +126,10 @@ impl Client {
         ensures fits { FitsRequest self.new request.now }
         ensures setup { self.new.setup ≡ self.old.setup }
         ensures room { length area.new ≡ length area.old }
-        ensures behind { KeepsAfter result area.old area.new }
+        ensures trailing { KeepsAfter result area.old area.new }
         ensures answers { is_some result ≡ has_spoken self.old.state }
-        ensures step { (received : List ℕ) → Did (client_again (standing self.old request.now received))
-            (standing self.new request.now received) result area.new }
+        ensures step { (received : List ℕ) → Did (client_again (abstract_client self.old request.now received))
+            (abstract_client self.new request.now received) result area.new }
     {
         match self.state {
             ClientState::Idle | ClientState::Reset => None,
@@ -147,11 +147,11 @@ impl Client {
         ensures fits { FitsRequest self.new request.now }
         ensures setup { self.new.setup ≡ self.old.setup }
         ensures room { length area.new ≡ length area.old }
-        ensures behind { KeepsAfter result area.old area.new }
+        ensures trailing { KeepsAfter result area.old area.new }
         ensures answers { is_some result ≡ (is_opened self.old.state
-            && has_more_to_send (standing (record self.old { state = ClientState.Closing }) request.now [])) }
-        ensures step { (received : List ℕ) → Did (client_closes (standing self.old request.now received))
-            (standing self.new request.now received) result area.new }
+            && has_more_to_send (abstract_client (record self.old { state = ClientState.Closing }) request.now [])) }
+        ensures step { (received : List ℕ) → Did (client_closes (abstract_client self.old request.now received))
+            (abstract_client self.new request.now received) result area.new }
     {
         match self.state {
             ClientState::Opened => {
@@ -174,10 +174,10 @@ impl Client {
         ensures fits { (request : List ℕ) → FitsRequest self.old request → FitsRequest self.new request }
         ensures setup { self.new.setup ≡ self.old.setup }
         ensures room { length area.new ≡ length area.old }
-        ensures behind { KeepsAfter result area.old area.new }
+        ensures trailing { KeepsAfter result area.old area.new }
         ensures answers { is_some result ≡ can_abort self.old.state }
-        ensures step { (request received : List ℕ) → Did (client_aborts (standing self.old request received))
-            (standing self.new request received) result area.new }
+        ensures step { (request received : List ℕ) → Did (client_aborts (abstract_client self.old request received))
+            (abstract_client self.new request received) result area.new }
     {
         match self.state {
             ClientState::Opening | ClientState::Opened | ClientState::Closing => {
@@ -193,8 +193,8 @@ impl Client {
     pub fn set_window(&mut self, window: u16)
         ensures fits { (request : List ℕ) → FitsRequest self.old request → FitsRequest self.new request }
         ensures setup { self.new.setup ≡ self.old.setup }
-        ensures step { (request received : List ℕ) → (advertises_window window (standing self.old request received)).client
-            ≡ standing self.new request received }
+        ensures step { (request received : List ℕ) → (advertises_window window (abstract_client self.old request received)).client
+            ≡ abstract_client self.new request received }
     {
         self.window = window;
     }

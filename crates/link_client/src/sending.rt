@@ -2,7 +2,7 @@
 
 ghost use Rattle.std.specs.Prelude.{◌≡◌, ◌+◌, ◌≤◌, [], IsSome, Some, drop, length, slice_range};
 ghost use Rattle.uip_wire.specs.Prelude.{wrap};
-ghost use Rattle.link_client.specs.Calls.{FitsRequest, KeepsAfter, Sends, standing};
+ghost use Rattle.link_client.specs.Calls.{FitsRequest, KeepsAfter, Sends, abstract_client};
 ghost use Rattle.link_client.specs.Client.{ack_of, again_by, own_fin, next_own, offered, own_request, own_reset, syn_of};
 
 use crate::client::Client;
@@ -24,7 +24,7 @@ struct Heading {
 fn put_text(area: &mut [u8], text: &[u8])
     requires { 40 + length text.now ≤ length area.old }
     ensures text { slice_range area.new 40 (40 + length text.now) ≡ text.now }
-    ensures behind { drop (40 + length text.now) area.new ≡ drop (40 + length text.now) area.old }
+    ensures trailing { drop (40 + length text.now) area.new ≡ drop (40 + length text.now) area.old }
 {
     area[40..40 + text.len()].copy_from_slice(text);
 }
@@ -51,7 +51,7 @@ impl Client {
               mss = heading.mss;
               text = text.now;
             })) (Some result) area.new }
-        ensures behind { KeepsAfter (Some result) area.old area.new }
+        ensures trailing { KeepsAfter (Some result) area.old area.new }
     {
         put_text(area, text);
         let out = Out {
@@ -76,7 +76,7 @@ impl Client {
         ensures sent { Sends self.now.setup
             (Some (record { seq = seq.0; ack = self.now.rcv.0; flags = flags; window = self.now.window; mss = None; text = [] }))
             (Some result) area.new }
-        ensures behind { KeepsAfter (Some result) area.old area.new }
+        ensures trailing { KeepsAfter (Some result) area.old area.new }
     {
         let heading = Heading {
             seq,
@@ -103,7 +103,7 @@ impl Client {
 
     /// Returns the number after all that it sent.
     pub(crate) fn next_own(&self) -> Seq
-        ensures { result.0 ≡ next_own (standing self.now [] []) }
+        ensures { result.0 ≡ next_own (abstract_client self.now [] []) }
     {
         match self.fin {
             FinAt::NotSent => self.after_text(),
@@ -114,8 +114,8 @@ impl Client {
     /// Sends its SYN.
     pub(crate) fn send_syn(&self, area: &mut [u8]) -> usize
         requires room { LARGEST_DATAGRAM ≤ length area.old }
-        ensures sent { Sends self.now.setup (Some (syn_of (standing self.now [] []))) (Some result) area.new }
-        ensures behind { KeepsAfter (Some result) area.old area.new }
+        ensures sent { Sends self.now.setup (Some (syn_of (abstract_client self.now [] []))) (Some result) area.new }
+        ensures trailing { KeepsAfter (Some result) area.old area.new }
     {
         let heading = Heading {
             seq: self.setup.iss,
@@ -129,8 +129,8 @@ impl Client {
     /// Sends an acknowledgement without text.
     pub(crate) fn send_ack(&self, area: &mut [u8]) -> usize
         requires room { LARGEST_DATAGRAM ≤ length area.old }
-        ensures sent { Sends self.now.setup (Some (ack_of (standing self.now [] []))) (Some result) area.new }
-        ensures behind { KeepsAfter (Some result) area.old area.new }
+        ensures sent { Sends self.now.setup (Some (ack_of (abstract_client self.now [] []))) (Some result) area.new }
+        ensures trailing { KeepsAfter (Some result) area.old area.new }
     {
         self.send_bare(self.next_own(), ACK, area)
     }
@@ -139,8 +139,8 @@ impl Client {
     pub(crate) fn send_request(&self, request: &[u8], area: &mut [u8]) -> usize
         requires fits { FitsRequest self.now request.now }
         requires room { LARGEST_DATAGRAM ≤ length area.old }
-        ensures sent { Sends self.now.setup (Some (own_request (standing self.now request.now []))) (Some result) area.new }
-        ensures behind { KeepsAfter (Some result) area.old area.new }
+        ensures sent { Sends self.now.setup (Some (own_request (abstract_client self.now request.now []))) (Some result) area.new }
+        ensures trailing { KeepsAfter (Some result) area.old area.new }
     {
         let heading = Heading {
             seq: self.first_unacked(),
@@ -161,8 +161,9 @@ impl Client {
     pub(crate) fn send_again(&self, request: &[u8], area: &mut [u8]) -> usize
         requires fits { FitsRequest self.now request.now }
         requires room { LARGEST_DATAGRAM ≤ length area.old }
-        ensures sent { Sends self.now.setup (again_by ClientState.Opened (standing self.now request.now [])).sent (Some result) area.new }
-        ensures behind { KeepsAfter (Some result) area.old area.new }
+        ensures sent { Sends self.now.setup (again_by ClientState.Opened (abstract_client self.now request.now [])).sent
+            (Some result) area.new }
+        ensures trailing { KeepsAfter (Some result) area.old area.new }
     {
         if self.out > 0 {
             return self.send_request(request, area);
@@ -176,8 +177,8 @@ impl Client {
     /// Sends its FIN.
     pub(crate) fn send_fin(&self, area: &mut [u8]) -> usize
         requires room { LARGEST_DATAGRAM ≤ length area.old }
-        ensures sent { Sends self.now.setup (Some (own_fin (standing self.now [] []))) (Some result) area.new }
-        ensures behind { KeepsAfter (Some result) area.old area.new }
+        ensures sent { Sends self.now.setup (Some (own_fin (abstract_client self.now [] []))) (Some result) area.new }
+        ensures trailing { KeepsAfter (Some result) area.old area.new }
     {
         self.send_bare(self.after_text(), FIN + ACK, area)
     }
@@ -185,8 +186,8 @@ impl Client {
     /// Sends the RST that aborts its connection.
     pub(crate) fn send_reset(&self, area: &mut [u8]) -> usize
         requires room { LARGEST_DATAGRAM ≤ length area.old }
-        ensures sent { Sends self.now.setup (Some (own_reset (standing self.now [] []))) (Some result) area.new }
-        ensures behind { KeepsAfter (Some result) area.old area.new }
+        ensures sent { Sends self.now.setup (Some (own_reset (abstract_client self.now [] []))) (Some result) area.new }
+        ensures trailing { KeepsAfter (Some result) area.old area.new }
     {
         self.send_bare(self.next_own(), RST + ACK, area)
     }

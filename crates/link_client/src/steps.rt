@@ -4,7 +4,7 @@ ghost use Rattle.std.specs.Prelude.{◌≡◌, ◌+◌, ◌≤◌, ◌==◌, ◌
 ghost use Rattle.std.specs.Prelude.{nat_lt, ℕ, [], List, true, if◌then◌else◌, slice_range, length};
 ghost use Rattle.tcp_segment.specs.Prelude.{plain_of};
 ghost use Rattle.tcp_machine.specs.Prelude.{occupies_sequence_space, plain};
-ghost use Rattle.link_client.specs.Calls.{Did, DidAtText, FitsRequest, KeepsAfter, has_more_to_send, received_with, standing};
+ghost use Rattle.link_client.specs.Calls.{Did, DidAtText, FitsRequest, KeepsAfter, has_more_to_send, received_with, abstract_client};
 ghost use Rattle.link_client.specs.Client.{after_fin, client_takes, fin_out, fin_sent, receives_ack, is_receiving, is_reset_by};
 ghost use Rattle.link_client.specs.Client.{may_finish, sends_next, takes_by, takes_in_order, takes_text, has_outstanding};
 
@@ -96,7 +96,7 @@ fn occupies_sequence_space(segment: &Segment, piece: &[u8]) -> bool
 impl Client {
     /// Returns whether something of its own is outstanding.
     fn waits_for_ack(&self) -> bool
-        ensures { result ≡ has_outstanding (standing self.now [] []) }
+        ensures { result ≡ has_outstanding (abstract_client self.now [] []) }
     {
         self.out > 0 || self.fin == FinAt::Out
     }
@@ -110,7 +110,8 @@ impl Client {
 
     /// Returns whether bytes of its request may be sent.
     fn has_text_to_send(&self, len: usize) -> bool
-        ensures { result ≡ (not (has_outstanding (standing self.now [] [])) && (is_receiving self.now.state && nat_lt self.now.acked len)) }
+        ensures { result ≡ (not (has_outstanding (abstract_client self.now [] [])) &&
+            (is_receiving self.now.state && nat_lt self.now.acked len)) }
     {
         !self.waits_for_ack() && self.is_receiving() && (self.acked as usize) < len
     }
@@ -127,7 +128,8 @@ impl Client {
 
     /// Returns whether its FIN may be sent.
     fn has_fin_to_send(&self) -> bool
-        ensures { result ≡ (not (has_outstanding (standing self.now [] [])) && (may_finish self.now.state && not (fin_sent self.now.fin))) }
+        ensures { result ≡ (not (has_outstanding (abstract_client self.now [] [])) &&
+            (may_finish self.now.state && not (fin_sent self.now.fin))) }
     {
         !self.waits_for_ack() && self.may_finish() && self.fin == FinAt::NotSent
     }
@@ -139,10 +141,10 @@ impl Client {
         requires room { LARGEST_DATAGRAM ≤ length area.old }
         ensures fits { FitsRequest self.new request.now }
         ensures setup { self.new.setup ≡ self.old.setup }
-        ensures behind { KeepsAfter result area.old area.new }
-        ensures answers { is_some result ≡ (has_more_to_send (standing self.old request.now []) || owed) }
-        ensures step { (received : List ℕ) → Did (sends_next owed (standing self.old request.now received))
-            (standing self.new request.now received) result area.new }
+        ensures trailing { KeepsAfter result area.old area.new }
+        ensures answers { is_some result ≡ (has_more_to_send (abstract_client self.old request.now []) || owed) }
+        ensures step { (received : List ℕ) → Did (sends_next owed (abstract_client self.old request.now received))
+            (abstract_client self.new request.now received) result area.new }
     {
         if self.has_text_to_send(request.len()) {
             let left = request.len() - self.acked as usize;
@@ -166,7 +168,8 @@ impl Client {
         ensures state { self.new.state ≡ self.old.state }
         ensures fits { (request : List ℕ) → FitsRequest self.old request → FitsRequest self.new request }
         ensures delivered { (request received text : List ℕ)
-            → receives_ack (standing self.old request received) (plain segment.now text) ≡ standing self.new request received }
+            → receives_ack (abstract_client self.old request received) (plain segment.now text)
+            ≡ abstract_client self.new request received }
     {
         if segment.has_ack() && self.waits_for_ack() && segment.ack.0 == self.next_own().0 {
             self.acked += u32::from(self.out);
@@ -180,8 +183,8 @@ impl Client {
         requires short { length piece.now ≤ LARGEST_DATAGRAM }
         ensures setup { self.new.setup ≡ self.old.setup }
         ensures fits { (request : List ℕ) → FitsRequest self.old request → FitsRequest self.new request }
-        ensures taken { (request received : List ℕ) → takes_text (standing self.old request received) (plain segment.now piece.now)
-            ≡ standing self.new request (received_with true received piece.now) }
+        ensures taken { (request received : List ℕ) → takes_text (abstract_client self.old request received) (plain segment.now piece.now)
+            ≡ abstract_client self.new request (received_with true received piece.now) }
     {
         let count = piece.len() as u32;
         if segment.has_fin() {
@@ -205,8 +208,9 @@ impl Client {
         requires short { length piece.now ≤ LARGEST_DATAGRAM }
         ensures setup { self.new.setup ≡ self.old.setup }
         ensures fits { (request : List ℕ) → FitsRequest self.old request → FitsRequest self.new request }
-        ensures step { (request received : List ℕ) → takes_in_order (standing self.old request received) (plain segment.now piece.now)
-            ≡ sends_next result.owed (standing self.new request (received_with result.took_text received piece.now)) }
+        ensures step { (request received : List ℕ) → takes_in_order (abstract_client self.old request received)
+            (plain segment.now piece.now)
+            ≡ sends_next result.owed (abstract_client self.new request (received_with result.took_text received piece.now)) }
     {
         let mut accepted = Accepted {
             owed: true,
@@ -233,9 +237,9 @@ impl Client {
         requires room { LARGEST_DATAGRAM ≤ length area.old }
         ensures fits { FitsRequest self.new request.now }
         ensures setup { self.new.setup ≡ self.old.setup }
-        ensures behind { KeepsAfter result area.old area.new }
-        ensures step { (received text : List ℕ) → Did (takes_by ClientState.Opening (standing self.old request.now received)
-            (plain segment.now text)) (standing self.new request.now received) result area.new }
+        ensures trailing { KeepsAfter result area.old area.new }
+        ensures step { (received text : List ℕ) → Did (takes_by ClientState.Opening (abstract_client self.old request.now received)
+            (plain segment.now text)) (abstract_client self.new request.now received) result area.new }
     {
         if segment.has_syn() && segment.has_ack() && segment.ack.0 == self.setup.iss.add(1).0 {
             self.state = ClientState::Opened;
@@ -247,7 +251,7 @@ impl Client {
 
     /// Returns whether a RST is valid: as the answer to the SYN, and later at RCV.NXT.
     fn is_reset_by(&self, segment: &Segment) -> bool
-        ensures { (request received text : List ℕ) → is_reset_by self.now.state (standing self.now request received)
+        ensures { (request received text : List ℕ) → is_reset_by self.now.state (abstract_client self.now request received)
             (plain segment.now text) ≡ result }
     {
         match self.state {
@@ -263,9 +267,9 @@ impl Client {
     fn take_reset(&mut self, segment: &Segment)
         ensures setup { self.new.setup ≡ self.old.setup }
         ensures fits { (request : List ℕ) → FitsRequest self.old request → FitsRequest self.new request }
-        ensures reset { (request received text : List ℕ) → (if is_reset_by self.old.state (standing self.old request received)
-            (plain segment.now text) then record (standing self.old request received) { state = ClientState.Reset }
-            else standing self.old request received) ≡ standing self.new request received }
+        ensures reset { (request received text : List ℕ) → (if is_reset_by self.old.state (abstract_client self.old request received)
+            (plain segment.now text) then record (abstract_client self.old request received) { state = ClientState.Reset }
+            else abstract_client self.old request received) ≡ abstract_client self.new request received }
     {
         if self.is_reset_by(segment) {
             self.state = ClientState::Reset;
@@ -286,7 +290,7 @@ impl Client {
         requires room { LARGEST_DATAGRAM ≤ length area.old }
         ensures fits { FitsRequest self.new request.now }
         ensures setup { self.new.setup ≡ self.old.setup }
-        ensures behind { KeepsAfter result.sent area.old area.new }
+        ensures trailing { KeepsAfter result.sent area.old area.new }
         ensures step { DidAtText (λ c. client_takes c (plain segment.now piece.now)) request.now piece.now result.took_text
             self.old self.new result.sent area.new }
     {

@@ -1,5 +1,5 @@
 -- The initial world: each client represents the one that is planned, and the plan is one.
-use Rattle.link_replay.proofs.Prelude.{All, list_all, list_any, ◌≡◌, ℕ, zero, suc, ◌+◌, ◌<◌, ◌≤◌, Bool, true, false, not, ◌&&◌, List, [], ◌∷◌, ◌++◌, length, map, refl, sym, ap, ◌∙◌, subst, arith, Some, None, slice_get, eqb, leb, lit<, length-map, and_parts, and_from, leb-true, or_parts, bytes_eq, slice_get_within, Addr, Port, IsAddr, IsByte, slice_get-element, FitsRequest, standing, idle, Client, Setup, Plan, are_apart, client_in_range, is_between, meets, Sockets, World, Planned, IsPlan, IsPlanned, fresh_side, sockets_in, get_push, older, newest, all_nil, all_cons, get_map, Matched, AreFresh, IsFresh, plan_from, planned, server, IsLink, SentRepresents, SideRepresents, CodeSent, Link, CodeSide}
+use Rattle.link_replay.proofs.Prelude.{All, list_all, list_any, ◌≡◌, ℕ, zero, suc, ◌+◌, ◌<◌, ◌≤◌, Bool, true, false, not, ◌&&◌, List, [], ◌∷◌, ◌++◌, length, map, refl, sym, ap, ◌∙◌, subst, arith, Some, None, slice_get, eqb, leb, lit<, length-map, and_parts, and_from, leb-true, or_parts, bytes_eq, slice_get_within, Addr, Port, IsAddr, IsByte, slice_get-element, FitsRequest, abstract_client, idle, Client, Setup, Plan, are_apart, client_in_range, is_between, meets, Sockets, World, Planned, IsPlan, IsPlanned, fresh_side, sockets_in, get_push, older, newest, all_nil, all_cons, get_map, Matched, AreFresh, IsFresh, plan_from, planned, server, IsLink, SentRepresents, SideRepresents, CodeSent, Link, CodeSide}
 use Rattle.std.proofs.lemmas.Bool.{eq-eqb, not-true}
 
 pub server_is_addr : IsAddr server
@@ -11,7 +11,7 @@ server_is_addr = record {
 -- one client
 pub fresh : (number : ℕ) (plan : Plan) (setup : Setup) (client : Client) (request received : List ℕ) → number ≤ 64 → client_in_range plan ≡ true
     → setup ≡ (planned number plan).setup → IsAddr plan.addr → plan.port.0 < 65536 → plan.mss < 65536 → All IsByte plan.request
-    → request ≡ plan.request → received ≡ [] → ((r : List ℕ) → standing client r [] ≡ idle setup r) → ((r : List ℕ) → length r ≤ 4096 → FitsRequest client r)
+    → request ≡ plan.request → received ≡ [] → ((r : List ℕ) → abstract_client client r [] ≡ idle setup r) → ((r : List ℕ) → length r ≤ 4096 → FitsRequest client r)
     → IsFresh number plan (record { client = client; request = request; received = received; epoch = 0; first_stale = None })
 fresh number plan setup client request received few range e addr port mss bytes asked none is_idle fits =
     let parts = and_parts (is_between 1 65535 plan.port.0 && is_between 1 1460 plan.seg) (is_between 1 4096 (length plan.request)) range in
@@ -20,7 +20,7 @@ fresh number plan setup client request received few range e addr port mss bytes 
     let short : length plan.request ≤ 4096 = leb-true (length plan.request) 4096 sizes.1 in
     record {
       represented = record {
-        client = ap (λ (r : List ℕ). standing client r received) asked ∙ ap (λ (r : List ℕ). standing client plan.request r) none
+        client = ap (λ (r : List ℕ). abstract_client client r received) asked ∙ ap (λ (r : List ℕ). abstract_client client plan.request r) none
             ∙ is_idle plan.request ∙ ap (λ (s : Setup). idle s plan.request) e;
         epoch = refl;
         first_stale = refl;

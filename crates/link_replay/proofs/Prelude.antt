@@ -8,7 +8,7 @@ pub use Rattle.hex.specs.Hex.{decode_of, digit_or_error, encode_lower, hex_digit
 unfoldable pub use Rattle.hex.specs.Hex.{decode_pairs, encode_with}
 pub use Rattle.hex.specs.declared.error.FromHexError.{FromHexError}
 pub use Rattle.hex.specs.declared.error.FromHexError.TheVariants.{OddLength}
-pub use Rattle.link_client.specs.Prelude.{AbstractClient, Client, ClientStep, FitsRequest, Sends, advertises_window, client_datagram, client_hands, client_receives, client_opens, idle, keeps, offered, standing}
+pub use Rattle.link_client.specs.Prelude.{AbstractClient, Client, ClientStep, FitsRequest, Sends, advertises_window, client_datagram, client_hands, client_receives, client_opens, idle, keeps, offered, abstract_client}
 unfoldable pub use Rattle.link_client.specs.Prelude.{aborts_by, again_by, client_takes, closes_by, opens_by, sends_next, takes_by, takes_in_order}
 pub use Rattle.link_client.specs.declared.client_state.ClientState.{ClientState}
 pub use Rattle.link_client.specs.declared.client_state.ClientState.TheVariants.{Idle}

@@ -1,5 +1,5 @@
 -- A client's step in the world.
-use Rattle.link_replay.proofs.Prelude.{◌≡◌, ℕ, zero, suc, ◌<◌, ◌≤◌, ◌⊎◌, inl, inr, ◌++◌, replicate, drop, false, List, [], ◌∷◌, length, take, set, refl, sym, ap, ◌∙◌, subst, arith, Option, Some, None, slice_get, length-take, if◌then◌else◌, PlainSegment, datagram_bytes, option_map_or, closed, drop_all, take_all, append_nothing, standing, Sends, client_datagram, client_hands, client_receives, FitsRequest, AbstractClient, ClientStep, client_takes, ClientState, Idle, Setup, same_hearing, ticks_of, handed, bytes_by, client_bytes, World, Side, at_side, numbered, epoch, past_connection_of, becomes_opened, client_stepped, with_client, with_side, OfSegment, FromClient, get_set_same, set_same, Stepped, Addr, CodeSent, LinkRepresents, SideRepresents, IsLink, Link, link_of, PostsOfClient, CodeSide}
+use Rattle.link_replay.proofs.Prelude.{◌≡◌, ℕ, zero, suc, ◌<◌, ◌≤◌, ◌⊎◌, inl, inr, ◌++◌, replicate, drop, false, List, [], ◌∷◌, length, take, set, refl, sym, ap, ◌∙◌, subst, arith, Option, Some, None, slice_get, length-take, if◌then◌else◌, PlainSegment, datagram_bytes, option_map_or, closed, drop_all, take_all, append_nothing, abstract_client, Sends, client_datagram, client_hands, client_receives, FitsRequest, AbstractClient, ClientStep, client_takes, ClientState, Idle, Setup, same_hearing, ticks_of, handed, bytes_by, client_bytes, World, Side, at_side, numbered, epoch, past_connection_of, becomes_opened, client_stepped, with_client, with_side, OfSegment, FromClient, get_set_same, set_same, Stepped, Addr, CodeSent, LinkRepresents, SideRepresents, IsLink, Link, link_of, PostsOfClient, CodeSide}
 use Rattle.link_replay.proofs.Pairs.{partner}
 use Rattle.link_replay.proofs.Places.{link_put, side_put}
 
@@ -58,7 +58,7 @@ pub record SomeSide (side : CodeSide) : Type 0 where
 
 pub some_side : (side : CodeSide) → SomeSide side
 some_side side = record {
-  plain = record { client = standing side.client side.request side.received; history = replicate side.epoch (past_connection_of closed); opened = None; first_stale = side.first_stale };
+  plain = record { client = abstract_client side.client side.request side.received; history = replicate side.epoch (past_connection_of closed); opened = None; first_stale = side.first_stale };
   represented = record { client = refl; epoch = sym (length_same side.epoch (past_connection_of closed)); first_stale = refl };
 }
   where

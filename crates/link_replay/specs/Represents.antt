@@ -4,7 +4,7 @@ use Rattle.uip_wire.specs.declared.addr.Addr.{Addr}
 use Rattle.uip_wire.specs.declared.sizes.TheConstants.{LARGEST_DATAGRAM}
 use Rattle.app_events.specs.declared.app.App.{Ghosts}
 use Rattle.uip_node.specs.Prelude.{Represents}
-use Rattle.link_client.specs.Prelude.{standing, FitsRequest}
+use Rattle.link_client.specs.Prelude.{abstract_client, FitsRequest}
 use Rattle.link_world.specs.Prelude.{World, Side, Sent, epoch, sent_bytes}
 use Rattle.link_replay.specs.Matched.{Matched}
 use Rattle.link_replay.specs.Plain.{CodeSent, CodeSide}
@@ -12,7 +12,7 @@ use Rattle.link_replay.specs.State.{CodeWorld, Link}
 
 -- a client of the code and one over plain data
 pub record SideRepresents (side : CodeSide) (s : Side) : Type 0 where
-  pub client : standing side.client side.request side.received ≡ s.client
+  pub client : abstract_client side.client side.request side.received ≡ s.client
   pub epoch : side.epoch ≡ epoch s
   pub first_stale : side.first_stale ≡ s.first_stale
 

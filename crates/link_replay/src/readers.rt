@@ -1,7 +1,7 @@
 //! Reads the clients and datagrams of a world.
 
 ghost use Rattle.std.specs.Prelude.{◌≡◌, ◌≤◌, Some, is_none, length, option_map};
-ghost use Rattle.link_client.specs.Prelude.{standing};
+ghost use Rattle.link_client.specs.Prelude.{abstract_client};
 ghost use Rattle.link_world.specs.World.{Side as PlainSide, World as PlainWorld, is_clean, numbered};
 ghost use Rattle.uip_node.specs.Prelude.{ticks_of};
 ghost use Rattle.link_replay.specs.Prelude.{SideRepresents, WorldRepresents};
@@ -30,7 +30,7 @@ impl<A: App> WorldOf<A> {
         requires most { number ≤ length self.now.link.sides }
         ensures shows { option_map (λ side. side.client) (numbered self.now.link.sides number) ≡ Some result.now }
         ensures represented { (w : PlainWorld) (s : PlainSide) → WorldRepresents A.App self.now w → numbered w.sides number ≡ Some s
-            → standing result.now s.client.request s.client.received ≡ s.client }
+            → abstract_client result.now s.client.request s.client.received ≡ s.client }
     {
         let found = self.side(number);
         &found.client

@@ -59,7 +59,7 @@ shows_none c cs capture (k ∷ ks) s stops = elim (true≢false (sym stops ∙ h
 
 pub record IsPrepared (q : List Command) (capture : Capture) (at : ℕ) (before after : AppState) : Type 0 where
   pub stopped : is_stopped before ≡ true
-  pub behind : IsTrailing q capture at after
+  pub trailing : IsTrailing q capture at after
   pub place : IsLeading q capture at
 
 pub taken : (q : List Command) (capture held : Capture) (at : ℕ) (p : AppState) (numbers : List ℕ) (function : Function) (now : Now) → due q capture ≡ Some function → held ≡ capture_of function 0 now
@@ -71,7 +71,7 @@ taken (c ∷ cs) capture held at p numbers function now d e b i =
     let start : at ≡ 0 = i.0 both.0 in
     record {
       stopped = stopped_yes c cs capture at p b i both.0;
-      behind = record {
+      trailing = record {
         before = b.before;
         spoken = b.spoken;
         prefix = record { numbers = numbers; now = now } ∷ [];
@@ -92,16 +92,16 @@ not_taken (c ∷ cs) capture at p d b i = goes_on_not c cs capture at p b i (due
 pub prepared : (a : Shell) (p : AppState) (held : Capture) (numbers : List ℕ) (function : Function) (now : Now) → due a.queue a.capture ≡ Some function → held ≡ capture_of function 0 now
     → ShellRepresents a p → ShellRepresents (record a { capture = held }) (if is_stopped p then take_capture numbers p now else p)
 prepared a p held numbers function now d e s =
-    let t : IsPrepared a.queue held a.at p (take_capture numbers p now) = taken a.queue a.capture held a.at p numbers function now d e s.behind s.place in
+    let t : IsPrepared a.queue held a.at p (take_capture numbers p now) = taken a.queue a.capture held a.at p numbers function now d e s.trailing s.place in
     subst (λ (q : AppState). ShellRepresents (record a { capture = held }) q) (sym (ap (λ (b : Bool). if b then take_capture numbers p now else p) t.stopped))
-    (record { polls = s.polls; lost = s.lost; done = s.done; delivers_text = s.delivers_text; behind = t.behind; place = t.place })
+    (record { polls = s.polls; lost = s.lost; done = s.done; delivers_text = s.delivers_text; trailing = t.trailing; place = t.place })
 
 pub none_of : {X : Type 0} (o : Option X) → is_some o ≡ false → o ≡ None
 none_of (Some x) e = absurd cc
 none_of None e = refl
 
 pub stays : (a : Shell) (p : AppState) (numbers : List ℕ) (now : Now) → due a.queue a.capture ≡ None → ShellRepresents a p → (if is_stopped p then take_capture numbers p now else p) ≡ p
-stays a p numbers now d s = ap (λ (b : Bool). if b then take_capture numbers p now else p) (not_taken a.queue a.capture a.at p d s.behind s.place)
+stays a p numbers now d s = ap (λ (b : Bool). if b then take_capture numbers p now else p) (not_taken a.queue a.capture a.at p d s.trailing s.place)
 
 pub unprepared : (a : Shell) (p : AppState) (numbers : List ℕ) (now : Now) → due a.queue a.capture ≡ None → ShellRepresents a p → ShellRepresents a (if is_stopped p then take_capture numbers p now else p)
 unprepared a p numbers now d s = subst (λ (q : AppState). ShellRepresents a q) (sym (stays a p numbers now d s)) s
@@ -117,9 +117,9 @@ wanted a p lost polls s =
     let stays : ((p.own == 1) || (p.polls == 1200)) ≡ false =
     ap (λ (b : Bool). b || (p.polls == 1200)) (own_is a p s ∙ lost) ∙ ap (λ (n : ℕ). n == 1200) (sym s.polls) ∙ eq_no a.polls 1200 polls in
     let ended : session_has_ended p ≡ (a.done && (length a.queue == 0)) =
-    ap (λ (b : Bool). b && is_settled p) (sym s.done) ∙ ap (λ (ds : List Command). a.done && (length ds == 0)) (waiting_is a.queue a.capture a.at p s.behind s.place) in
+    ap (λ (b : Bool). b && is_settled p) (sym s.done) ∙ ap (λ (ds : List Command). a.done && (length ds == 0)) (waiting_is a.queue a.capture a.at p s.trailing s.place) in
     let left : left_of_session p ≡ length (left_said a.queue a.capture) - a.at =
-    (let size = session_size a.queue a.capture a.at p s.behind in let at_is = s.behind.acked in omega (arith, size, at_is)) in
+    (let size = session_size a.queue a.capture a.at p s.trailing in let at_is = s.trailing.acked in omega (arith, size, at_is)) in
     sym (ap (λ (b : Bool). if b then Abort else want_from (session_has_ended p) (left_of_session p)) stays
     ∙ ap (λ (b : Bool). want_from b (left_of_session p)) ended
     ∙ ap (λ (n : ℕ). want_from (a.done && (length a.queue == 0)) n) left)

@@ -1,5 +1,5 @@
 -- What a shell requests, when it takes a capture and when it is given up, by its session alone.
-use Rattle.telnet_shell.proofs.Prelude.{◌≡◌, ℕ, ◌+◌, ◌-◌, ◌≤◌, ◌<◌, ◌==◌, min, Bool, true, false, ◌&&◌, not, nat_le, nat_lt, List, [], ◌∷◌, ◌++◌, codes, length, refl, sym, ap, ◌∙◌, arith, append-nil, length-append, if◌then◌else◌, bytes_eq, leb-true, le-leb, lt-leb, lt-ltb, ltb-true, eqb-true, eq-eqb, and_parts, and_from, false_from_ne_true, bytes_eq-Decides, AppState, Snapshot, Now, Nothing, Send, Close, Abort, Command, Help, Stats, Conns, Ticks, Quit, Blank, Other, Awaits, Token, tokens, tokens_at, awaits_after, commands, command_of, line_after, all_commands, commands_in, has_quit, is_quit, until_quit, Text, Second, Choice, Byte, Answer, behind, needs_capture, said_plainly, sent_at, transcript, unfinished, needed, commands_grow, further, past_said, said_some, shell_spec, session, waiting, with_byte, receive_byte, is_settled, is_stopped, session_has_ended, left_of_session, take_capture, sessions, IsExact, exact_want, all_acknowledged, is_given_up, capture_comes_next, completes}
+use Rattle.telnet_shell.proofs.Prelude.{◌≡◌, ℕ, ◌+◌, ◌-◌, ◌≤◌, ◌<◌, ◌==◌, min, Bool, true, false, ◌&&◌, not, nat_le, nat_lt, List, [], ◌∷◌, ◌++◌, codes, length, refl, sym, ap, ◌∙◌, arith, append-nil, length-append, if◌then◌else◌, bytes_eq, leb-true, le-leb, lt-leb, lt-ltb, ltb-true, eqb-true, eq-eqb, and_parts, and_from, false_from_ne_true, bytes_eq-Decides, AppState, Snapshot, Now, Nothing, Send, Close, Abort, Command, Help, Stats, Conns, Ticks, Quit, Blank, Other, Awaits, Token, tokens, tokens_at, awaits_after, commands, command_of, line_after, all_commands, commands_in, has_quit, is_quit, until_quit, Text, Second, Choice, Byte, Answer, past_text, needs_capture, said_plainly, sent_at, transcript, unfinished, needed, commands_grow, further, past_said, said_some, shell_spec, session, waiting, with_byte, receive_byte, is_settled, is_stopped, session_has_ended, left_of_session, take_capture, sessions, IsExact, exact_want, all_acknowledged, is_given_up, capture_comes_next, completes}
 use Rattle.telnet_shell.proofs.SessionLaws.{IsSaid, settled, none_waits}
 
 -- two tests with the same result
@@ -12,14 +12,14 @@ same_tests false false f g = refl
 
 plain_over : (b : Bool) (s x : List ℕ) (at n : ℕ) (go : ℕ → List Command) (held stay : List Command) → (if b then n + 1 else n) ≤ 0
     → (n ≤ 0 → go (length x + at) ≡ [])
-    → (if b then held else behind s (length (if b then [] else s ++ x) + at) go stay) ≡ []
+    → (if b then held else past_text s (length (if b then [] else s ++ x) + at) go stay) ≡ []
 plain_over true s x at n go held stay h f = absurd (omega (arith, h))
 plain_over false s x at n go held stay h f = past_said s x at go stay ∙ f h
 
 each_over : (b : Bool) (t x s z : List ℕ) (at l n : ℕ) (gone go : ℕ → List Command) (stay : List Command) → (if b then n + 1 else n) ≤ l + 1
     → (n ≤ l → gone (length x + at) ≡ []) → (n ≤ l + 1 → go (length z + at) ≡ [])
-    → (if b then behind t (length (if b then t ++ x else s ++ z) + at) gone stay
-    else behind s (length (if b then t ++ x else s ++ z) + at) go stay) ≡ []
+    → (if b then past_text t (length (if b then t ++ x else s ++ z) + at) gone stay
+    else past_text s (length (if b then t ++ x else s ++ z) + at) go stay) ≡ []
 each_over true t x s z at l n gone go stay h f g = past_said t x at gone stay ∙ f (omega (arith, h))
 each_over false t x s z at l n gone go stay h f g = past_said s z at go stay ∙ g h
 
@@ -112,7 +112,7 @@ prepares_exactly numbers p now = ap (λ (b : Bool). if b then take_capture numbe
 
 -- ---- commands that come wait
 
-none_past : (s : List ℕ) (go : ℕ → List Command) (stay : List Command) → 1 ≤ length s → behind s 0 go stay ≡ stay
+none_past : (s : List ℕ) (go : ℕ → List Command) (stay : List Command) → 1 ≤ length s → past_text s 0 go stay ≡ stay
 none_past s go stay h = ap (λ (b : Bool). if b then go (0 - length s) else stay) (lt-leb (length s) 0 (omega (arith, h)))
 
 either_waits : (b : Bool) (x y z : List Command) → x ≡ z → y ≡ z → (if b then x else y) ≡ z
@@ -122,17 +122,17 @@ either_waits false x y z e f = f
 all_wait : (ds : List Command) (ks : List Snapshot) → unfinished ds ks 0 ≡ ds
 all_wait [] ks = refl
 all_wait (d ∷ ds) [] =
-    either_waits (needs_capture d) (d ∷ ds) (behind (said_plainly d) 0 (λ n. unfinished ds [] n) (d ∷ ds)) (d ∷ ds) refl
+    either_waits (needs_capture d) (d ∷ ds) (past_text (said_plainly d) 0 (λ n. unfinished ds [] n) (d ∷ ds)) (d ∷ ds) refl
     (none_past (said_plainly d) (λ n. unfinished ds [] n) (d ∷ ds) (said_some d _))
 all_wait (d ∷ ds) (k ∷ ks) =
-    either_waits (needs_capture d) (behind (sent_at d k) 0 (λ n. unfinished ds ks n) (d ∷ ds))
-    (behind (said_plainly d) 0 (λ n. unfinished ds (k ∷ ks) n) (d ∷ ds)) (d ∷ ds)
+    either_waits (needs_capture d) (past_text (sent_at d k) 0 (λ n. unfinished ds ks n) (d ∷ ds))
+    (past_text (said_plainly d) 0 (λ n. unfinished ds (k ∷ ks) n) (d ∷ ds)) (d ∷ ds)
     (none_past (sent_at d k) (λ n. unfinished ds ks n) (d ∷ ds) (said_some d _))
     (none_past (said_plainly d) (λ n. unfinished ds (k ∷ ks) n) (d ∷ ds) (said_some d _))
 
 past_or_not : (s : List ℕ) (bytes : ℕ) (more less : ℕ → List Command) (c : Command) (cs ds : List Command)
     → (length s ≤ bytes → more (bytes - length s) ≡ less (bytes - length s) ++ ds)
-    → behind s bytes more (c ∷ (cs ++ ds)) ≡ behind s bytes less (c ∷ cs) ++ ds
+    → past_text s bytes more (c ∷ (cs ++ ds)) ≡ past_text s bytes less (c ∷ cs) ++ ds
 past_or_not s bytes more less c cs ds f =
     elim (nat_le (length s) bytes) as (λ b. nat_le (length s) bytes ≡ b
     → (if b then more (bytes - length s) else c ∷ (cs ++ ds)) ≡ (if b then less (bytes - length s) else c ∷ cs) ++ ds) [
@@ -143,7 +143,7 @@ past_or_not s bytes more less c cs ds f =
 plain_join : (b : Bool) (s x : List ℕ) (bytes : ℕ) (more less : ℕ → List Command) (c : Command) (cs ds : List Command)
     → bytes ≤ length (if b then [] else s ++ x)
     → (length s ≤ bytes → bytes - length s ≤ length x → more (bytes - length s) ≡ less (bytes - length s) ++ ds)
-    → (if b then c ∷ (cs ++ ds) else behind s bytes more (c ∷ (cs ++ ds))) ≡ (if b then c ∷ cs else behind s bytes less (c ∷ cs)) ++ ds
+    → (if b then c ∷ (cs ++ ds) else past_text s bytes more (c ∷ (cs ++ ds))) ≡ (if b then c ∷ cs else past_text s bytes less (c ∷ cs)) ++ ds
 plain_join true s x bytes more less c cs ds h f = refl
 plain_join false s x bytes more less c cs ds h f =
     let size = length-append s x in past_or_not s bytes more less c cs ds (λ g. f g (omega (arith, size, h, g)))
@@ -152,8 +152,8 @@ each_join : (b : Bool) (t w s x : List ℕ) (bytes : ℕ) (more less more' less'
     → bytes ≤ length (if b then t ++ w else s ++ x)
     → (length t ≤ bytes → bytes - length t ≤ length w → more (bytes - length t) ≡ less (bytes - length t) ++ ds)
     → (length s ≤ bytes → bytes - length s ≤ length x → more' (bytes - length s) ≡ less' (bytes - length s) ++ ds)
-    → (if b then behind t bytes more (c ∷ (cs ++ ds)) else behind s bytes more' (c ∷ (cs ++ ds)))
-    ≡ (if b then behind t bytes less (c ∷ cs) else behind s bytes less' (c ∷ cs)) ++ ds
+    → (if b then past_text t bytes more (c ∷ (cs ++ ds)) else past_text s bytes more' (c ∷ (cs ++ ds)))
+    ≡ (if b then past_text t bytes less (c ∷ cs) else past_text s bytes less' (c ∷ cs)) ++ ds
 each_join true t w s x bytes more less more' less' c cs ds h f g =
     let size = length-append t w in past_or_not t bytes more less c cs ds (λ k. f k (omega (arith, size, h, k)))
 each_join false t w s x bytes more less more' less' c cs ds h f g =

@@ -38,7 +38,7 @@ pub use Rattle.telnet_shell.specs.ShellMeaning.{receive_all, receive_byte, is_se
 pub use Rattle.telnet_shell.specs.ShellRepresents.{ShellRepresents, fresh_part}
 pub use Rattle.telnet_shell.specs.State.{Shell}
 pub use Rattle.telnet_shell.specs.Traces.{DeliversPrefix, KeepsSession, sessions}
-pub use Rattle.telnet_shell.specs.Transcript.{behind, function_of, needs_capture, said_plainly, said_with, sent_at, transcript, unfinished}
+pub use Rattle.telnet_shell.specs.Transcript.{past_text, function_of, needs_capture, said_plainly, said_with, sent_at, transcript, unfinished}
 pub use Rattle.telnet_shell.specs.WorkedSessions.{AreWorkedSessions}
 pub use Rattle.telnet_shell.specs.declared.TheConstants.{MOST_COMMANDS}
 pub use Rattle.telnet_shell.specs.declared.command.Command.{Command}

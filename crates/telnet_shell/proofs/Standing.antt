@@ -56,15 +56,15 @@ hear_done a p byte lost done room s =
     let none : commands_in (p.input ++ byte ∷ []) ≡ commands_in p.input ++ [] =
     counted p.input byte (commands (line_after [] (tokens Text p.input)) (tokens_at (awaits_after Text p.input) byte)) refl
     ∙ ap (λ (b : Bool). commands_in p.input ++ (if b then [] else until_quit (commands (line_after [] (tokens Text p.input)) (tokens_at (awaits_after Text p.input) byte)))) over in
-    let both = come a.queue [] a.capture a.at p byte none s.behind s.place in
-    let behind : IsTrailing a.queue a.capture a.at (with_byte p byte) = subst (λ (q : List Command). IsTrailing q a.capture a.at (with_byte p byte)) (append-nil a.queue) both.0 in
-    subst (λ (q : AppState). ShellRepresents a q) (sym (hears_it a p byte a.queue lost s (waiting_is a.queue a.capture a.at (with_byte p byte) behind s.place) room)) (record {
+    let both = come a.queue [] a.capture a.at p byte none s.trailing s.place in
+    let trailing : IsTrailing a.queue a.capture a.at (with_byte p byte) = subst (λ (q : List Command). IsTrailing q a.capture a.at (with_byte p byte)) (append-nil a.queue) both.0 in
+    subst (λ (q : AppState). ShellRepresents a q) (sym (hears_it a p byte a.queue lost s (waiting_is a.queue a.capture a.at (with_byte p byte) trailing s.place) room)) (record {
       polls = s.polls;
       lost = s.lost;
       done = done ∙ sym (quits p.input byte (commands (line_after [] (tokens Text p.input)) (tokens_at (awaits_after Text p.input) byte)) refl
           ∙ ap (λ (b : Bool). b || has_quit (commands (line_after [] (tokens Text p.input)) (tokens_at (awaits_after Text p.input) byte))) over);
       delivers_text = λ e. elim (true≢false (sym (either a.lost a.done done) ∙ e)) [ ];
-      behind = behind;
+      trailing = trailing;
       place = s.place;
     })
   where
@@ -85,14 +85,14 @@ hear_none a p byte kept over iac lost done room goes decodes s =
     let going : has_quit (all_commands p.input) ≡ false = sym s.done ∙ done in
     let none : commands_in (p.input ++ byte ∷ []) ≡ commands_in p.input ++ [] =
     counted p.input byte [] (decodes p.input delivered) ∙ ap (λ (b : Bool). commands_in p.input ++ (if b then [] else [])) going in
-    let both = come a.queue [] a.capture a.at p byte none s.behind s.place in
-    let behind : IsTrailing a.queue a.capture a.at (with_byte p byte) = subst (λ (q : List Command). IsTrailing q a.capture a.at (with_byte p byte)) (append-nil a.queue) both.0 in
-    subst (λ (q : AppState). ShellRepresents (record a { line = kept; over = over; iac = iac }) q) (sym (hears_it a p byte a.queue lost s (waiting_is a.queue a.capture a.at (with_byte p byte) behind s.place) room)) (record {
+    let both = come a.queue [] a.capture a.at p byte none s.trailing s.place in
+    let trailing : IsTrailing a.queue a.capture a.at (with_byte p byte) = subst (λ (q : List Command). IsTrailing q a.capture a.at (with_byte p byte)) (append-nil a.queue) both.0 in
+    subst (λ (q : AppState). ShellRepresents (record a { line = kept; over = over; iac = iac }) q) (sym (hears_it a p byte a.queue lost s (waiting_is a.queue a.capture a.at (with_byte p byte) trailing s.place) room)) (record {
       polls = s.polls;
       lost = s.lost;
       done = done ∙ sym (quits p.input byte [] (decodes p.input delivered) ∙ ap (λ (b : Bool). b || false) going);
       delivers_text = λ e. goes p.input delivered;
-      behind = behind;
+      trailing = trailing;
       place = s.place;
     })
 
@@ -106,7 +106,7 @@ hear_full a p byte c kept over iac lost done full is count decodes s =
     let going : has_quit (all_commands p.input) ≡ false = sym s.done ∙ done in
     let one : commands_in (p.input ++ byte ∷ []) ≡ commands_in p.input ++ until_quit (c ∷ []) =
     counted p.input byte (c ∷ []) (decodes p.input delivered) ∙ ap (λ (b : Bool). commands_in p.input ++ (if b then [] else until_quit (c ∷ []))) going in
-    let both = come a.queue (until_quit (c ∷ [])) a.capture a.at p byte one s.behind s.place in
+    let both = come a.queue (until_quit (c ∷ [])) a.capture a.at p byte one s.trailing s.place in
     let size : length a.queue ≡ 32 = eqb-true (length a.queue) 32 (sym count ∙ is) in
     subst (λ (q : AppState). ShellRepresents (record a { line = kept; over = over; iac = iac; lost = true }) q)
     (sym (gives_up a p byte (a.queue ++ until_quit (c ∷ [])) lost s (waiting_is (a.queue ++ until_quit (c ∷ [])) a.capture a.at (with_byte p byte) both.0 both.1)
@@ -115,7 +115,7 @@ hear_full a p byte c kept over iac lost done full is count decodes s =
       lost = refl;
       done = s.done;
       delivers_text = λ e. elim (true≢false e) [ ];
-      behind = record { before = s.behind.before; spoken = s.behind.spoken; prefix = s.behind.prefix; commands = s.behind.commands; snapshots = s.behind.snapshots; took = s.behind.took; acked = s.behind.acked; shows = s.behind.shows };
+      trailing = record { before = s.trailing.before; spoken = s.trailing.spoken; prefix = s.trailing.prefix; commands = s.trailing.commands; snapshots = s.trailing.snapshots; took = s.trailing.took; acked = s.trailing.acked; shows = s.trailing.shows };
       place = s.place;
     })
 
@@ -132,19 +132,19 @@ hear_command a p byte c kept over iac queue quit lost done full is count room go
     let one : commands_in (p.input ++ byte ∷ []) ≡ commands_in p.input ++ c ∷ [] =
     counted p.input byte (c ∷ []) (decodes p.input delivered) ∙ ap (λ (b : Bool). commands_in p.input ++ (if b then [] else until_quit (c ∷ []))) going
     ∙ ap (λ (cs : List Command). commands_in p.input ++ c ∷ cs) (nothing_more (is_quit c)) in
-    let both = come a.queue (c ∷ []) a.capture a.at p byte one s.behind s.place in
-    let behind : IsTrailing queue a.capture a.at (with_byte p byte) = subst (λ (q : List Command). IsTrailing q a.capture a.at (with_byte p byte)) (sym pushed) both.0 in
+    let both = come a.queue (c ∷ []) a.capture a.at p byte one s.trailing s.place in
+    let trailing : IsTrailing queue a.capture a.at (with_byte p byte) = subst (λ (q : List Command). IsTrailing q a.capture a.at (with_byte p byte)) (sym pushed) both.0 in
     let place : IsLeading queue a.capture a.at = subst (λ (q : List Command). IsLeading q a.capture a.at) (sym pushed) both.1 in
     let size : length queue ≤ 32 =
     (let e : length queue ≡ length a.queue + 1 = ap (λ (q : List Command). length q) pushed ∙ length-append a.queue (c ∷ []) in
     let d = eqb-false (length a.queue) 32 (sym count ∙ is) in omega (arith, e, d, room)) in
     subst (λ (q : AppState). ShellRepresents (record a { line = kept; over = over; iac = iac; queue = queue; done = quit }) q)
-    (sym (hears_it a p byte queue lost s (waiting_is queue a.capture a.at (with_byte p byte) behind place) size)) (record {
+    (sym (hears_it a p byte queue lost s (waiting_is queue a.capture a.at (with_byte p byte) trailing place) size)) (record {
       polls = s.polls;
       lost = s.lost;
       done = quits_is ∙ sym (quits p.input byte (c ∷ []) (decodes p.input delivered) ∙ ap (λ (b : Bool). b || has_quit (c ∷ [])) going ∙ only (is_quit c));
       delivers_text = λ e. goes p.input delivered;
-      behind = behind;
+      trailing = trailing;
       place = place;
     })
   where

@@ -14,5 +14,5 @@ pub record ShellRepresents (a : Shell) (p : AppState) : Type 0 where
   pub lost : p.own ≡ (if a.lost then 1 else 0)
   pub done : a.done ≡ has_quit (all_commands p.input)
   pub delivers_text : (a.lost || a.done) ≡ false → IsOpen a.line a.over a.iac p.input
-  pub behind : IsTrailing a.queue a.capture a.at p
+  pub trailing : IsTrailing a.queue a.capture a.at p
   pub place : IsLeading a.queue a.capture a.at

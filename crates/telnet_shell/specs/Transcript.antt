@@ -49,15 +49,15 @@ transcript (command ∷ more) (capture ∷ later) =
     else said_plainly command ++ transcript more (capture ∷ later)
 
 -- continues with the bytes after a text, if the text is within them
-abbrev pub behind : List ℕ → ℕ → (ℕ → List Command) → List Command → List Command
-behind text bytes goes_on stays = if nat_le (length text) bytes then goes_on (bytes - length text) else stays
+abbrev pub past_text : List ℕ → ℕ → (ℕ → List Command) → List Command → List Command
+past_text text bytes goes_on stays = if nat_le (length text) bytes then goes_on (bytes - length text) else stays
 
 -- the commands whose texts are not within the first bytes
 abbrev pub unfinished : List Command → List Snapshot → ℕ → List Command
 unfinished [] captures bytes = []
 unfinished (command ∷ more) [] bytes =
     if needs_capture command then command ∷ more
-    else behind (said_plainly command) bytes (λ n. unfinished more [] n) (command ∷ more)
+    else past_text (said_plainly command) bytes (λ n. unfinished more [] n) (command ∷ more)
 unfinished (command ∷ more) (capture ∷ later) bytes =
-    if needs_capture command then behind (sent_at command capture) bytes (λ n. unfinished more later n) (command ∷ more)
-    else behind (said_plainly command) bytes (λ n. unfinished more (capture ∷ later) n) (command ∷ more)
+    if needs_capture command then past_text (sent_at command capture) bytes (λ n. unfinished more later n) (command ∷ more)
+    else past_text (said_plainly command) bytes (λ n. unfinished more (capture ∷ later) n) (command ∷ more)

@@ -226,7 +226,7 @@ pub(crate) fn advance(
     count: usize,
 ) -> u32
     requires { at + count ≤ length (left_said queue.old.items capture.old) }
-    ensures behind { (p : AppState) → IsTrailing queue.old.items capture.old (at + count) p
+    ensures trailing { (p : AppState) → IsTrailing queue.old.items capture.old (at + count) p
         → IsTrailing queue.new.items capture.new result p }
     ensures place { IsLeading queue.new.items capture.new result }
 {

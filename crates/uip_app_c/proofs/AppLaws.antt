@@ -112,7 +112,7 @@ module _ (own : Addr) (mac : Mac) (network : Network) where
               (let each = here.represented.represented.slots.each i c a in_code in_node in record { numbers = each.numbers; part = each.part });
         };
         iss = here.represented.represented.iss;
-        numbers_stand = here.represented.represented.numbers_stand;
+        numbers_represented = here.represented.represented.numbers_represented;
         counts = here.represented.represented.counts;
       };
     };

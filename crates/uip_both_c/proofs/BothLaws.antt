@@ -171,7 +171,7 @@ module _ (files : List File) (own : Addr) (mac : Mac) (network : Network) where
                 record { numbers = each.numbers; part = λ opened. part_with_ports c.app (both.config d.node.shared) (ports_of x) a.part (each.part opened) });
           };
           iss = here.station.represented.represented.iss;
-          numbers_stand = here.station.represented.represented.numbers_stand;
+          numbers_represented = here.station.represented.represented.numbers_represented;
           counts = here.station.represented.represented.counts;
         };
       };

@@ -15,7 +15,7 @@ numbers_changed g change old shared same changed = record {
       addr = p.represented.addr;
       slots = subst (λ (k : g.Config). SlotsRepresent g k old.table.conns n.connections) (sym same) p.represented.slots;
       iss = p.represented.iss;
-      numbers_stand = changed ∙ ap change p.represented.numbers_stand;
+      numbers_represented = changed ∙ ap change p.represented.numbers_represented;
       counts = p.represented.counts;
     };
   };

@@ -23,7 +23,7 @@ spoken_by g node len id n event slot o gone None result addr iss counts same slo
 spoken_by g node len id n event slot o gone (Some s) result addr iss counts same slots counted spoken is kept_iss =
     let e = ap (λ (i : ℕ). datagram_bytes (datagram_to node.addr o.connection.sockets i s)) same in
     record {
-      represented = record { addr = addr; slots = slots; iss = iss ∙ sym kept_iss; numbers_stand = counted; counts = counts };
+      represented = record { addr = addr; slots = slots; iss = iss ∙ sym kept_iss; numbers_represented = counted; counts = counts };
       sent = record {
         answer = sym is ∙ (spoken.answer ∙ ap (λ (xs : List ℕ). Some (length xs)) e);
         datagram = spoken.datagram ∙ e;
@@ -48,7 +48,7 @@ silent_by : {A S : Type 0} (g : Ghosts A S) (node : Node A S) (id : ℕ) (n : Ab
     IsSpoken node.addr o.connection.sockets id output result node.packet → result ≡ None →
     Steps g node None (answered n event slot o gone output)
 silent_by g node id n event slot o gone None result addr iss counts slots counted spoken is = record {
-  represented = record { addr = addr; slots = slots; iss = iss; numbers_stand = counted; counts = counts };
+  represented = record { addr = addr; slots = slots; iss = iss; numbers_represented = counted; counts = counts };
   sent = refl;
 }
 silent_by g node id n event slot o gone (Some s) result addr iss counts slots counted spoken is =

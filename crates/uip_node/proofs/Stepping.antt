@@ -7,7 +7,7 @@ use Rattle.tcp_machine.proofs.States.{by_state}
 -- used
 pub stands_later : {A S : Type 0} (g : Ghosts A S) (node : Node A S) (packet : Buffer) (counts : Counts) (n : AbstractNode) (history later remembered : List HistoryEntry) →
     Represents g node n history → node.table.iss ≡ initial_number later → CountsRepresent counts later → Represents g (record node { packet = packet; counts = counts }) (record n { history = remembered }) later
-stands_later g node packet counts n history later remembered h iss stand = record { addr = h.addr; slots = h.slots; iss = iss; numbers_stand = h.numbers_stand; counts = stand }
+stands_later g node packet counts n history later remembered h iss stand = record { addr = h.addr; slots = h.slots; iss = iss; numbers_represented = h.numbers_represented; counts = stand }
 
 -- only what is left and what is sent is looked at
 pub opened : {A S : Type 0} (g : Ghosts A S) (node : Node A S) (result : Option ℕ) (m : AppSpec) (n : AbstractNode) (s : Sockets) (seg : PlainSegment) (slot : ℕ) →
@@ -59,7 +59,7 @@ rests_by : {A S : Type 0} (g : Ghosts A S) (m : AppSpec) (node : Node A S) (n : 
     Steps g node None (happened m n (Periodic slot) slot (connection_in slot n) (leaves (connection_in slot n) n.numbers Step.Drop))
 unfolding happened
 rests_by g m node n slot addr slots iss ns counts = record {
-  represented = record { addr = addr; slots = slots; iss = iss; numbers_stand = ns; counts = counts };
+  represented = record { addr = addr; slots = slots; iss = iss; numbers_represented = ns; counts = counts };
   sent = refl;
 }
 

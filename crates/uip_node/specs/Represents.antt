@@ -18,7 +18,7 @@ pub record Represents {A S : Type 0} (g : Ghosts A S) (node : Node A S) (n : Abs
   pub addr : node.addr ≡ n.addr
   pub slots : SlotsRepresent g (g.config node.shared) node.table.conns n.connections
   pub iss : node.table.iss ≡ initial_number history
-  pub numbers_stand : g.numbers node.shared ≡ n.numbers
+  pub numbers_represented : g.numbers node.shared ≡ n.numbers
   pub counts : CountsRepresent node.counts history
 
 -- The invariant of a node: its packet has the size of the largest datagram, and every connection is sound.

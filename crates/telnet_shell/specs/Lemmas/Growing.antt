@@ -57,23 +57,23 @@ commands_grow delivered more =
 
 -- ---- the transcript
 
-behind : (prefix xs ys : List ℕ) → IsPrefixOf xs ys → IsPrefixOf (prefix ++ xs) (prefix ++ ys)
-behind prefix xs ys p = record { rest = p.rest; joined = append_assoc prefix xs p.rest ∙ ap (λ (zs : List ℕ). prefix ++ zs) p.joined }
+after_prefix : (prefix xs ys : List ℕ) → IsPrefixOf xs ys → IsPrefixOf (prefix ++ xs) (prefix ++ ys)
+after_prefix prefix xs ys p = record { rest = p.rest; joined = append_assoc prefix xs p.rest ∙ ap (λ (zs : List ℕ). prefix ++ zs) p.joined }
 
 none_left : (b : Bool) (output xs ys : List ℕ) → IsPrefixOf xs ys
     → IsPrefixOf (if b then [] else output ++ xs) (if b then [] else output ++ ys)
 none_left true output xs ys p = record { rest = []; joined = refl }
-none_left false output xs ys p = behind output xs ys p
+none_left false output xs ys p = after_prefix output xs ys p
 
 one_more : (b : Bool) (output other xs ys zs : List ℕ) → IsPrefixOf xs ys
     → IsPrefixOf (if b then [] else output ++ xs) (if b then other ++ zs else output ++ ys)
 one_more true output other xs ys zs p = record { rest = other ++ zs; joined = refl }
-one_more false output other xs ys zs p = behind output xs ys p
+one_more false output other xs ys zs p = after_prefix output xs ys p
 
 one_each : (b : Bool) (other output ws zs xs ys : List ℕ) → IsPrefixOf ws zs → IsPrefixOf xs ys
     → IsPrefixOf (if b then other ++ ws else output ++ xs) (if b then other ++ zs else output ++ ys)
-one_each true other output ws zs xs ys p q = behind other ws zs p
-one_each false other output ws zs xs ys p q = behind output xs ys q
+one_each true other output ws zs xs ys p q = after_prefix other ws zs p
+one_each false other output ws zs xs ys p q = after_prefix output xs ys q
 
 pub transcript_grows : (cs ds : List Command) (ks ls : List Snapshot) → IsPrefixOf (transcript cs ks) (transcript (cs ++ ds) (ks ++ ls))
 transcript_grows [] ds ks ls = record { rest = transcript ds (ks ++ ls); joined = refl }

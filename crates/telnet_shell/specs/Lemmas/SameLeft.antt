@@ -11,10 +11,10 @@ use Rattle.telnet_shell.specs.ShellRepresents.{ShellRepresents}
 
 pub left_of_value : (a : Shell) (p : AppState) → ShellRepresents a p → text_left shell_spec p ≡ drop a.at (left_said a.queue a.capture)
 left_of_value a p s =
-    ap (λ (n : ℕ). drop n (session p)) s.behind.acked
-    ∙ ap (λ (xs : List ℕ). drop (length (transcript s.behind.before s.behind.spoken) + a.at) xs)
-    (session_is a.queue a.capture a.at p s.behind)
-    ∙ drop-append-add (transcript s.behind.before s.behind.spoken) (left_said a.queue a.capture) a.at
+    ap (λ (n : ℕ). drop n (session p)) s.trailing.acked
+    ∙ ap (λ (xs : List ℕ). drop (length (transcript s.trailing.before s.trailing.spoken) + a.at) xs)
+    (session_is a.queue a.capture a.at p s.trailing)
+    ∙ drop-append-add (transcript s.trailing.before s.trailing.spoken) (left_said a.queue a.capture) a.at
 
 pub same_session_left : (a : Shell) (p q : AppState) → ShellRepresents a p → ShellRepresents a q
     → text_left shell_spec p ≡ text_left shell_spec q

@@ -11,7 +11,7 @@ use Rattle.generators.specs.declared.capture.Capture.TheVariants.{Empty}
 use Rattle.app_events.specs.Prelude.{AppState, Snapshot}
 use Rattle.telnet_shell.specs.declared.command.Command.{Command}
 use Rattle.telnet_shell.specs.declared.command.Command.TheVariants.{Refuse, Help, Stats, Conns, Ticks, Quit, Blank, Other}
-use Rattle.telnet_shell.specs.Transcript.{behind, function_of, needs_capture, said_with, said_plainly, sent_at, transcript, unfinished}
+use Rattle.telnet_shell.specs.Transcript.{past_text, function_of, needs_capture, said_with, said_plainly, sent_at, transcript, unfinished}
 use Rattle.telnet_shell.specs.Saying.{is_captured, stops_at, left_said, IsLeading, Shows, needed, IsTrailing}
 use Rattle.telnet_shell.specs.ShellMeaning.{session, waiting}
 
@@ -47,7 +47,7 @@ split (c ∷ cs) q (k ∷ ks) later e =
 
 -- a command whose text is among the first bytes is passed
 pub past_said : (s x : List ℕ) (at : ℕ) (go : ℕ → List Command) (stay : List Command)
-    → behind s (length (s ++ x) + at) go stay ≡ go (length x + at)
+    → past_text s (length (s ++ x) + at) go stay ≡ go (length x + at)
 past_said s x at go stay =
     let size : length (s ++ x) ≡ length s + length x = length-append s x in
     ap (λ (b : Bool). if b then go (length (s ++ x) + at - length s) else stay)
@@ -56,22 +56,22 @@ past_said s x at go stay =
 
 none_past : (b : Bool) (s x : List ℕ) (at n : ℕ) (go : ℕ → List Command) (held other stay r : List Command) → 0 ≡ (if b then n + 1 else n)
     → (0 ≡ n → go (length x + at) ≡ r)
-    → (if b then held else behind s (length (if b then [] else s ++ x) + at) go stay) ≡ r
+    → (if b then held else past_text s (length (if b then [] else s ++ x) + at) go stay) ≡ r
 none_past true s x at n go held other stay r e f = absurd (omega (arith, e))
 none_past false s x at n go held other stay r e f = past_said s x at go stay ∙ f e
 
 none_past_with : (b : Bool) (s t x : List ℕ) (at n : ℕ) (go gone : ℕ → List Command) (stay r : List Command) → 0 ≡ (if b then n + 1 else n)
     → (0 ≡ n → go (length x + at) ≡ r)
-    → (if b then behind t (length (if b then [] else s ++ x) + at) gone stay
-    else behind s (length (if b then [] else s ++ x) + at) go stay) ≡ r
+    → (if b then past_text t (length (if b then [] else s ++ x) + at) gone stay
+    else past_text s (length (if b then [] else s ++ x) + at) go stay) ≡ r
 none_past_with true s t x at n go gone stay r e f = absurd (omega (arith, e))
 none_past_with false s t x at n go gone stay r e f = past_said s x at go stay ∙ f e
 
 each_past : (b : Bool) (t x s z : List ℕ) (at len l n : ℕ) (gone go : ℕ → List Command) (stay r : List Command) → l ≡ len + 1
     → l ≡ (if b then n + 1 else n)
     → (len ≡ n → gone (length x + at) ≡ r) → (l ≡ n → go (length z + at) ≡ r)
-    → (if b then behind t (length (if b then t ++ x else s ++ z) + at) gone stay
-    else behind s (length (if b then t ++ x else s ++ z) + at) go stay) ≡ r
+    → (if b then past_text t (length (if b then t ++ x else s ++ z) + at) gone stay
+    else past_text s (length (if b then t ++ x else s ++ z) + at) go stay) ≡ r
 each_past true t x s z at len l n gone go stay r d e f g = past_said t x at gone stay ∙ f (omega (arith, d, e))
 each_past false t x s z at len l n gone go stay r d e f g = past_said s z at go stay ∙ g e
 
@@ -146,7 +146,7 @@ prefix_left (c ∷ cs) capture (k ∷ ks) s =
 -- the first command is not wholly acknowledged
 stays_plain : (c : Command) (cs go : List Command) (capture : Capture) (at : ℕ) → capture ≡ Empty → IsLeading (c ∷ cs) capture at
     → (b : Bool) → needs_capture c ≡ b
-    → (if b then c ∷ cs else behind (said_plainly c) at (λ n. go) (c ∷ cs)) ≡ c ∷ cs
+    → (if b then c ∷ cs else past_text (said_plainly c) at (λ n. go) (c ∷ cs)) ≡ c ∷ cs
 stays_plain c cs go capture at s i true e = refl
 stays_plain c cs go capture at s i false e =
     let short : at < length (said_with c capture) = i.1 (empty_stops c capture s ∙ e) in
@@ -161,8 +161,8 @@ stays (c ∷ cs) capture [] at s i = stays_plain c cs (unfinished cs [] (at - le
 stays (c ∷ cs) capture (k ∷ ks) at s i =
     let short : at < length (said_with c capture) = i.1 (held_goes c k capture s.1 s.2) in
     let small : at < length (sent_at c k) = subst (λ (d : Capture). at < length (said_with c d)) s.2 short in
-    ap (λ (b : Bool). if b then behind (sent_at c k) at (λ n. unfinished cs ks n) (c ∷ cs)
-    else behind (said_plainly c) at (λ n. unfinished cs (k ∷ ks) n) (c ∷ cs)) s.1
+    ap (λ (b : Bool). if b then past_text (sent_at c k) at (λ n. unfinished cs ks n) (c ∷ cs)
+    else past_text (said_plainly c) at (λ n. unfinished cs (k ∷ ks) n) (c ∷ cs)) s.1
     ∙ ap (λ (b : Bool). if b then unfinished cs ks (at - length (sent_at c k)) else c ∷ cs) (lt-leb (length (sent_at c k)) at small)
 
 -- ---- after what was sent before

@@ -6,14 +6,14 @@ pub loop-dot-preserved : goal.loop-dot-preserved
 loop-dot-preserved c =
     let rest = c.loop-dot.rest.now in
     let dot = c.in-Some.dot in
-    let behind = drop (dot + 1) rest in
+    let trailing = drop (dot + 1) rest in
     let label = take dot rest in
     let same = take_rest rest (dot + 1) in
     record {
       text =
           ap (λ l. c.put_label.new.out.items ++ flat_map label_bytes (labels l)) same
-          ∙ ap (λ l. l ++ flat_map label_bytes (labels behind)) c.put_label.ensures
-          ∙ append_assoc c.loop-dot.out.items (label_bytes label) (flat_map label_bytes (labels behind))
+          ∙ ap (λ l. l ++ flat_map label_bytes (labels trailing)) c.put_label.ensures
+          ∙ append_assoc c.loop-dot.out.items (label_bytes label) (flat_map label_bytes (labels trailing))
           ∙ ap (λ l. c.loop-dot.out.items ++ flat_map label_bytes l) (sym (cut rest dot c.in-Some.ensures))
           ∙ c.loop-dot.invariant.text;
       room =

@@ -5,16 +5,16 @@ use Rattle.dns_message.proofs.name.has_labels.Goals as goal
 pub returns-then-not-is_label : goal.returns-then-not-is_label
 returns-then-not-is_label c =
     let rest = c.loop-dot.rest.now in
-    let behind = labels (drop (c.in-Some.dot + 1) rest) in
+    let trailing = labels (drop (c.in-Some.dot + 1) rest) in
     sym (sym c.loop-dot.invariant ∙ ap (λ l. list_all is_label l) (cut rest c.in-Some.dot c.in-Some.ensures)
-    ∙ ap (λ b. b && list_all is_label behind) (sym c.is_label.ensures ∙ c.if-not-is_label.true))
+    ∙ ap (λ b. b && list_all is_label trailing) (sym c.is_label.ensures ∙ c.if-not-is_label.true))
 
 pub loop-dot-preserved : goal.loop-dot-preserved
 loop-dot-preserved c =
     let rest = c.loop-dot.rest.now in
-    let behind = labels (drop (c.in-Some.dot + 1) rest) in
+    let trailing = labels (drop (c.in-Some.dot + 1) rest) in
     ap (λ l. list_all is_label (labels l)) (take_rest rest (c.in-Some.dot + 1))
-    ∙ sym (ap (λ l. list_all is_label l) (cut rest c.in-Some.dot c.in-Some.ensures) ∙ ap (λ b. b && list_all is_label behind) (sym c.is_label.ensures ∙ c.if-not-is_label.false))
+    ∙ sym (ap (λ l. list_all is_label l) (cut rest c.in-Some.dot c.in-Some.ensures) ∙ ap (λ b. b && list_all is_label trailing) (sym c.is_label.ensures ∙ c.if-not-is_label.false))
     ∙ c.loop-dot.invariant
 
 pub returns : goal.returns

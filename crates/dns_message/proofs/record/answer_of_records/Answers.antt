@@ -12,5 +12,5 @@ pub loop-number-preserved : goal.loop-number-preserved
 loop-number-preserved c =
     let i = c.loop-number._number in
     c.loop-number.invariant
-    ∙ other_first (c.args.count - i) (c.args.count - (i + 1)) c.loop-number.rest.now c.in_ok-found.behind.now (plain_record c.in_ok-found.found)
+    ∙ other_first (c.args.count - i) (c.args.count - (i + 1)) c.loop-number.rest.now c.in_ok-found.trailing.now (plain_record c.in_ok-found.found)
     (omega (arith, c.loop-number-test.true)) (sym c.in_ok-found.ensures) (not_address (plain_record c.in_ok-found.found) (sym c.address_in.ensures ∙ ap (λ (o : Option Addr). option_map (λ a. a.0) o) c.in_default.is))

@@ -22,5 +22,5 @@ kept area copied text fits same =
     let n : length copied ≡ length text = ap (λ (l : List ℕ). length l) same in
     drop-put_mid 40 (40 + length text - 40) area copied (40 + length text) (omega arith) (omega (arith, fits)) (omega (arith, n))
 
-pub returns-clause-behind : goal.returns-clause-behind
-returns-clause-behind c = kept c.args.area.now c.copy_from_slice.new.self c.args.text.now c.requires c.copy_from_slice.ensures.after
+pub returns-clause-trailing : goal.returns-clause-trailing
+returns-clause-trailing c = kept c.args.area.now c.copy_from_slice.new.self c.args.text.now c.requires c.copy_from_slice.ensures.after

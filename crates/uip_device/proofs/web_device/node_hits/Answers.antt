@@ -3,4 +3,4 @@ use Rattle.uip_device.proofs.web_device.node_hits.Goals as goal
 
 pub returns : goal.returns
 returns c = rw (← c.node.view_is) (λ n represented.
-    c.hits.ensures ∙ ap (λ (l : List ℕ). hits_of (files_of c.node.inside.shared.web.site) l c.args.name.now) represented.numbers_stand)
+    c.hits.ensures ∙ ap (λ (l : List ℕ). hits_of (files_of c.node.inside.shared.web.site) l c.args.name.now) represented.numbers_represented)

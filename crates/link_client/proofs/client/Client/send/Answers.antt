@@ -21,8 +21,8 @@ at_most : (option : Option ℕ) (len : ℕ) → len ≤ 1460 → (IsSome option 
 at_most None len short none = omega (arith, short)
 at_most (Some mss) len short none = omega (arith, none refl)
 
-pub returns-clause-behind : goal.returns-clause-behind
-returns-clause-behind c =
+pub returns-clause-trailing : goal.returns-clause-trailing
+returns-clause-trailing c =
     let len : ℕ = length c.args.text.now in
     let n : ℕ = 20 + 4 * offset_of c.args.heading.mss + len in
     let area : List ℕ = c.put_text.new.area in
@@ -30,5 +30,5 @@ returns-clause-behind c =
     let fits : n ≤ length area = omega (arith, at_most c.args.heading.mss len c.requires.fits c.requires.no_text, c.requires.room, c.put_text.auto.area) in
     let kept : drop n new ≡ drop n area = after_front _ area new n fits c.put_in.ensures.written c.put_in.auto.area in
     let whole : drop n new ≡ drop n c.args.area.now
-    = kept ∙ further (40 + len) n area c.args.area.now (at_least c.args.heading.mss len) c.put_text.ensures.behind in
+    = kept ∙ further (40 + len) n area c.args.area.now (at_least c.args.heading.mss len) c.put_text.ensures.trailing in
     ap (λ i. drop i new) c.put_in.ensures.length ∙ whole ∙ ap (λ i. drop i c.args.area.now) (sym c.put_in.ensures.length)

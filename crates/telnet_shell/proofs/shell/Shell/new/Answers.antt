@@ -8,6 +8,6 @@ returns c = λ port. record {
   lost = refl;
   done = refl;
   delivers_text = λ e. record { awaits = refl; line = record { prefix = c.new.ensures; more = refl } };
-  behind = opened_after c.new-2.result.items port c.new-2.ensures;
+  trailing = opened_after c.new-2.result.items port c.new-2.ensures;
   place = opened_place c.new-2.result.items c.new-2.ensures;
 }

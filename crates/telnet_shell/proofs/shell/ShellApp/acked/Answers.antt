@@ -12,6 +12,6 @@ returns-clause-part c = rw (← c.self.view_is) (λ p s. record {
   lost = s.lost;
   done = s.done;
   delivers_text = s.delivers_text;
-  behind = c.advance-self-inside.ensures.behind (record p { acked = p.acked + c.args.count; polls = 0 }) (acked_after c.self.inside.queue.items c.self.inside.capture c.self.inside.at c.args.count p s.behind);
+  trailing = c.advance-self-inside.ensures.trailing (record p { acked = p.acked + c.args.count; polls = 0 }) (acked_after c.self.inside.queue.items c.self.inside.capture c.self.inside.at c.args.count p s.trailing);
   place = c.advance-self-inside.ensures.place;
 })

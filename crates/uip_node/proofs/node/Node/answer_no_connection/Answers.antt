@@ -14,7 +14,7 @@ returns-then-has_rst-clause-step g c = λ n text h.
     subst (λ (t : NodeStep). Steps g.A.App c.args.self.now None t)
     (stranger_passes (g.A.App.app_spec (g.A.App.config c.args.self.now.shared)) g.A.App.served n (sockets_of c.args.peer c.args.seg.now) (plain c.args.seg.now text) (sym c.opens_here.ensures ∙ c.if-opens_here.false) (sym c.has_rst.ensures ∙ c.if-has_rst.true))
     (record {
-      represented = record { addr = h.addr; slots = h.slots; iss = h.iss; numbers_stand = h.numbers_stand; counts = h.counts };
+      represented = record { addr = h.addr; slots = h.slots; iss = h.iss; numbers_represented = h.numbers_represented; counts = h.counts };
       sent = refl;
     })
 

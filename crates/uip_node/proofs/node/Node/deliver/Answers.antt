@@ -22,7 +22,7 @@ returns-clause-step g c = rw (← c.self.view_is) (λ n event h within.
     let a : Connection = connection_in slot n in
     let there : slice_get n.connections slot ≡ Some a = slice_get-get_or n.connections slot closed within in
     let one = step.ensures.meets n.connections a h.slots there in
-    let two = subst (λ (ns : List ℕ). MeetsAt app k step.new.table.conns (g.A.App.numbers step.new.shared) step.result n.connections slot (on_segment m a ns (plain c.args.seg.now c.text-piece.result.now))) h.numbers_stand one in
+    let two = subst (λ (ns : List ℕ). MeetsAt app k step.new.table.conns (g.A.App.numbers step.new.shared) step.result n.connections slot (on_segment m a ns (plain c.args.seg.now c.text-piece.result.now))) h.numbers_represented one in
     let three = subst (λ (text : List ℕ). MeetsAt app k step.new.table.conns (g.A.App.numbers step.new.shared) step.result n.connections slot (on_segment m a n.numbers (plain c.args.seg.now text)))
     (c.text-piece.ensures ∙ ap (λ (bytes : List ℕ). (plain_of c.args.seg.now bytes).text) c.bytes.ensures) two in
     let o : Outcome = on_segment m a n.numbers (plain_of c.args.seg.now (datagram_in now.packet)) in

@@ -14,6 +14,6 @@ returns-clause-represented g c = record {
   addr = refl;
   slots = all_stand g.A.App (g.A.App.config c.args.shared) c.in_ok-table.table.conns c.in_ok-table.ensures.closed c.count_slots.ensures.all;
   iss = c.in_ok-table.ensures.iss;
-  numbers_stand = refl;
+  numbers_represented = refl;
   counts = record { net = refl; ticks = refl; ident = refl };
 }

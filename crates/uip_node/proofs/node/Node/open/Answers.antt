@@ -21,7 +21,7 @@ returns-clause-step g c = rw (← c.self.view_is) (λ n event old text h within.
     c.send_step.ensures.step n event old (accept (initial_number (seen event n.history)) (sockets_of c.args.peer c.args.seg.now) (plain c.args.seg.now text) n.numbers) h.addr within (c.open_in-step.ensures.iss ∙ h.iss) h.counts
     (record {
       slots = slots;
-      counted = h.numbers_stand;
+      counted = h.numbers_represented;
       asked = c.open_in-step.ensures.step;
       named = λ speaks d at. like_named d b ((slots.each c.args.slot d b at (get_set n.connections c.args.slot b within)).numbers.like refl);
     }))

@@ -25,7 +25,7 @@ returns-then-not-is_live_in g c = rw (← c.self.view_is) (record {
       rests_at app m (record { addr = now.addr; packet = now.packet; table = c.next_iss.new.self; counts = counts; shared = now.shared }) n slot h.addr
       (subst (λ (cs : List (Conn g.row.A.Denot)). SlotsRepresent app k cs n.connections) (sym c.next_iss.ensures.conns) h.slots)
       (c.next_iss.ensures.iss ∙ ap (λ (i : ℕ). (i + 1) % 4294967296) h.iss ∙ next_first n.history slot)
-      h.numbers_stand (record { net = h.counts.net; ticks = c.ticks_at-self-inside.ensures n.history h.counts.ticks; ident = h.counts.ident }) there dead;
+      h.numbers_represented (record { net = h.counts.net; ticks = c.ticks_at-self-inside.ensures n.history h.counts.ticks; ident = h.counts.ident }) there dead;
 })
 
 pub invariant_of-self : goal.invariant_of-self
@@ -61,7 +61,7 @@ returns g c = rw (← c.self.view_is) (record {
       let o : Outcome = on_tick m a n.numbers in
       let slots = subst (λ (cs : List (Conn g.row.A.Denot)). SlotsRepresent app k cs n.connections) (sym c.next_iss.ensures.conns) h.slots in
       let one = step.ensures.meets n.connections a slots there in
-      let two = subst (λ (ns : List ℕ). MeetsAt app k step.new.table.conns (app.numbers step.new.shared) step.result n.connections slot (on_tick m a ns)) h.numbers_stand one in
+      let two = subst (λ (ns : List ℕ). MeetsAt app k step.new.table.conns (app.numbers step.new.shared) step.result n.connections slot (on_tick m a ns)) h.numbers_represented one in
       let three = subst (λ (j : app.Config). MeetsAt app j step.new.table.conns (app.numbers step.new.shared) step.result n.connections slot o) (sym step.ensures.same) two in
       let stand : CountsRepresent counts (seen event n.history) = record { net = h.counts.net; ticks = c.ticks_at-self-inside.ensures n.history h.counts.ticks; ident = h.counts.ident } in
       let four = finished app (app.config step.new.shared) (app.app_spec (app.config step.new.shared)) answer.new.table.conns (app.numbers step.new.shared) answer.result n event slot o counts stand
