@@ -1,5 +1,5 @@
 -- What is wanted, and the capture that is taken, for each part that a value stands for.
-use Rattle.httpd.proofs.Prelude.{◌≡◌, ◌+◌, ℕ, ◌≤◌, ◌==◌, ◌&&◌, min, Bool, true, false, not, List, [], ◌∷◌, ◌++◌, Option, length, drop, nat_lt, refl, sym, ap, subst, ◌∙◌, arith, append_assoc, append-nil, length-append, length-drop, if◌then◌else◌, inl, inr, map, codes, cases_eq, eq-eqb, eqb-true, ne_eqb, Snapshot, AppState, Nothing, Send, Close, Abort, File, FileId, SiteContent, files_of, ScriptFunctions, Wanted, wanted, Name, NotYet, Refused, pieces_by, Say, kind_line, reply_pieces_by, says, Made, Plain, is_whole_by, made_by, page_by, page_for_by, reach_by, text_by, whole_for_by, is_acknowledged_by, left_of_by, waits_for_capture_by, web_want_by, made_end, made_first, stopped_end, stopped_text, text_grows, Pages, Thread, Head, Kind, Body, Inside, Making, End, Due, FileReply, body, body_from, calls_in, head_text, is_scripted, kind_text, left_from, reply_by, Fits, IsInner, KeepsDirective, SeesCall, IsDueReply, IsNotDue, left_text, left_whole, want_left, PagesRepresent, IsLeft, IsReplying, SaysNothing, StandsIn}
+use Rattle.httpd.proofs.Prelude.{◌≡◌, ◌+◌, ℕ, ◌≤◌, ◌==◌, ◌&&◌, min, Bool, true, false, not, List, [], ◌∷◌, ◌++◌, Option, length, drop, nat_lt, refl, sym, ap, subst, ◌∙◌, arith, append_assoc, append-nil, length-append, length-drop, if◌then◌else◌, inl, inr, map, codes, cases_eq, eq-eqb, eqb-true, ne_eqb, Snapshot, AppState, Nothing, Send, Close, Abort, File, FileId, SiteContent, files_of, ScriptFunctions, Wanted, wanted, Name, NotYet, Refused, pieces_by, Say, kind_line, reply_pieces_by, says, Made, Plain, is_whole_by, made_by, page_by, page_for_by, reach_by, text_by, whole_for_by, is_acknowledged_by, left_of_by, waits_for_capture_by, web_want_by, made_end, made_first, stopped_end, stopped_text, text_grows, Pages, Thread, Head, Kind, Body, Inside, Making, End, Due, FileReply, body, body_from, calls_in, head_text, is_scripted, kind_text, left_from, reply_by, Fits, IsInner, KeepsDirective, SeesCall, IsDueReply, IsNotDue, left_text, left_whole, want_left, PagesRepresent, IsLeft, IsReplying, SaysNothing, IsRepresentedIn}
 use Rattle.httpd.specs.declared.stage.Stage.TheVariants as stage
 use Rattle.httpd.proofs.Standing.{replying}
 use Rattle.httpd.proofs.Walking.{call_before}
@@ -252,7 +252,7 @@ due_stands g text a site found p due capture snapshot e is_due s made =
     subst (λ q. PagesRepresent g text (begins_call a capture due.next) site q) (sym (prepared_by g (files_of site) p snapshot true (due_waits g text a site found p is.0 due is_due is.1)))
     (record {
       polls = s.polls;
-      represented = subst (λ st. StandsIn g text (begins_call a capture due.next) site (with_capture p snapshot) st) (sym e) (
+      represented = subst (λ st. IsRepresentedIn g text (begins_call a capture due.next) site (with_capture p snapshot) st) (sym e) (
         is.0,
         record {
           wanted = is.1.wanted;

@@ -10,7 +10,7 @@ pub use Rattle.generators.specs.declared.capture.Capture.{Capture}
 pub use Rattle.generators.specs.declared.capture.Capture.TheVariants.{Empty}
 pub use Rattle.httpd.specs.Compact.{CompactRepresent, ReceivesWord, is_target_stage, pages_kept, word_stage}
 pub use Rattle.httpd.specs.Hearing.{HasName, ReceivesMethod, ReceivesTarget, ReceivesTo, IsDecided, IsFileAsked}
-pub use Rattle.httpd.specs.HttpdRepresents.{HttpdRepresents, IsLeft, IsReplying, PagesRepresent, SaysNothing, StandsIn}
+pub use Rattle.httpd.specs.HttpdRepresents.{HttpdRepresents, IsLeft, IsReplying, PagesRepresent, SaysNothing, IsRepresentedIn}
 pub use Rattle.httpd.specs.Kept.{EndsCall, EndsDirective, EndsInclude, KeepsAll, KeepsDirective, KeepsOn}
 pub use Rattle.httpd.specs.Lemmas.SameLeft.{left_in, left_of_value}
 pub use Rattle.httpd.specs.Looking.{IsCallBefore, IsInPiece, IsPast, IsSpan, IsText, Leads, Sees, SeesBy, SeesCall, SeesText, SpanFits, span_text}

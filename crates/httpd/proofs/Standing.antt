@@ -1,6 +1,6 @@
 -- The text that a value of the web server can send, for each state that it represents.
 -- [add: piece] What a value of the web server can send in the piece.
-use Rattle.httpd.proofs.Prelude.{◌≡◌, ℕ, ◌+◌, ◌≤◌, Bool, true, false, List, [], ◌++◌, Option, None, Some, length, drop, refl, sym, ap, subst, ◌∙◌, arith, true≢false, append-nil, length-drop, ∥∥₁_elim, ∥∥₁_map, drop-drop, le_prop, Snapshot, AppState, text_left, IsRepresented, CanSay, File, FileId, SiteContent, files_of, ScriptFunctions, reply_pieces_by, text_by, web_spec_by, Pages, Stage, Thread, Head, Kind, Body, Inside, Making, End, FileReply, body, is_scripted, left_from, reply_by, Fits, IsBodyPlace, IsFound, IsInner, KeepsOn, IsPast, PagesRepresent, IsLeft, IsReplying, StandsIn, left_in, left_of_value}
+use Rattle.httpd.proofs.Prelude.{◌≡◌, ℕ, ◌+◌, ◌≤◌, Bool, true, false, List, [], ◌++◌, Option, None, Some, length, drop, refl, sym, ap, subst, ◌∙◌, arith, true≢false, append-nil, length-drop, ∥∥₁_elim, ∥∥₁_map, drop-drop, le_prop, Snapshot, AppState, text_left, IsRepresented, CanSay, File, FileId, SiteContent, files_of, ScriptFunctions, reply_pieces_by, text_by, web_spec_by, Pages, Stage, Thread, Head, Kind, Body, Inside, Making, End, FileReply, body, is_scripted, left_from, reply_by, Fits, IsBodyPlace, IsFound, IsInner, KeepsOn, IsPast, PagesRepresent, IsLeft, IsReplying, IsRepresentedIn, left_in, left_of_value}
 use Rattle.httpd.specs.declared.stage.Stage.TheVariants as stage
 
 abbrev pub means : {F : Type 0} → ScriptFunctions F → SiteContent → Rattle.app_events.specs.AppSpec.AppSpec
@@ -45,7 +45,7 @@ found_reported files (Some id) h = ∥∥₁_elim h le_prop (λ is. is)
 -- ---- while a reply is sent
 
 pub replying : {F R : Type 0} (g : ScriptFunctions F) (text : R → List ℕ) (a : Pages R) (site : SiteContent) (p : AppState) (found : Option FileId) → a.stage ≡ stage.Reply found → PagesRepresent g text a site p → (name : List ℕ) × IsReplying g text a site name found p
-replying g text a site p found e s = subst (λ st. StandsIn g text a site p st) e s.represented
+replying g text a site p found e s = subst (λ st. IsRepresentedIn g text a site p st) e s.represented
 
 pub reply_fits : {F R : Type 0} (g : ScriptFunctions F) (text : R → List ℕ) (a : Pages R) (site : SiteContent) (found : Option FileId) → a.stage ≡ stage.Reply found → IsRepresented (PagesRepresent g text) a site → Fits (reply_by g text site found a.capture) a.thread
 reply_fits g text a site found e has =
@@ -96,7 +96,7 @@ reply_acked g text a site found p n u e fits kept history enough s =
     let is = replying g text a site p found e s in
     record {
       polls = refl;
-      represented = subst (λ st. StandsIn g text (record a { thread = u; polls = 0 }) site (record p { acked = p.acked + n; polls = 0 }) st) (sym e) (
+      represented = subst (λ st. IsRepresentedIn g text (record a { thread = u; polls = 0 }) site (record p { acked = p.acked + n; polls = 0 }) st) (sym e) (
         is.0,
         record {
           wanted = is.1.wanted;
@@ -110,8 +110,8 @@ reply_acked g text a site found p n u e fits kept history enough s =
     }
 
 -- if nothing is sent, nothing can be acknowledged
-nothing_acked : {F R : Type 0} (g : ScriptFunctions F) (text : R → List ℕ) (a : Pages R) (site : SiteContent) (p : AppState) (n : ℕ) (s : Stage) → ((found : Option FileId) → s ≡ stage.Reply found → ⊥) → n ≡ 0 → StandsIn g text a site p s
-    → StandsIn g text (record a { polls = 0 }) site (record p { acked = p.acked + n; polls = 0 }) s
+nothing_acked : {F R : Type 0} (g : ScriptFunctions F) (text : R → List ℕ) (a : Pages R) (site : SiteContent) (p : AppState) (n : ℕ) (s : Stage) → ((found : Option FileId) → s ≡ stage.Reply found → ⊥) → n ≡ 0 → IsRepresentedIn g text a site p s
+    → IsRepresentedIn g text (record a { polls = 0 }) site (record p { acked = p.acked + n; polls = 0 }) s
 nothing_acked g text a site p n stage.Method never e (received, none) = (received, record { snapshots = none.snapshots; acked = omega (arith, none.acked, e) })
 nothing_acked g text a site p n stage.Target never e (received, none) = (received, record { snapshots = none.snapshots; acked = omega (arith, none.acked, e) })
 nothing_acked g text a site p n stage.Refused never e (refused, none) = (refused, record { snapshots = none.snapshots; acked = omega (arith, none.acked, e) })

@@ -1,5 +1,5 @@
 -- The states after a piece was delivered.
-use Rattle.httpd.proofs.Prelude.{◌≡◌, ℕ, ◌≤◌, List, ◌++◌, Option, None, Some, length, drop, refl, sym, ap, subst, ◌∙◌, arith, AppState, File, file_named, FileId, SiteContent, files_of, Wanted, wanted, Name, NotYet, Refused, ScriptFunctions, reply_pieces_by, reply_to_by, reach_by, text_by, hits_by, more_by, Pages, Stage, Head, FileReply, calls_in, found_file, left_from, reply_by, Fits, IsFound, KeepsDirective, ReceivesMethod, ReceivesTarget, IsDecided, PagesRepresent, IsLeft, IsReplying, SaysNothing, StandsIn}
+use Rattle.httpd.proofs.Prelude.{◌≡◌, ℕ, ◌≤◌, List, ◌++◌, Option, None, Some, length, drop, refl, sym, ap, subst, ◌∙◌, arith, AppState, File, file_named, FileId, SiteContent, files_of, Wanted, wanted, Name, NotYet, Refused, ScriptFunctions, reply_pieces_by, reply_to_by, reach_by, text_by, hits_by, more_by, Pages, Stage, Head, FileReply, calls_in, found_file, left_from, reply_by, Fits, IsFound, KeepsDirective, ReceivesMethod, ReceivesTarget, IsDecided, PagesRepresent, IsLeft, IsReplying, SaysNothing, IsRepresentedIn}
 use Rattle.httpd.specs.declared.stage.Stage.TheVariants as stage
 
 -- from the start of its head a reply generates its pieces
@@ -35,7 +35,7 @@ begins g text a site p found name e none is there file = record {
 }
 
 -- where a stage was decided
-pub decided_stands : {F R : Type 0} (g : ScriptFunctions F) (text : R → List ℕ) (a : Pages R) (site : SiteContent) (p : AppState) (s : Stage) → a.thread ≡ Head 0 → SaysNothing p → IsDecided (files_of site) a.line p.input s → StandsIn g text a site p s
+pub decided_stands : {F R : Type 0} (g : ScriptFunctions F) (text : R → List ℕ) (a : Pages R) (site : SiteContent) (p : AppState) (s : Stage) → a.thread ≡ Head 0 → SaysNothing p → IsDecided (files_of site) a.line p.input s → IsRepresentedIn g text a site p s
 decided_stands g text a site p stage.Method e none is = (is, none)
 decided_stands g text a site p stage.Target e none is = (is, none)
 decided_stands g text a site p stage.Refused e none is = (is, none)
@@ -48,13 +48,13 @@ still_nothing : (p : AppState) (piece : List ℕ) → SaysNothing p → SaysNoth
 still_nothing p piece none = record { snapshots = none.snapshots; acked = none.acked }
 
 pub method_heard : {F R : Type 0} (g : ScriptFunctions F) (text : R → List ℕ) (a : Pages R) (site : SiteContent) (p : AppState) → a.stage ≡ stage.Method → PagesRepresent g text a site p → ReceivesMethod a.line p.input × SaysNothing p
-method_heard g text a site p e s = subst (λ st. StandsIn g text a site p st) e s.represented
+method_heard g text a site p e s = subst (λ st. IsRepresentedIn g text a site p st) e s.represented
 
 pub target_heard : {F R : Type 0} (g : ScriptFunctions F) (text : R → List ℕ) (a : Pages R) (site : SiteContent) (p : AppState) → a.stage ≡ stage.Target → PagesRepresent g text a site p → ReceivesTarget a.line p.input × SaysNothing p
-target_heard g text a site p e s = subst (λ st. StandsIn g text a site p st) e s.represented
+target_heard g text a site p e s = subst (λ st. IsRepresentedIn g text a site p st) e s.represented
 
 pub refused_heard : {F R : Type 0} (g : ScriptFunctions F) (text : R → List ℕ) (a : Pages R) (site : SiteContent) (p : AppState) → a.stage ≡ stage.Refused → PagesRepresent g text a site p → (wanted p.input ≡ Refused) × SaysNothing p
-refused_heard g text a site p e s = subst (λ st. StandsIn g text a site p st) e s.represented
+refused_heard g text a site p e s = subst (λ st. IsRepresentedIn g text a site p st) e s.represented
 
 -- a request that a piece may decide
 pub heard_stands : {F R : Type 0} (g : ScriptFunctions F) (text : R → List ℕ) (a b : Pages R) (site : SiteContent) (p : AppState) (piece : List ℕ) → SaysNothing p → b.thread ≡ Head 0 → b.polls ≡ 0 → IsDecided (files_of site) b.line (p.input ++ piece) b.stage → PagesRepresent g text b site (with_more p piece)
@@ -63,10 +63,10 @@ heard_stands g text a b site p piece none e polls is = record { polls = polls; r
 -- a request that was decided
 pub reply_stays : {F R : Type 0} (g : ScriptFunctions F) (text : R → List ℕ) (a : Pages R) (site : SiteContent) (p : AppState) (piece : List ℕ) (found : Option FileId) → a.stage ≡ stage.Reply found → PagesRepresent g text a site p → PagesRepresent g text (record a { polls = 0 }) site (with_more p piece)
 reply_stays g text a site p piece found e s =
-    let is : (name : List ℕ) × IsReplying g text a site name found p = subst (λ st. StandsIn g text a site p st) e s.represented in
+    let is : (name : List ℕ) × IsReplying g text a site name found p = subst (λ st. IsRepresentedIn g text a site p st) e s.represented in
     record {
       polls = refl;
-      represented = subst (λ st. StandsIn g text (record a { polls = 0 }) site (with_more p piece) st) (sym e) (
+      represented = subst (λ st. IsRepresentedIn g text (record a { polls = 0 }) site (with_more p piece) st) (sym e) (
         is.0,
         record {
           wanted = more_by (Name is.0) p.input piece is.1.wanted (λ h. cc);
@@ -84,7 +84,7 @@ refused_stays g text a site p piece e s =
     let is = refused_heard g text a site p e s in
     record {
       polls = refl;
-      represented = subst (λ st. StandsIn g text (record a { polls = 0 }) site (with_more p piece) st) (sym e)
+      represented = subst (λ st. IsRepresentedIn g text (record a { polls = 0 }) site (with_more p piece) st) (sym e)
           (more_by Refused p.input piece is.0 (λ h. cc), still_nothing p piece is.1);
     }
 

@@ -48,16 +48,16 @@ pub record SaysNothing (part : AppState) : Type 0 where
   pub acked : part.acked ≡ 0
 
 -- The state by the stage of the request.
-abbrev pub StandsIn : {F R : Type 0} → ScriptFunctions F → (R → List ℕ) → Pages R → SiteContent → AppState → Stage → Type 0
-StandsIn g text a site part stage.Method = ReceivesMethod a.line part.input × SaysNothing part
-StandsIn g text a site part stage.Target = ReceivesTarget a.line part.input × SaysNothing part
-StandsIn g text a site part (stage.Reply found) = (name : List ℕ) × IsReplying g text a site name found part
-StandsIn g text a site part stage.Refused = (wanted part.input ≡ Refused) × SaysNothing part
+abbrev pub IsRepresentedIn : {F R : Type 0} → ScriptFunctions F → (R → List ℕ) → Pages R → SiteContent → AppState → Stage → Type 0
+IsRepresentedIn g text a site part stage.Method = ReceivesMethod a.line part.input × SaysNothing part
+IsRepresentedIn g text a site part stage.Target = ReceivesTarget a.line part.input × SaysNothing part
+IsRepresentedIn g text a site part (stage.Reply found) = (name : List ℕ) × IsReplying g text a site name found part
+IsRepresentedIn g text a site part stage.Refused = (wanted part.input ≡ Refused) × SaysNothing part
 
 pub record PagesRepresent {F R : Type 0} (g : ScriptFunctions F) (text : R → List ℕ) (a : Pages R)
     (site : SiteContent) (part : AppState) : Type 0 where
   pub polls : a.polls ≡ part.polls
-  pub represented : StandsIn g text a site part a.stage
+  pub represented : IsRepresentedIn g text a site part a.stage
 
 -- with the functions of uIP
 abbrev pub HttpdRepresents : Httpd → SiteContent → AppState → Type 0
@@ -71,7 +71,7 @@ Becomes represented site change old new = (p : AppState) → represented old sit
 
 -- In the states represented, `prepare` takes no capture.
 abbrev pub TakesNoCapture : AppSpec → (AppState → Type 0) → Type 0
-TakesNoCapture m Stands = (numbers : List ℕ) (p : AppState) (now : Now) → Stands p → m.prepare numbers p now ≡ p
+TakesNoCapture m IsRepresented = (numbers : List ℕ) (p : AppState) (now : Now) → IsRepresented p → m.prepare numbers p now ≡ p
 
 -- the state of a connection at this port that has received nothing
 abbrev pub before_input : ℕ → AppState

@@ -99,7 +99,7 @@ fn add_client(clients: &mut Vec<ClientPlan>, plan: ClientPlan) -> Result<(), Ref
     if earlier.len() >= MOST_CLIENTS {
         return Err(Refusal::Faulty(Why::Clients));
     }
-    if stands_at(earlier, &plan) {
+    if has_ports_of(earlier, &plan) {
         return Err(Refusal::Faulty(Why::Ports));
     }
     if clients.push(plan).is_err() {
@@ -109,7 +109,7 @@ fn add_client(clients: &mut Vec<ClientPlan>, plan: ClientPlan) -> Result<(), Ref
 }
 
 /// Returns whether a client has the address and port of this one.
-fn stands_at(clients: &[ClientPlan], plan: &ClientPlan) -> bool
+fn has_ports_of(clients: &[ClientPlan], plan: &ClientPlan) -> bool
     ensures { result ≡ list_any (λ earlier. meeting earlier plan.now) clients.now }
 {
     clients.iter().any(|earlier| meets(earlier, plan))

@@ -11,8 +11,8 @@ pub record Passes (old new : Option (List ℕ)) (n : ℕ) : Type 0 where
 
 -- A file at this offset. It is the one that was kept, if it has the name and the offset. Otherwise everything before the offset was read
 -- from it. At offset 0 any file is one.
-abbrev pub StandsAt : {F : Type 0} → (F → Option (List ℕ)) → Option (OpenFile F) → List ℕ → ℕ → F → Type 0
-StandsAt {F} left last name at file =
+abbrev pub IsAtOffset : {F : Type 0} → (F → Option (List ℕ)) → Option (OpenFile F) → List ℕ → ℕ → F → Type 0
+IsAtOffset {F} left last name at file =
     IsSomeAnd last (λ held. (held.name.items ≡ name) × (held.at ≡ at) × (held.file ≡ file))
     ⊎ ((opened : F) × Passes (left opened) (left file) at)
 
@@ -21,6 +21,6 @@ StandsAt {F} left last name at file =
 pub record ReadsOn {F : Type 0} (left : F → Option (List ℕ)) (last now : Option (OpenFile F))
     (name : List ℕ) (at n : ℕ) (buf : List ℕ) : Type 0 where
   pub file : F
-  pub represented : StandsAt left last name at file
+  pub is_at_offset : IsAtOffset left last name at file
   pub gave : IsSomeAnd now
       (λ held. Consumes (left file) (left held.file) (take n buf) × (n ≡ 0 → 0 < length buf → IsAtEnd (left held.file)))

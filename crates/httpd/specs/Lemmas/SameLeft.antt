@@ -13,7 +13,7 @@ use Rattle.httpd.specs.declared.stage.Stage.TheVariants as stage
 use Rattle.httpd.specs.First.{Httpd}
 use Rattle.httpd.specs.declared.httpd.Pages.{Pages}
 use Rattle.httpd.specs.Reply.{left_from, reply_by}
-use Rattle.httpd.specs.HttpdRepresents.{HttpdRepresents, PagesRepresent, StandsIn}
+use Rattle.httpd.specs.HttpdRepresents.{HttpdRepresents, PagesRepresent, IsRepresentedIn}
 
 -- the text that a value has left
 abbrev pub left_in : {F R : Type 0} → ScriptFunctions F → (R → List ℕ) → Pages R → SiteContent → Stage → List ℕ
@@ -38,7 +38,7 @@ abbrev left_at : {F : Type 0} → ScriptFunctions F → SiteContent → AppState
 left_at g site part = text_left (web_spec_by g (files_of site)) part
 
 left_by : {F R : Type 0} (g : ScriptFunctions F) (text : R → List ℕ) (a : Pages R) (site : SiteContent) (part : AppState) (s : Stage)
-    → StandsIn g text a site part s → left_at g site part ≡ left_in g text a site s
+    → IsRepresentedIn g text a site part s → left_at g site part ≡ left_in g text a site s
 left_by g text a site part stage.Method (received, nothing) =
     nothing_left g (files_of site) part NotYet (method_open part.input received.goes_on) refl
 left_by g text a site part stage.Target (received, nothing) =
