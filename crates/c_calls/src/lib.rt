@@ -1,14 +1,14 @@
 //! What the libraries for C have in common: the statuses, the results of calls, and how a call uses the device of a handle.
 #![tactic(auto)]
 
-mod closing;
+mod handle_free;
 mod laws;
 mod read_device;
 mod received;
 mod result;
 mod status;
 
-pub use closing::free;
+pub use handle_free::free;
 pub use laws::constant_values;
 pub use received::{UipReceived, copy_prefix, flag};
 pub use result::UipResult;

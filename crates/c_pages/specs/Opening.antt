@@ -6,8 +6,8 @@ use Rattle.site_image.specs.Prelude.{read_image, File}
 use Rattle.file_tree.specs.Prelude.{SiteContent, files_of}
 use Rattle.site_report.specs.Prelude.{why_word}
 use Rattle.uip_device.specs.Prelude.{IsLongWithValues, IsOfImage}
-use Rattle.uip_device.specs.declared.opening.OpenFault.{OpenFault}
-use Rattle.uip_device.specs.declared.opening.OpenFault.TheVariants.{BadSite}
+use Rattle.uip_device.specs.declared.web_setup.OpenFault.{OpenFault}
+use Rattle.uip_device.specs.declared.web_setup.OpenFault.TheVariants.{BadSite}
 use Rattle.c_calls.specs.declared.status.TheConstants.{BAD_IMAGE, NO_MEMORY}
 use Rattle.c_pages.specs.declared.opened.UipOpened.{UipOpened}
 

@@ -6,12 +6,12 @@ pub use Rattle.generators.specs.Prelude.{capture_of, capture_text, texts_short}
 pub use Rattle.generators.specs.declared.capture.Capture.{Capture}
 pub use Rattle.generators.specs.declared.capture.Capture.TheVariants.{Empty}
 unfoldable pub use Rattle.link_client.specs.Prelude.{aborts_by, again_by, client_takes, closes_by, opens_by, sends_next, takes_by, takes_in_order}
-pub use Rattle.link_world.proofs.Any.{Framed}
-pub use Rattle.link_world.proofs.Exact.{in_step_plainly, in_step_where}
-pub use Rattle.link_world.proofs.Prefix.{AtPorts, G, act_good, evict, mark, opening_framed, other, reset, served_in}
+pub use Rattle.link_world.proofs.OneClientFact.{Framed}
+pub use Rattle.link_world.proofs.OneSegmentInvariant.{in_step_plainly, in_step_where}
+pub use Rattle.link_world.proofs.PrefixAndWhole.{AtPorts, G, act_good, evict, mark, opening_framed, other, reset, served_in}
 pub use Rattle.link_world.proofs.Runs.{reached_plainly, reached_where}
 pub use Rattle.link_world.proofs.SaidBytes.{SaysBytesWhere}
-pub use Rattle.link_world.proofs.Same.{again_exactly_plainly, again_exactly_where, same_bytes_plainly, same_bytes_where}
+pub use Rattle.link_world.proofs.RetransmissionInvariant.{again_exactly_plainly, again_exactly_where, same_bytes_plainly, same_bytes_where}
 pub use Rattle.link_world.proofs.Speaking.{HasOutputModel, HearsSome, KeepsHeard, Speaker, page_by}
 pub use Rattle.link_world.proofs.Ticks.{tick}
 pub use Rattle.link_world.specs.Prelude.{IsServed, Side, World}

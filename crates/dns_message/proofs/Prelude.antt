@@ -8,7 +8,7 @@ pub use Rattle.dns_message.specs.Replies.{way_there}
 unfoldable pub use Rattle.dns_message.specs.Replies.{answer_to, query_datagram}
 pub use Rattle.dns_message.specs.declared.answer.Answer.{Answer}
 pub use Rattle.dns_message.specs.declared.answer.Answer.TheVariants.{Address, Code, NoAddress}
-pub use Rattle.dns_message.specs.declared.asking.Asking.{Asking}
+pub use Rattle.dns_message.specs.declared.query.Asking.{Asking}
 pub use Rattle.memchr.specs.Find.{IsFirstByte, is_byte}
 pub use Rattle.std.proofs.Common.{Bool, List, None, Option, Some, [], add-one, ap, append-nil, append_assoc, arith, cond, drop, eqb, false, get_or, if◌then◌else◌, inl, inr, is_some, leb, length, length-append, length-drop, length-take, ltb, map, nat_le, option_and_then, option_map, refl, slice_index, slice_range, subst, suc, sym, take, true, zero, ℕ, ◌&&◌, ◌*◌, ◌++◌, ◌+◌, ◌-◌, ◌<◌, ◌∙◌, ◌∷◌, ◌≡◌, ◌≤◌, ◌⊎◌}
 pub use Rattle.std.proofs.Math.ListN.{get_or-append}

@@ -1,6 +1,6 @@
 -- The constants of the code that definitions cite, with their values.
 use Rattle.std.specs.Prelude.{◌≡◌, ℕ}
-use Rattle.dns_message.specs.declared.asking.TheConstants.{ASKING_PORT, SERVER_PORT}
+use Rattle.dns_message.specs.declared.query.TheConstants.{ASKING_PORT, SERVER_PORT}
 
 pub record ConstantValues : Type 0 where
   pub asking_port : ASKING_PORT ≡ 4096

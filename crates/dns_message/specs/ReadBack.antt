@@ -7,7 +7,7 @@ use Rattle.dns_message.specs.Messages.{query_message}
 use Rattle.dns_message.specs.Names.{is_domain, label_bytes}
 use Rattle.dns_message.specs.Records.{Record, records}
 use Rattle.dns_message.specs.Replies.{query_datagram, way_there}
-use Rattle.dns_message.specs.declared.asking.Asking.{Asking}
+use Rattle.dns_message.specs.declared.query.Asking.{Asking}
 
 -- A label of a name; the empty one is the root's.
 abbrev pub has_label_size : List ℕ → Bool

@@ -5,8 +5,8 @@ use Rattle.udp_datagram.specs.Prelude.{udp_data, udp_datagram}
 use Rattle.udp_datagram.specs.declared.way.UdpFlow.{UdpFlow}
 use Rattle.dns_message.specs.Messages.{answer_by_message, query_message}
 use Rattle.dns_message.specs.declared.answer.Answer.{Answer}
-use Rattle.dns_message.specs.declared.asking.Asking.{Asking}
-use Rattle.dns_message.specs.declared.asking.TheConstants.{ASKING_PORT, SERVER_PORT}
+use Rattle.dns_message.specs.declared.query.Asking.{Asking}
+use Rattle.dns_message.specs.declared.query.TheConstants.{ASKING_PORT, SERVER_PORT}
 
 -- From a port of a host to a port of another.
 abbrev pub way_between : Addr → ℕ → Addr → ℕ → UdpFlow

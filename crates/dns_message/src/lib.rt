@@ -3,13 +3,13 @@
 #![tactic(auto)]
 
 mod answer;
-mod asking;
 mod laws;
 mod message;
 mod name;
+mod query;
 mod record;
 
 pub use answer::Answer;
-pub use asking::{ASKING_PORT, Asking, SERVER_PORT};
 pub use laws::{constant_values, queries_are_read_back, records_are_spelled};
 pub use name::{LONGEST_NAME, Name};
+pub use query::{ASKING_PORT, Asking, SERVER_PORT};

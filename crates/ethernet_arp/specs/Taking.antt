@@ -6,10 +6,10 @@ use Rattle.ethernet_arp.specs.Frames.{Host, arp_reply}
 use Rattle.ethernet_arp.specs.Learning.{Act, Asked, Pair, Replied, taught}
 use Rattle.ethernet_arp.specs.Table.{in_table}
 use Rattle.ethernet_arp.specs.declared.arp.Arp.{Arp}
-use Rattle.ethernet_arp.specs.declared.taking.Sorted.{Sorted}
-use Rattle.ethernet_arp.specs.declared.taking.Sorted.TheVariants as sorted
-use Rattle.ethernet_arp.specs.declared.taking.Taken.{Taken}
-use Rattle.ethernet_arp.specs.declared.taking.Taken.TheVariants as taken
+use Rattle.ethernet_arp.specs.declared.received.Sorted.{Sorted}
+use Rattle.ethernet_arp.specs.declared.received.Sorted.TheVariants as sorted
+use Rattle.ethernet_arp.specs.declared.received.Taken.{Taken}
+use Rattle.ethernet_arp.specs.declared.received.Taken.TheVariants as taken
 
 -- What a payload of this kind decodes to.
 abbrev pub came_of : List ℕ → Sorted → List (MediumInput Act)

@@ -6,9 +6,9 @@ ghost use Rattle.ethernet_arp.specs.Prelude.{framed, arp_reply, wrapped, Act, Kn
 use crate::arp::Arp;
 use crate::mac::Mac;
 use crate::packets::put_prefix;
+use crate::received::reply;
+use crate::sent::wrap;
 use crate::sizes::{ARP_FRAME, LARGEST_FRAMED, SMALLEST_DATAGRAM};
-use crate::taking::reply;
-use crate::wrapping::wrap;
 use uip_wire::{Addr, LARGEST_DATAGRAM, put16};
 
 /// Writes the frame for a datagram after its length, and returns how many bytes these are.

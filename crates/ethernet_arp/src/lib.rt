@@ -4,20 +4,20 @@
 
 mod arp;
 mod ether_line;
+mod ether_loop;
 mod frame_part;
 mod framing;
 mod laws;
 mod mac;
 mod packets;
-mod serving;
+mod received;
+mod sent;
 mod sizes;
-mod taking;
-mod wrapping;
 
 pub use arp::Arp;
+pub use ether_loop::serve_ether;
 pub use laws::{constant_values, datagrams_fit_frames, datagrams_go_home, frames_bring_bytes};
 pub use mac::Mac;
-pub use serving::serve_ether;
+pub use received::{Taken, take};
+pub use sent::wrap;
 pub use sizes::{ARP_ENTRIES, ARP_FRAME, ARP_TICKS, LARGEST_FRAME, SMALLEST_FRAME};
-pub use taking::{Taken, take};
-pub use wrapping::wrap;

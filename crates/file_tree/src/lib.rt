@@ -4,27 +4,27 @@
 #![tactic(auto)]
 
 mod entry_place;
+mod entry_writer;
 mod file_id;
 mod image;
 mod index;
 mod kind_word;
 mod load_fault;
-mod loading;
-mod packing;
+mod packer;
 mod pages;
-mod reading;
+mod shelf_reader;
 mod site;
 mod table;
-mod upgrading;
-mod writing;
+mod table_reader;
+mod upgrader;
 
 pub use file_id::FileId;
 pub use image::Image;
 pub use kind_word::KindWord;
 pub use load_fault::LoadFault;
-pub use loading::read_file;
-pub use packing::{Entry, pack};
+pub use packer::{Entry, pack};
+pub use shelf_reader::read_file;
 pub use site::{FlashSite, Site, SiteOf};
 pub use site_image::{LONGEST_IMAGE, Place, SiteError, SiteWhy, content_kind};
 pub use uip_edge::Held;
-pub use upgrading::upgrade;
+pub use upgrader::upgrade;

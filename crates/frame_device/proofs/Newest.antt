@@ -7,7 +7,7 @@ use Rattle.uip_node.proofs.FitNodes.{FitNode, closed_fits, event_fits}
 use Rattle.uip_node.proofs.Fits.{FitConn}
 use Rattle.node_laws.proofs.Lines.{Comes, OfMedium, comes}
 use Rattle.node_laws.proofs.Lines.OfMedium.{born, evicted, delivers_text, passes_by, refused, ticks, unanswered}
-use Rattle.node_laws.proofs.Lives.{Good, Onward, begins_by, goes_on}
+use Rattle.node_laws.proofs.IncarnationStep.{Good, Onward, begins_by, goes_on}
 use Rattle.node_laws.proofs.Receiving.{keeps_account, keeps_text}
 use Rattle.node_laws.proofs.Steps.{Changes, IsStep, LineStep, OfNode, changed, trace_over}
 use Rattle.node_laws.proofs.Wire.{line_wire, wire_event}

@@ -2,9 +2,9 @@
 //! so a retransmission is identical. No call is passed an allocator.
 #![tactic(auto)]
 
+mod call_record;
 mod capture;
 mod cells;
-mod gives;
 mod laws;
 mod numbers;
 mod packed;
@@ -16,8 +16,8 @@ mod text;
 mod uip;
 mod written;
 
+pub use call_record::CallRecord;
 pub use capture::{Capture, take};
-pub use gives::CallRecord;
 pub use laws::texts_are_short;
 pub use packed::pack_rows;
 pub use packed_rows::{PackedRow, PackedRows};

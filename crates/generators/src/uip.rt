@@ -1,5 +1,5 @@
+use crate::call_record::CallRecord;
 use crate::capture::{Capture, take};
-use crate::gives::CallRecord;
 use crate::text::{fill_at, text_len};
 use app_events::Now;
 use script_lang::Function;

@@ -22,9 +22,9 @@ pub use Rattle.httpd.specs.Saying.{IsDueReply, IsNotDue, left_text, left_whole, 
 pub use Rattle.httpd.specs.Web.{WebContent}
 pub use Rattle.httpd.specs.Zero.{IsAsked}
 pub use Rattle.httpd.specs.declared.compact.CompactPages.{CompactPages}
-pub use Rattle.httpd.specs.declared.hearing.Received.{Received}
+pub use Rattle.httpd.specs.declared.request.Received.{Received}
 pub use Rattle.httpd.specs.declared.httpd.Pages.{Pages}
-pub use Rattle.httpd.specs.declared.saying.Due.{Due}
+pub use Rattle.httpd.specs.declared.reply.Due.{Due}
 pub use Rattle.httpd.specs.declared.span.Look.{Look}
 pub use Rattle.httpd.specs.declared.span.Span.{Span}
 pub use Rattle.httpd.specs.declared.stage.Stage.{Stage}

@@ -11,8 +11,8 @@ use Rattle.httpd.specs.declared.stage.Stage.{Stage}
 use Rattle.httpd.specs.declared.stage.Stage.TheVariants as stage
 use Rattle.httpd.specs.Reply.{found_file}
 use Rattle.httpd.specs.Places.{IsFound}
-use Rattle.httpd.specs.declared.hearing.Received.{Received}
-use Rattle.httpd.specs.declared.hearing.Received.TheVariants as delivered
+use Rattle.httpd.specs.declared.request.Received.{Received}
+use Rattle.httpd.specs.declared.request.Received.TheVariants as delivered
 
 -- The first word has not ended, and the buffer keeps it.
 pub record ReceivesMethod (line : Line) (request : List ℕ) : Type 0 where

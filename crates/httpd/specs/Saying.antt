@@ -4,7 +4,7 @@ use Rattle.app_events.specs.declared.want.Want.{Want}
 use Rattle.app_events.specs.declared.want.Want.TheVariants.{Nothing, Send, Close}
 use Rattle.web_pages.specs.Prelude.{Say, reach_by, text_by}
 use Rattle.web_pages.specs.declared.TheConstants.{LARGEST_SEGMENT}
-use Rattle.httpd.specs.declared.saying.Due.{Due}
+use Rattle.httpd.specs.declared.reply.Due.{Due}
 use Rattle.httpd.specs.declared.thread.Thread.{Thread}
 use Rattle.httpd.specs.Reply.{FileReply, left_from}
 use Rattle.httpd.specs.Looking.{IsPast, SeesCall}

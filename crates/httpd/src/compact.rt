@@ -10,8 +10,8 @@ ghost use Rattle.httpd.specs.Compact.{CompactRepresent, ReceivesWord, is_target_
 ghost use Rattle.httpd.specs.Hearing.{IsDecided};
 ghost use Rattle.httpd.specs.Web.{IsCounted};
 
-use crate::hearing::{decide, receive_method, receive_target};
-use crate::saying::{acked_reply, due_call, fill_reply, want_reply};
+use crate::reply::{acked_reply, due_call, fill_reply, want_reply};
+use crate::request::{decide, receive_method, receive_target};
 use crate::stage::Stage;
 use crate::texts::is_scripted;
 use crate::thread::Thread;

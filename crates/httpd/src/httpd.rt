@@ -9,8 +9,8 @@ ghost use Rattle.web_pages.specs.declared.TheConstants.{MOST_POLLS};
 ghost use Rattle.httpd.specs.HttpdRepresents.{Becomes, PagesRepresent, TakesNoCapture, before_input, hits_after};
 ghost use Rattle.httpd.specs.Web.{IsCounted};
 
-use crate::hearing::{decide, receive_method, receive_target};
-use crate::saying::{acked_reply, due_call, fill_reply, want_reply};
+use crate::reply::{acked_reply, due_call, fill_reply, want_reply};
+use crate::request::{decide, receive_method, receive_target};
 use crate::stage::Stage;
 use crate::texts::is_scripted;
 use crate::thread::Thread;

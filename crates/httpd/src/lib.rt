@@ -4,10 +4,10 @@
 #![tactic(auto)]
 
 mod compact;
-mod hearing;
 mod httpd;
-mod looking;
-mod saying;
+mod next_span;
+mod reply;
+mod request;
 mod span;
 mod stage;
 mod texts;

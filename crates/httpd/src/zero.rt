@@ -11,8 +11,8 @@ ghost use Rattle.httpd.specs.Reply.{found_file};
 ghost use Rattle.httpd.specs.Zero.{IsAsked};
 ghost use Rattle.uip_edge.specs.Prelude.{Writes, sink_view};
 
-use crate::hearing::{Received, file_asked, receive_target};
-use crate::looking::look;
+use crate::next_span::look;
+use crate::request::{Received, file_asked, receive_target};
 use crate::span::{Span, span_len, write_span};
 use crate::texts::LONGEST_TEXT;
 use crate::thread::Thread;

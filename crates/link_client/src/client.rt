@@ -7,7 +7,7 @@ ghost use Rattle.link_client.specs.Client.{client_aborts, client_again, client_c
 
 use crate::client_state::ClientState;
 use crate::fin_at::FinAt;
-use crate::hearing::receive;
+use crate::input::receive;
 use crate::setup::Setup;
 use crate::steps::took;
 use crate::took::Took;

@@ -5,8 +5,8 @@
 mod client;
 mod client_state;
 mod fin_at;
-mod hearing;
-mod sending;
+mod input;
+mod output;
 mod setup;
 mod steps;
 mod took;

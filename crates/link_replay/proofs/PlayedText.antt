@@ -1,7 +1,7 @@
 -- What is due for a schedule that was played by the server of a site.
 use Rattle.link_replay.proofs.Prelude.{All, ◌≡◌, ℕ, List, Result, Ok, Err, length, sym, subst, refl, inl, inr, ap, ◌∙◌, Bool, lit<, All-replicate, AppSpec, IsByte, IsPaged, IsU32, Pages, SiteContent, IsLoaded, files_of, File, pages_of, web_spec, keeps_page_laws, ReadsSchedule, IfOk, MatchResult, Some, slice_get, BadText, SchedulePlan, read_text, ReadSchedule, Bad, HasBytes, plays, World, plan_from, PlaysSchedule, Reaches, Refuses, IsAt, bad_schedule, outcome, is_served, no_hits, WritesDue, IsPlayDue, IsTextDue, WritesFault, reported_of, HasReached, ServesHonest, KeepsPromises, ReplayEnd, Telling, Report, Planned, IsPlanned, WritesEnd, SinkView}
 use Rattle.link_schedule.specs.declared.read_schedule.ReadSchedule.TheVariants.{NoMemory}
-use Rattle.link_replay.specs.declared.replay_end.ReplayEnd.TheVariants as ends
+use Rattle.link_replay.specs.declared.commands.replay_end.ReplayEnd.TheVariants as ends
 use Rattle.link_replay.proofs.Honest.{honest_at}
 use Rattle.link_replay.proofs.Kept.{has_bytes, keeps_promises}
 

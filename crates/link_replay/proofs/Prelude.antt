@@ -14,14 +14,14 @@ pub use Rattle.link_client.specs.declared.client_state.ClientState.{ClientState}
 pub use Rattle.link_client.specs.declared.client_state.ClientState.TheVariants.{Idle}
 pub use Rattle.link_client.specs.declared.setup.Setup.{Setup}
 pub use Rattle.link_replay.specs.Prelude.{AbortAndCloseApart, ActSteps, ActsEnd, AnswersTo, AppendsShown, AreFresh, AreTo, AreWorkedReplays, AreWorkedReports, AreWorkedSummaries, ClosesInTime, CodeSent, CodeSide, CodeWorld, DamageLoses, EndsReport, EndsWith, Follows, FromHere, HasReached, HitsAreCounted, HonestPages, HonestReplay, HonestWebPeer, IsAt, IsAtLast, IsFresh, IsHonest, IsLink, IsLoadText, IsPlayDue, IsReplayText, IsShort, IsTextDue, IsTo, KeepsPromises, LacksEither, LinesEnd, Link, LinkRepresents, LoadEnds, LoadIsReported, Matched, OnlyEpoch, OnlyFull, PagesAreReceived, PlaysSchedule, PostsOfClient, PostsReply, Reaches, Refuses, ReplayEnds, ReplayIsReported, SentRepresents, ServesHonest, ShownSide, SideRepresents, Stepped, Stops, StopsAt, WritesFault, WorldRepresents, WritesDue, WritesText, Wrote, WroteDue, bad_schedule, becomes_hit, buried, client_line, client_reported, code_side_shown, column, counts_line, datagram_line, digits_or_dash, event_at, gone_pair, hits_over, is_at_end, is_place, is_sent_again, kind_sent, line_of_datagram, lines_of_client, link_of, lost, lost_at, most_of, numbered_texts, one_hits, opening_for, or_pair, outcome, own_step, owner, owner_in, pair_at, pair_at_side, parts_of, pieces_for, plan_from, planned, refusal_at, report, resent, rounds_for, sees, segment_kind, server, side_shown, sockets_at, sockets_for, summary_of, tally_line, tally_of, text_line, texts_for, texts_of, reported_of}
-pub use Rattle.link_replay.specs.declared.kind.Kind.{Kind}
-pub use Rattle.link_replay.specs.declared.kind.Kind.TheVariants.{EchoReply}
-pub use Rattle.link_replay.specs.declared.own.Own.{Own}
-pub use Rattle.link_replay.specs.declared.replay_end.ReplayEnd.{ReplayEnd}
-pub use Rattle.link_replay.specs.declared.socket_pair.SocketPair.{SocketPair}
-pub use Rattle.link_replay.specs.declared.tally.Tally.{Tally}
-pub use Rattle.link_replay.specs.declared.told_as.Telling.{Telling}
-pub use Rattle.link_replay.specs.declared.told_as.Telling.TheVariants.{Report, Summary}
+pub use Rattle.link_replay.specs.declared.report.kind.Kind.{Kind}
+pub use Rattle.link_replay.specs.declared.report.kind.Kind.TheVariants.{EchoReply}
+pub use Rattle.link_replay.specs.declared.world.client_steps.Own.{Own}
+pub use Rattle.link_replay.specs.declared.commands.replay_end.ReplayEnd.{ReplayEnd}
+pub use Rattle.link_replay.specs.declared.world.socket_pair.SocketPair.{SocketPair}
+pub use Rattle.link_replay.specs.declared.report.tally.Tally.{Tally}
+pub use Rattle.link_replay.specs.declared.commands.output_form.Telling.{Telling}
+pub use Rattle.link_replay.specs.declared.commands.output_form.Telling.TheVariants.{Report, Summary}
 pub use Rattle.link_schedule.proofs.Keeping.{kept_where_read, lines_keep, of_words}
 pub use Rattle.link_schedule.proofs.Kept.{anything, behind, either, tested, within_range}
 pub use Rattle.link_schedule.specs.Answer.{ReadsSchedule}
@@ -47,10 +47,10 @@ pub use Rattle.link_world.proofs.Honest.{honest_link}
 pub use Rattle.link_world.proofs.HonestNode.{mss_low}
 pub use Rattle.link_world.proofs.Lines.{line_acts, lines_are_acts, runs_joined, runs_mark}
 pub use Rattle.link_world.proofs.NodeRuns.{every}
-pub use Rattle.link_world.proofs.Prefix.{prefix_and_whole}
+pub use Rattle.link_world.proofs.PrefixAndWhole.{prefix_and_whole}
 pub use Rattle.link_world.proofs.Reading.{bytes_are_read}
 pub use Rattle.link_world.proofs.Runs.{reached_sound}
-pub use Rattle.link_world.proofs.Same.{again_exactly, same_bytes}
+pub use Rattle.link_world.proofs.RetransmissionInvariant.{again_exactly, same_bytes}
 pub use Rattle.link_world.proofs.Senders.{sent_to_clients}
 pub use Rattle.link_world.proofs.Sides.{addressed_is}
 pub use Rattle.link_world.proofs.SoundWorlds.{SoundWorld, sound_marked}

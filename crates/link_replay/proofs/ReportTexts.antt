@@ -1,6 +1,6 @@
 -- The prefix of a text that is read of its file shows all that the whole text does.
 use Rattle.link_replay.proofs.Prelude.{◌≡◌, ℕ, ◌+◌, List, length, take, Result, Ok, Err, Option, Some, None, refl, sym, ap, subst, ◌∙◌, inl, inr, Bool, arith, IsSomeAnd, nat_le, ◌==◌, if◌then◌else◌, MatchResult, ⊤, slice_split, cases_lt, lt-leb, take_all, length-take-le, HoldsFile, File, FindsInFiles, site_read, Files, BadText, SchedulePlan, nothing_yet, read_lines, read_text, Long, bad_schedule, IsReplayText, IsPlayDue, IsTextDue, Telling, Report, ReplayEnd}
-use Rattle.link_replay.specs.declared.replay_end.ReplayEnd.TheVariants as ends
+use Rattle.link_replay.specs.declared.commands.replay_end.ReplayEnd.TheVariants as ends
 
 -- a text that is longer than the limit is so by one byte more than it
 cut_at : {R : Type 0} (n : ℕ) (f : List ℕ → R) (r : R) (content : List ℕ)

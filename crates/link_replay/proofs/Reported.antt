@@ -1,6 +1,6 @@
 -- A text that was written ends the replay as is due.
 use Rattle.link_replay.proofs.Prelude.{◌≡◌, ℕ, List, Option, Ok, Err, sym, subst, refl, inl, inr, Bool, ⊤, HoldsFile, File, SiteError, FindsInFiles, LacksFile, site_read, Files, bad_line, EndsWith, IsLoadText, IsReplayText, LacksEither, LoadEnds, ReplayEnds, WritesDue, IsPlayDue, IsShort, IsTextDue, WritesText, ReplayEnd, Summary, workload_of, WorkView, WritesEnd, WritesAll}
-use Rattle.link_replay.specs.declared.replay_end.ReplayEnd.TheVariants as ends
+use Rattle.link_replay.specs.declared.commands.replay_end.ReplayEnd.TheVariants as ends
 use Rattle.link_replay.proofs.ReportTexts.{IsProperPrefixOf, holds_file, is_text, text_ends}
 
 pub same_work : (old new : WorkView) → new.shelf.held ≡ old.shelf.held → new.sink ≡ old.sink → new.shelf.faults ≡ old.shelf.faults → new ≡ old

@@ -14,10 +14,10 @@ use Rattle.link_replay.specs.Summary.{summary_of}
 use Rattle.link_replay.specs.Honest.{IsHonest}
 use Rattle.link_replay.specs.Outcome.{bad_schedule, outcome}
 use Rattle.link_replay.specs.Promises.{KeepsPromises}
-use Rattle.link_replay.specs.declared.replay_end.ReplayEnd.{ReplayEnd}
-use Rattle.link_replay.specs.declared.replay_end.ReplayEnd.TheVariants as ends
-use Rattle.link_replay.specs.declared.told_as.Telling.{Telling}
-use Rattle.link_replay.specs.declared.told_as.Telling.TheVariants.{Report, Summary}
+use Rattle.link_replay.specs.declared.commands.replay_end.ReplayEnd.{ReplayEnd}
+use Rattle.link_replay.specs.declared.commands.replay_end.ReplayEnd.TheVariants as ends
+use Rattle.link_replay.specs.declared.commands.output_form.Telling.{Telling}
+use Rattle.link_replay.specs.declared.commands.output_form.Telling.TheVariants.{Report, Summary}
 
 -- the text reported about a world
 abbrev pub reported_of : Telling → World → List ℕ

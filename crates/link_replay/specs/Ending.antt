@@ -6,9 +6,9 @@ use Rattle.site_image.specs.declared.site_error.SiteError.{SiteError}
 use Rattle.site_report.specs.Prelude.{bad_line}
 use Rattle.uip_edge.specs.Prelude.{Rose, Files, IsMissing, WritesAll, WritesPrefix, SinkView, WorkView}
 use Rattle.link_replay.specs.Due.{IsPlayDue, IsTextDue}
-use Rattle.link_replay.specs.declared.replay_end.ReplayEnd.{ReplayEnd}
-use Rattle.link_replay.specs.declared.replay_end.ReplayEnd.TheVariants as ends
-use Rattle.link_replay.specs.declared.told_as.Telling.TheVariants.{Summary}
+use Rattle.link_replay.specs.declared.commands.replay_end.ReplayEnd.{ReplayEnd}
+use Rattle.link_replay.specs.declared.commands.replay_end.ReplayEnd.TheVariants as ends
+use Rattle.link_replay.specs.declared.commands.output_form.Telling.TheVariants.{Summary}
 use Rattle.workload.specs.Prelude.{workload_of}
 
 -- A text that is due was written with this end, and the fault counter of the shelf is unchanged.

@@ -4,7 +4,7 @@ use Rattle.tcp_machine.specs.Prelude.{Sockets, same_sockets}
 use Rattle.link_client.specs.declared.setup.Setup.{Setup}
 use Rattle.link_replay.specs.Noting.{sockets_at}
 use Rattle.link_replay.specs.Plain.{CodeSide as Side}
-use Rattle.link_replay.specs.declared.socket_pair.SocketPair.{SocketPair}
+use Rattle.link_replay.specs.declared.world.socket_pair.SocketPair.{SocketPair}
 
 -- the sockets of the server's connection with a client
 abbrev pub sockets_for : Setup → Sockets

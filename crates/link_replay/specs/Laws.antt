@@ -14,9 +14,9 @@ use Rattle.link_schedule.specs.declared.why.Why.TheVariants.{Full}
 use Rattle.workload.specs.Prelude.{workload_of}
 use Rattle.link_replay.specs.Ending.{IsLoadText, IsReplayText, LacksEither, LoadEnds, ReplayEnds}
 use Rattle.link_replay.specs.Outcome.{IsPlayed, outcome}
-use Rattle.link_replay.specs.declared.replay_end.ReplayEnd.{ReplayEnd}
+use Rattle.link_replay.specs.declared.commands.replay_end.ReplayEnd.{ReplayEnd}
 use Rattle.uip_edge.specs.Prelude.{WorkView, WorkUnfailed}
-use Rattle.link_replay.specs.declared.replay_end.ReplayEnd.TheVariants as ends
+use Rattle.link_replay.specs.declared.commands.replay_end.ReplayEnd.TheVariants as ends
 
 -- The whole text due with the end was written, or memory ran out.
 abbrev pub WroteDue : (List ℕ → ReplayEnd → Type 0) → WorkView → WorkView → ReplayEnd → Type 0

@@ -6,8 +6,8 @@ use Rattle.tcp_table.specs.declared.conn.Conn.{Conn}
 use Rattle.tcp_machine.specs.Prelude.{Connection, Sockets, is_live}
 use Rattle.uip_node.specs.Prelude.{raises, times, HistoryEntry, Reply, Echo, TcpReply, AbstractNode}
 use Rattle.uip_node.specs.declared.counter.TheConstants.{TCP_AGAIN}
-use Rattle.link_replay.specs.declared.before.Before.{Before}
-use Rattle.link_replay.specs.declared.socket_pair.SocketPair.{SocketPair}
+use Rattle.link_replay.specs.declared.world.before_call.Before.{Before}
+use Rattle.link_replay.specs.declared.world.socket_pair.SocketPair.{SocketPair}
 
 abbrev pub sockets_at : SocketPair → Sockets
 sockets_at pair = record { peer = pair.peer; peer_port = pair.peer_port; own_port = pair.own_port }

@@ -2,8 +2,8 @@
 use Rattle.std.specs.Prelude.{ℕ, Option, List}
 use Rattle.link_client.specs.Prelude.{Sends, AbstractClient, ClientStep, client_opens, client_again, client_closes, client_aborts}
 use Rattle.link_world.specs.Prelude.{Side, with_client}
-use Rattle.link_replay.specs.declared.own.Own.{Own}
-use Rattle.link_replay.specs.declared.own.Own.TheVariants as own
+use Rattle.link_replay.specs.declared.world.client_steps.Own.{Own}
+use Rattle.link_replay.specs.declared.world.client_steps.Own.TheVariants as own
 use Rattle.link_replay.specs.Plain.{CodeSide}
 use Rattle.link_replay.specs.Represents.{SideRepresents}
 

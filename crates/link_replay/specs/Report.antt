@@ -10,8 +10,8 @@ use Rattle.link_client.specs.declared.client_state.ClientState.TheVariants.{Idle
 use Rattle.link_world.specs.Prelude.{World, Side, Sent, Content, OfSegment, OfPing, OfEcho}
 use Rattle.link_world.specs.declared.who.Who.{Who}
 use Rattle.link_world.specs.declared.who.Who.TheVariants.{FromClient, FromNode, Pinger}
-use Rattle.link_replay.specs.declared.kind.Kind.{Kind}
-use Rattle.link_replay.specs.declared.kind.Kind.TheVariants.{Segment, EchoRequest, EchoReply}
+use Rattle.link_replay.specs.declared.report.kind.Kind.{Kind}
+use Rattle.link_replay.specs.declared.report.kind.Kind.TheVariants.{Segment, EchoRequest, EchoReply}
 
 -- the sender, or for a datagram of the node the client that receives it
 abbrev pub who_word : Who → List ℕ

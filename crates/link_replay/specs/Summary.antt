@@ -3,7 +3,7 @@ use Rattle.std.specs.Prelude.{ℕ, Bool, List, ◌++◌, ◌==◌, length, map, 
 use Rattle.link_world.specs.Prelude.{World}
 use Rattle.link_replay.specs.Kinds.{column}
 use Rattle.link_replay.specs.Report.{ShownSide, side_shown}
-use Rattle.link_replay.specs.declared.tally.Tally.{Tally}
+use Rattle.link_replay.specs.declared.report.tally.Tally.{Tally}
 
 -- The counts of a summary: the clients by their states, those that are not clean, the bytes of all pages, the datagrams, and the
 -- retransmissions.

@@ -1,7 +1,7 @@
 -- The receiver of a reply of the node.
 use Rattle.std.specs.Prelude.{◌≡◌, ℕ, Option, Some, None, ⊤}
 use Rattle.uip_node.specs.Prelude.{Reply, Echo, TcpReply}
-use Rattle.link_replay.specs.declared.socket_pair.SocketPair.{SocketPair}
+use Rattle.link_replay.specs.declared.world.socket_pair.SocketPair.{SocketPair}
 use Rattle.link_world.specs.Prelude.{World, Side, Sent, marked, numbered, client_sockets, with_side}
 use Rattle.link_world.specs.declared.who.Who.{Who}
 use Rattle.link_world.specs.declared.who.Who.TheVariants.{FromClient, FromNode, Pinger}

@@ -8,16 +8,35 @@ ghost use Rattle.link_world.specs.Prelude.{IsAct, OfLine};
 ghost use Rattle.link_replay.specs.Prelude.{FromHere, WorldRepresents};
 ghost use Rattle.link_replay.specs.Reaching.{ActsEnd, IsNamed, ActSteps, Stops};
 
-use crate::acts::{acts_of, mark_after};
-use crate::faults::fault_of;
-use crate::sent::Sent;
-use crate::side::Side;
+use crate::world::faults::fault_of;
+use crate::world::line_acts::{acts_of, mark_after};
+use crate::world::sent::Sent;
+use crate::world::side::Side;
 use app_events::App;
 use httpd::Httpd;
 use link_schedule::Event;
 use link_world::{Act, StepFault};
 use std::marker::Model;
 use uip_node::Node;
+
+pub(crate) mod act_effects;
+pub(crate) mod before_call;
+pub(crate) mod call_effects;
+pub(crate) mod client_acts;
+pub(crate) mod client_steps;
+pub(crate) mod faults;
+pub(crate) mod initial;
+pub(crate) mod line_acts;
+pub(crate) mod marks;
+pub(crate) mod readers;
+pub(crate) mod schedule_play;
+pub(crate) mod sent;
+pub(crate) mod sent_list;
+pub(crate) mod side;
+pub(crate) mod site_facts;
+pub(crate) mod socket_pair;
+pub(crate) mod sockets;
+pub(crate) mod value_facts;
 
 /// The world of a replay, for any application.
 #[derive(Drop)]

@@ -9,10 +9,10 @@ mod laws;
 mod line;
 mod numbers;
 mod read_schedule;
-mod reading;
 mod refusal;
 mod requests;
 mod schedule;
+mod schedule_reader;
 mod sides;
 #[cfg(test)]
 mod tests;

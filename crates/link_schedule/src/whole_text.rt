@@ -6,9 +6,9 @@ ghost use Rattle.link_schedule.specs.Reading.{nothing_yet, read_lines as lines_m
 ghost use Rattle.link_schedule.specs.Represents.{reported};
 
 use crate::read_schedule::ReadSchedule;
-use crate::reading::read_line;
 use crate::refusal::Refusal;
 use crate::schedule::Schedule;
+use crate::schedule_reader::read_line;
 use std::alloc::Global;
 
 /// Reads the lines in turn, up to the first bad one.

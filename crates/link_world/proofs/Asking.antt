@@ -2,7 +2,7 @@
 -- premise on the other side.
 use Rattle.link_world.proofs.Prelude.{◌≡◌, ℕ, ◌+◌, ◌-◌, ◌<◌, ◌≤◌, min, Bool, true, false, not, ◌&&◌, ◌||◌, ◌⊎◌, inl, inr, List, length, length-append, drop, refl, sym, ap, ◌∙◌, arith, Some, eqb, ltb, length-take, if◌then◌else◌, wrap, PlainSegment, has_syn, has_fin, has_rst, has_ack, Beat, AppState, After, AppSpec, Pages, IsPaged, Now, State, Closed, SynRcvd, Established, CloseWait, FinWait1, FinWait2, Closing, TimeWait, LastAck, Connection, rcv_nxt, occupies_sequence_space, segment_of, Outcome, ask, asked, prepared, is_out_of_order, is_acked, has_text, delivers_text, connects, in_established, peer_closes, stays_established, fin_acked, fin_waits, by_state, on_segment, by_beat, on_tick, Step, AbstractClient, ClientStep, ack_of, client_aborts, client_again, client_closes, client_opens, client_takes, fin_out, fin_sent, has_outstanding, receives_ack, is_receiving, keeps, may_finish, next_own, one_if, opened_by, own_fin, own_first, own_request, own_reset, sends_next, steps_with, syn_of, takes_in_order, takes_text, advertises_window, ClientState, FinAt, choose, and_true, and_false, only_some, eqb-eq, not-false, not-true, ltb-zero, same_place, hears_is, asked_by, on_tick_by, wanted_unmoved}
 use Rattle.link_client.specs.declared.client_state.ClientState.TheVariants as Is
-use Rattle.link_world.proofs.Good.{Steady, is_early}
+use Rattle.link_world.proofs.CleanClientInvariant.{Steady, is_early}
 use Rattle.link_world.proofs.ClientCases.{of_aborts, of_again, of_closes, of_opens, of_order, of_sends, of_takes}
 
 -- how many bytes of its request the client has sent

@@ -3,19 +3,19 @@
 use Rattle.link_world.proofs.Prelude.{◌≡◌, ℕ, zero, suc, ◌+◌, ◌<◌, ◌≤◌, Bool, true, false, inl, inr, List, [], ◌∷◌, ◌++◌, length, map, refl, sym, ap, ◌∙◌, subst, arith, Option, Some, None, Result, Ok, Err, slice_get, is_some, length-append, length-take, length-drop, cases_lt, option_map_or, Addr, AppSpec, Pages, IsPaged, IsAddr, echo_reply, PlainSegment, has_syn, has_fin, has_rst, Connection, closed, is_live, Outcome, asked, on_segment, on_tick, ClientStep, World, Side, Sent, marked, OfSegment, client_bytes, node_bytes, bytes_by, does, runs, BadLine, acts_of, mark_after, plays_from, Round, Twice, Reverse, Half, Lose, Act, StepFault, Who, FromClient, FromNode, Pinger, Planned, fresh_side, initial_world, planned_of, started, IsSentBy, IsLater, AcknowledgedLater, MarkIsLow, NoneIsEmpty, SidesAsPlanned, steady_of, whole_length}
 use Rattle.link_schedule.specs.declared.event.Event.{Event}
 use Rattle.link_world.proofs.Doing.{goes_on_with, with_mark}
-use Rattle.link_world.proofs.Good.{seg, from, to}
-use Rattle.link_world.proofs.Any.{Framed, Steps, Refines, any_step, older, does_framed}
+use Rattle.link_world.proofs.CleanClientInvariant.{seg, from, to}
+use Rattle.link_world.proofs.OneClientFact.{Framed, Steps, Refines, any_step, older, does_framed}
 use Rattle.link_world.proofs.Growing.{Grows, does_grows, grows_not, grows_on}
 use Rattle.link_world.proofs.Parts.{clean_parts}
-use Rattle.link_world.proofs.Prefix.{all_good}
+use Rattle.link_world.proofs.PrefixAndWhole.{all_good}
 use Rattle.link_world.proofs.Reading.{to_node, to_client, to_node_place, to_client_place, ping_long}
 use Rattle.link_world.proofs.Runs.{reached_on, reached_sound, run_keeps}
-use Rattle.link_world.proofs.Same.{get_older}
+use Rattle.link_world.proofs.RetransmissionInvariant.{get_older}
 use Rattle.link_world.proofs.Senders.{IsAsked, has_senders, sent_to_clients}
 use Rattle.link_world.proofs.Sound.{IsSoundClient}
 use Rattle.link_world.proofs.SoundWorlds.{SoundWorld}
 use Rattle.link_world.proofs.SoundWorlds.SoundSent.{of_segment, of_ping, of_echo}
-use Rattle.link_world.proofs.Whole.{ping_back}
+use Rattle.link_world.proofs.ReadBack.{ping_back}
 
 -- ---- the mark
 

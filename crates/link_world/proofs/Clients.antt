@@ -4,9 +4,9 @@ use Rattle.link_client.specs.declared.client_state.ClientState.TheVariants as Is
 use Rattle.link_world.proofs.Speaking.{Speaker, HasOutputModel}
 use Rattle.link_world.proofs.Counts.{reset_becomes, same_becomes}
 use Rattle.link_world.proofs.Later.{node_later}
-use Rattle.link_world.proofs.Good.{is_some, seg, NodeSaid, IsText, IsFin, ClientSaid, IsData, Steady, NotOpened, HasOpened, OpenedGood, ToGood, TookGood, is_unasked, is_early}
-use Rattle.link_world.proofs.Good.ClientSaid.{said_reset, said_syn, said_data}
-use Rattle.link_world.proofs.Good.NodeSaid.{node_reset, node_syn, node_ack, node_text, node_fin}
+use Rattle.link_world.proofs.CleanClientInvariant.{is_some, seg, NodeSaid, IsText, IsFin, ClientSaid, IsData, Steady, NotOpened, HasOpened, OpenedGood, ToGood, TookGood, is_unasked, is_early}
+use Rattle.link_world.proofs.CleanClientInvariant.ClientSaid.{said_reset, said_syn, said_data}
+use Rattle.link_world.proofs.CleanClientInvariant.NodeSaid.{node_reset, node_syn, node_ack, node_text, node_fin}
 
 -- the client with other counts of its own
 abbrev recounted : AbstractClient → ℕ → ℕ → FinAt → AbstractClient

@@ -6,7 +6,7 @@ use Rattle.link_world.proofs.Loss.{same_world, loses}
 use Rattle.link_world.proofs.Sound.{IsSoundClient}
 use Rattle.link_world.proofs.SoundWorlds.{SoundSent, SoundWorld}
 use Rattle.link_world.proofs.SoundWorlds.SoundSent.{of_segment, of_ping, of_echo}
-use Rattle.link_world.proofs.Whole.{datagram_whole, ping_whole}
+use Rattle.link_world.proofs.ReadBack.{datagram_whole, ping_whole}
 
 -- what a datagram's bytes are: whole, none at all, or meant for nobody
 pub data Bytes (w : World) (who : Who) (content : Content) : Type 0 where

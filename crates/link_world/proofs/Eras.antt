@@ -1,13 +1,13 @@
 -- The epochs of a client: how many there are, and that each has one connection.
 use Rattle.link_world.proofs.Prelude.{All, ◌≡◌, ℕ, ◌+◌, ◌≤◌, Bool, true, false, List, [], ◌∷◌, ◌++◌, length, replicate, refl, sym, ap, ◌∙◌, subst, arith, Some, slice_get, Addr, has_syn, has_fin, has_rst, AppSpec, Pages, IsPaged, IsNow, IsU32, Now, Sockets, Connection, closed, is_live, is_plain_syn, syn_ack, Outcome, asked, accepted, on_segment, on_tick, ClientStep, one_if, World, Side, Sent, PastConnection, client_sockets, is_clean, marked, past_connection_of, Planned, IsPlan, fresh_side, initial_world, serving, IsReached, server_side, IsLater, OneConnection, EpochsAreFew, steady_of, FitConn, asked_moves, segment_moves, tick_moves, none_serves, get_map, serving_free}
-use Rattle.link_world.proofs.Good.{seg, from, to}
+use Rattle.link_world.proofs.CleanClientInvariant.{seg, from, to}
 use Rattle.link_world.proofs.Rounds.{one_longer}
 use Rattle.link_world.proofs.Runs.{reached, reached_on}
 use Rattle.link_world.proofs.Views.{length_push}
-use Rattle.link_world.proofs.Any.{Framed, Steps, Refines, any_step, older, model, entry, does_framed}
+use Rattle.link_world.proofs.OneClientFact.{Framed, Steps, Refines, any_step, older, model, entry, does_framed}
 use Rattle.link_world.proofs.TextNumbers.{Num, accepted_num, closed_num, segment_num, tick_num}
-use Rattle.link_world.proofs.Prefix.{everywhere}
-use Rattle.link_world.proofs.Prefix
+use Rattle.link_world.proofs.PrefixAndWhole.{everywhere}
+use Rattle.link_world.proofs.PrefixAndWhole
 
 small : (b : Bool) → one_if b ≤ 1
 small true = omega arith
@@ -71,7 +71,7 @@ module _ (m : AppSpec) where
 
   few_opening : (pages : Pages) → IsPaged m pages → (addr : Addr) (numbers : List ℕ) (plan : List Planned) → IsPlan plan → Framed m Few few_other few_reset few_evict few_mark (initial_world addr numbers plan)
   few_opening pages lawful addr numbers plan is =
-      let b = Prefix.opening_framed m (everywhere m pages lawful) addr numbers plan is in
+      let b = PrefixAndWhole.opening_framed m (everywhere m pages lawful) addr numbers plan is in
       record {
         apart = b.apart;
         single = b.single;
@@ -177,7 +177,7 @@ module _ (m : AppSpec) where
       (λ w iss sockets k j side e own sent who fresh plain fit g tick id. accepted_num iss sockets (seg e))
       (any_step m Numbered num_other num_reset num_evict num_mark num_takes)
       v act harm g fits)
-      (λ addr numbers plan is. let b = Prefix.opening_framed m (everywhere m pages lawful) addr numbers plan is in
+      (λ addr numbers plan is. let b = PrefixAndWhole.opening_framed m (everywhere m pages lawful) addr numbers plan is in
       record {
         apart = b.apart;
         single = b.single;

@@ -3,7 +3,7 @@ use Rattle.link_world.proofs.Prelude.{All, ◌≡◌, ℕ, zero, suc, ◌+◌, �
 use Rattle.link_client.specs.declared.client_state.ClientState.TheVariants as Is
 use Rattle.link_schedule.specs.declared.event.Event.{Event}
 use Rattle.link_world.proofs.Doing.{goes_on_with}
-use Rattle.link_world.proofs.Prefix.{prefix_and_whole}
+use Rattle.link_world.proofs.PrefixAndWhole.{prefix_and_whole}
 use Rattle.link_world.proofs.Lines.{lines_are_acts}
 use Rattle.link_world.proofs.Rounds.{only_side, under_way}
 use Rattle.link_world.proofs.HonestClient.{client_at, open_with, next_out, node_syn_ack, opens_at_syn_ack, sends_something}

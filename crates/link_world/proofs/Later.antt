@@ -1,9 +1,9 @@
 -- What was sent stays true as captures are taken and the client continues.
 use Rattle.link_world.proofs.Prelude.{◌≡◌, ℕ, ◌+◌, ◌≤◌, true, ◌⊎◌, inl, inr, List, [], ◌++◌, length, sym, ap, ◌∙◌, subst, Option, Some, wrap, PlainSegment, Snapshot, AppSpec, IsPrefixOf, AbstractClient, own_first, IsPart, prefix_part, append_nothing}
 use Rattle.link_world.proofs.Speaking.{Speaker, HasOutputModel}
-use Rattle.link_world.proofs.Good.{is_some, IsAll, NodeSaid, ClientSaid}
-use Rattle.link_world.proofs.Good.ClientSaid.{said_reset, said_syn, said_data}
-use Rattle.link_world.proofs.Good.NodeSaid.{node_reset, node_syn, node_ack, node_text, node_fin}
+use Rattle.link_world.proofs.CleanClientInvariant.{is_some, IsAll, NodeSaid, ClientSaid}
+use Rattle.link_world.proofs.CleanClientInvariant.ClientSaid.{said_reset, said_syn, said_data}
+use Rattle.link_world.proofs.CleanClientInvariant.NodeSaid.{node_reset, node_syn, node_ack, node_text, node_fin}
 
 module _ (m : AppSpec) (speaker : Speaker) (laws : HasOutputModel m speaker) where
   pub page_more : (r : List ℕ) (k more : List Snapshot) → IsPrefixOf (speaker.text r k) (speaker.text r (k ++ more))

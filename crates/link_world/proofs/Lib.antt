@@ -4,7 +4,7 @@ pub mod Hearing
 pub mod Doing
 pub mod ClientCases
 pub mod Speaking
-pub mod Good
+pub mod CleanClientInvariant
 pub mod Later
 pub mod Steps
 pub mod Clients
@@ -13,14 +13,14 @@ pub mod Views
 pub mod Sides
 pub mod FitWorlds
 pub mod FitActs
-pub mod Any
-pub mod Prefix
-pub mod Same
+pub mod OneClientFact
+pub mod PrefixAndWhole
+pub mod RetransmissionInvariant
 pub mod Ticks
 pub mod Damage
 pub mod Loss
 pub mod Sound
-pub mod Whole
+pub mod ReadBack
 pub mod Harmless
 pub mod SaidBytes
 pub mod SoundNodes
@@ -29,7 +29,7 @@ pub mod Damages
 pub mod Room
 pub mod Runs
 pub mod Counts
-pub mod Exact
+pub mod OneSegmentInvariant
 pub mod Lines
 pub mod Requests
 pub mod Parts

@@ -2,10 +2,10 @@
 use Rattle.link_world.proofs.Prelude.{◌≡◌, ℕ, ◌+◌, ◌-◌, ◌<◌, ◌≤◌, ◌⊎◌, inl, inr, Bool, true, false, List, [], ◌++◌, length, take, refl, sym, ap, ◌∙◌, subst, arith, Option, Some, None, is_some, take-append-add, cases_lt, wrap, PlainSegment, has_syn, has_fin, has_rst, has_ack, IsPrefixOf, Pages, State, Closed, SynRcvd, Established, Connection, is_live, AbstractClient, fin_sent, one_if, Side, PastConnection, Sent, era, server_side, IsSlice, SaysPage, AsksRequest, HasTaken, HasOneEpoch, CleanParts, IsPart, HasTextNumbers}
 use Rattle.link_client.specs.declared.client_state.ClientState.TheVariants as Is
 use Rattle.link_world.proofs.Speaking.{paged}
-use Rattle.link_world.proofs.Good.{is_unasked, seg, segment_in, StateGood, NodeSaid, ClientSaid, OpenedGood, Good, unopened}
-use Rattle.link_world.proofs.Good.NodeSaid.{node_reset, node_syn, node_ack, node_text, node_fin}
-use Rattle.link_world.proofs.Good.ClientSaid.{said_reset, said_syn, said_data}
-use Rattle.link_world.proofs.Prefix.{all_good}
+use Rattle.link_world.proofs.CleanClientInvariant.{is_unasked, seg, segment_in, StateGood, NodeSaid, ClientSaid, OpenedGood, Good, unopened}
+use Rattle.link_world.proofs.CleanClientInvariant.NodeSaid.{node_reset, node_syn, node_ack, node_text, node_fin}
+use Rattle.link_world.proofs.CleanClientInvariant.ClientSaid.{said_reset, said_syn, said_data}
+use Rattle.link_world.proofs.PrefixAndWhole.{all_good}
 use Rattle.link_world.proofs.Eras.{all_numbered}
 use Rattle.link_world.proofs.Requests.{RequestedBy, all_requested}
 use Rattle.link_world.proofs.TextNumbers.{text_numbers}

@@ -55,7 +55,7 @@ pub use Rattle.uip_node.proofs.DeliveredBytes.{DeliveredBytes, asked_bytes, on_s
 pub use Rattle.uip_node.proofs.FitNodes.{FitConns, FitNode, FitStep, arrives_fits, closed_fits, event_fits, happened_fits, index_fits, node_snapshot, position_in, serving_fits, slot_inside, still_fits}
 pub use Rattle.uip_node.proofs.Fits.{FitConn, FitOut, accepted_fits, all_cons, all_nil, asked_fits, on_segment_fits, on_tick_fits, snapshot_fits}
 pub use Rattle.uip_node.proofs.Handed.{Received, hears_is}
-pub use Rattle.uip_node.proofs.Moves.{Moves, asked_moves, segment_moves, tick_moves}
+pub use Rattle.uip_node.proofs.Acknowledged.{Moves, asked_moves, segment_moves, tick_moves}
 pub use Rattle.uip_node.proofs.Peers.{asked_keeps, on_segment_keeps, on_tick_closed, on_tick_keeps}
 pub use Rattle.uip_node.proofs.Prelude.{ACK, Abort, Addr, Beat, Close, CloseWait, Closed, Closing, Established, FIN, FinWait1, FinWait2, Icmp, IcmpFate, IpHead, LastAck, Nothing, Now, OWN_MSS, PSH, Proto, RST, Row, SYN, Send, State, Step, SynRcvd, TimeWait, Want, bytes_eq-Decides, common_steps, echo_fate, echo_reply, option_map_or, option_or, position_from-zero}
 unfoldable pub use Rattle.uip_node.proofs.Prelude.{fin_acked, fin_waits, for_no_connection, happened, idles, in_established, on_segment, opens_in, peer_closes, rests_on, stays_established, ticks_established}

@@ -3,7 +3,7 @@ use Rattle.link_world.proofs.Prelude.{◌≡◌, ℕ, zero, suc, ◌<◌, ◌≤
 use Rattle.link_world.proofs.Sound.{IsSoundClient}
 use Rattle.link_world.proofs.SoundWorlds.{SoundSent, SoundWorld}
 use Rattle.link_world.proofs.SoundWorlds.SoundSent.{of_segment, of_ping, of_echo}
-use Rattle.link_world.proofs.Whole.{IsPingBack, ping_head, ping_back}
+use Rattle.link_world.proofs.ReadBack.{IsPingBack, ping_head, ping_back}
 use Rattle.link_world.proofs.Runs.{reached_sound}
 use Rattle.link_world.proofs.Senders.{Asked, IsAsked, has_senders}
 

@@ -1,16 +1,16 @@
 -- How much of a request the server has accepted, beside Prefix and whole.
 use Rattle.link_world.proofs.Prelude.{All, ◌≡◌, ℕ, ◌+◌, ◌<◌, ◌≤◌, Bool, true, false, inl, inr, List, [], ◌∷◌, ◌++◌, length, replicate, refl, sym, ap, ◌∙◌, subst, arith, Option, Some, None, slice_get, if◌then◌else◌, wrap, Addr, PlainSegment, has_syn, has_fin, has_rst, has_ack, AppSpec, Pages, IsPaged, IsSnapshot, IsNow, IsU32, Now, Sockets, Connection, closed, is_live, is_plain_syn, is_again, syn_ack, Outcome, asked, accepted, on_segment, on_tick, AbstractClient, ClientStep, one_if, fin_sent, own_first, client_takes, client_opens, client_again, client_closes, client_aborts, advertises_window, World, Side, Sent, PastConnection, becomes_opened, with_client, marked, is_clean, client_sockets, era, fresh_side, Planned, IsPlan, initial_world, serving, IsReached, steady_of, same_place, get_push, zero_or_more, older, newest, FitConn, get_map}
 use Rattle.link_world.proofs.Speaking.{paged}
-use Rattle.link_world.proofs.Good.{seg, no_segment, is_early, from, to, ClientSaid, OpenedGood, Good, Steady, unopened}
-use Rattle.link_world.proofs.Good.ClientSaid.{said_reset, said_syn, said_data}
+use Rattle.link_world.proofs.CleanClientInvariant.{seg, no_segment, is_early, from, to, ClientSaid, OpenedGood, Good, Steady, unopened}
+use Rattle.link_world.proofs.CleanClientInvariant.ClientSaid.{said_reset, said_syn, said_data}
 use Rattle.link_world.proofs.Sides.{clean_before}
 use Rattle.link_world.proofs.Runs.{reached}
-use Rattle.link_world.proofs.Any.{Framed, Steps, Refines, model, entry, does_framed}
-use Rattle.link_world.proofs.Any
+use Rattle.link_world.proofs.OneClientFact.{Framed, Steps, Refines, model, entry, does_framed}
+use Rattle.link_world.proofs.OneClientFact
 use Rattle.link_world.proofs.Asking.{used, asked_bytes, EndsIn, AsksOn, client_asks, opens_asks, again_asks, closes_asks, aborts_asks, window_asks, asked_takes, some_place, segment_takes, tick_takes, says_taken}
 use Rattle.link_world.proofs.Asking
-use Rattle.link_world.proofs.Prefix.{everywhere}
-use Rattle.link_world.proofs.Prefix
+use Rattle.link_world.proofs.PrefixAndWhole.{everywhere}
+use Rattle.link_world.proofs.PrefixAndWhole
 
 -- The connection accepted no more of the client's numbers than were used. Its application received no more than was accepted,
 -- and no more of the request than was sent.
@@ -84,13 +84,13 @@ not_syn client opened epoch taken s st (said_syn y) nr h q =
 
 module _ (m : AppSpec) (pages : Pages) (lawful : IsPaged m pages) where
   pub record G (k : ℕ) (side : Side) (c : Connection) (sent : List Sent) : Type 0 where
-    pub good : Prefix.G m (everywhere m pages lawful) k side c sent
+    pub good : PrefixAndWhole.G m (everywhere m pages lawful) k side c sent
     pub asked_by : is_clean side ≡ true → RequestedBy k side.client c sent side.opened
     pub acks : is_clean side ≡ true → Acks k side.client (length side.history) c sent
 
   pub other : (k : ℕ) (side : Side) (c : Connection) (sent : List Sent) (e : Sent) → G k side c sent → (e.who ≡ to k → ⊥) → (e.who ≡ from k → ⊥) → G k side c (sent ++ e ∷ [])
   other k side c sent e g t f = record {
-    good = Prefix.other m (everywhere m pages lawful) k side c sent e g.good t f;
+    good = PrefixAndWhole.other m (everywhere m pages lawful) k side c sent e g.good t f;
     asked_by = λ cl. push_requested k side.client c sent e side.opened (g.asked_by cl) (λ w. absurd (f w));
     acks = λ cl. push_acks k side.client (length side.history) c sent e (g.acks cl) (λ w. absurd (t w));
   }
@@ -100,27 +100,27 @@ module _ (m : AppSpec) (pages : Pages) (lawful : IsPaged m pages) where
 
   pub reset : (k : ℕ) (side : Side) (c : Connection) (sent : List Sent) (e : Sent) → G k side c sent → e.epoch ≡ length side.history → has_syn (seg e).flags ≡ false → has_fin (seg e).flags ≡ false → (seg e).text ≡ [] → has_rst (seg e).flags ≡ true → e.again ≡ false → e.who ≡ to k → G k side c (sent ++ e ∷ [])
   reset k side c sent e g q sy fi te rs ag w = record {
-    good = Prefix.reset m (everywhere m pages lawful) k side c sent e g.good q sy fi te rs ag w;
+    good = PrefixAndWhole.reset m (everywhere m pages lawful) k side c sent e g.good q sy fi te rs ag w;
     asked_by = λ cl. push_requested k side.client c sent e side.opened (g.asked_by cl) (λ f. absurd (not_both k e w f));
     acks = λ cl. push_acks k side.client (length side.history) c sent e (g.acks cl) (λ t r. absurd (let z : true ≡ false = sym rs ∙ r in cc));
   }
 
-  pub evict : (k : ℕ) (side : Side) (c : Connection) (sent : List Sent) → is_live c.state ≡ true → G k side c sent → G k (Any.older side c) closed sent
+  pub evict : (k : ℕ) (side : Side) (c : Connection) (sent : List Sent) → is_live c.state ≡ true → G k side c sent → G k (OneClientFact.older side c) closed sent
   evict k side c sent l g = record {
-    good = Prefix.evict m (everywhere m pages lawful) k side c sent l g.good;
+    good = PrefixAndWhole.evict m (everywhere m pages lawful) k side c sent l g.good;
     asked_by = λ cl. dead_requested k side.client c sent side.opened (g.asked_by cl);
     acks = λ cl x. absurd (cc);
   }
 
   pub mark : (k : ℕ) (side : Side) (c : Connection) (sent : List Sent) (n : ℕ) (e : Sent) → G k side c sent → G k (marked side n e) c sent
   mark k side c sent n e g = record {
-    good = Prefix.mark m (everywhere m pages lawful) k side c sent n e g.good;
+    good = PrefixAndWhole.mark m (everywhere m pages lawful) k side c sent n e g.good;
     asked_by = λ cl. g.asked_by (clean_before side n e cl).0;
     acks = λ cl. g.acks (clean_before side n e cl).0;
   }
 
   abbrev GoodSteps : World → Outcome → ℕ → Side → Type 0
-  GoodSteps w o k side = Steps m (Prefix.G m (everywhere m pages lawful)) (Prefix.other m (everywhere m pages lawful)) (Prefix.reset m (everywhere m pages lawful)) (Prefix.evict m (everywhere m pages lawful)) (Prefix.mark m (everywhere m pages lawful)) w o k side
+  GoodSteps w o k side = Steps m (PrefixAndWhole.G m (everywhere m pages lawful)) (PrefixAndWhole.other m (everywhere m pages lawful)) (PrefixAndWhole.reset m (everywhere m pages lawful)) (PrefixAndWhole.evict m (everywhere m pages lawful)) (PrefixAndWhole.mark m (everywhere m pages lawful)) w o k side
 
   steps_by : (w : World) (old : Connection) (o : Outcome) (k : ℕ) (side : Side) (s : PlainSegment) → is_live old.state ≡ true → G k side old w.sent → Asking.Refines old o.connection s →
       (is_clean side ≡ true → Requested k side.client old w.sent → Within side.client o.connection) → GoodSteps w o k side → Steps m G other reset evict mark w o k side
@@ -139,7 +139,7 @@ module _ (m : AppSpec) (pages : Pages) (lawful : IsPaged m pages) where
           acks = λ cl. push_acks k side.client (length side.history) d w.sent new (acked cl)
               (λ y r. record { at = d.taken; low = omega arith; is = says_taken m pages lawful d o.step x e r ∙ ap (λ n. wrap (n + 1 + d.taken)) (t.row.peer ∙ (let y = (g.good cl).connection lv in y.irs)) });
         });
-        says_last = λ x e l tick id. (let new : Sent = entry (to k) (Any.older side d) tick id (model (is_again o.step) x) in record {
+        says_last = λ x e l tick id. (let new : Sent = entry (to k) (OneClientFact.older side d) tick id (model (is_again o.step) x) in record {
           good = p.says_last x e l tick id;
           asked_by = λ cl. push_requested k side.client closed w.sent new side.opened (dead cl) (λ y. absurd (cc));
           acks = λ cl x. absurd (cc);
@@ -180,7 +180,7 @@ module _ (m : AppSpec) (pages : Pages) (lawful : IsPaged m pages) where
       let t = asked_takes m pages lawful now old (seg e) o (segment_takes m pages lawful old numbers (seg e)) in
       steps_by w old (asked m now o) k side (seg e) lv g t
       (λ cl r. (let h = g.good cl in let c = h.connection lv in enough_room side.client side.opened e.epoch k j old (asked m now o).connection w.sent e h.steady (h.of_client j e sent who).output c.irs sent who t r))
-      (Prefix.segment m (everywhere m pages lawful) w old numbers now k j side e lv f n is sent who fresh g.good)
+      (PrefixAndWhole.segment m (everywhere m pages lawful) w old numbers now k j side e lv f n is sent who fresh g.good)
 
   -- a tick brings no segment
   nothing_more : (client : AbstractClient) (c d : Connection) → Asking.Row c d no_segment → Within client c → Within client d
@@ -200,7 +200,7 @@ module _ (m : AppSpec) (pages : Pages) (lawful : IsPaged m pages) where
       let o : Outcome = on_tick m old numbers in
       let t = asked_takes m pages lawful now old no_segment o (tick_takes m pages lawful old numbers no_segment) in
       steps_by w old (asked m now o) k side no_segment lv g t (λ cl r. nothing_more side.client old (asked m now o).connection t.row r.within)
-      (Prefix.tick m (everywhere m pages lawful) w old numbers now k side lv f n is g.good)
+      (PrefixAndWhole.tick m (everywhere m pages lawful) w old numbers now k side lv f n is g.good)
 
   born_requested : (k : ℕ) (client : AbstractClient) (history : List PastConnection) (d : Connection) (sent : List Sent) (opened : Option ℕ) → ((o : ℕ) → opened ≡ Some o → length history ≤ o) → OpenedGood (paged pages) client history closed opened → RequestedBy k client closed sent opened → RequestedBy k client d sent opened
   born_requested k client history d sent None b h g = g
@@ -211,14 +211,14 @@ module _ (m : AppSpec) (pages : Pages) (lawful : IsPaged m pages) where
   birth w iss sockets k j side e own sent who fresh plain fit g tick id =
       let c : Connection = accepted iss sockets (seg e) in
       let new : Sent = entry (to k) side tick id (model false (syn_ack c)) in
-      let good = Prefix.birth m (everywhere m pages lawful) w iss sockets k j side e own sent who fresh plain fit g.good tick id in
+      let good = PrefixAndWhole.birth m (everywhere m pages lawful) w iss sockets k j side e own sent who fresh plain fit g.good tick id in
       let none = λ (cl : is_clean side ≡ true) (l : is_live c.state ≡ true) (i : ℕ) (f : Sent) (x : slice_get w.sent i ≡ Some f) (v : f.who ≡ to k) (q : f.epoch ≡ length side.history) (r : has_rst (seg f).flags ≡ false) (a : has_ack (seg f).flags ≡ true).
       absurd {A = Taken side.client c (seg f)} (let z : false ≡ true = ((g.good cl).of_node i f x v).incarnations r q in cc) in
       record {
         good = good;
         asked_by = λ cl. push_requested k side.client c w.sent new side.opened
             (born_requested k side.client side.history c w.sent side.opened
-            (λ o q. (let y = Prefix.born_by m (everywhere m pages lawful) side e ((g.good cl).of_client j e sent who).output (Prefix.plain_is m (everywhere m pages lawful) (seg e) plain) in subst (λ n. n ≤ o) (fresh cl) (y.before o q)))
+            (λ o q. (let y = PrefixAndWhole.born_by m (everywhere m pages lawful) side e ((g.good cl).of_client j e sent who).output (PrefixAndWhole.plain_is m (everywhere m pages lawful) (seg e) plain) in subst (λ n. n ≤ o) (fresh cl) (y.before o q)))
             (g.good cl).opened_good (g.asked_by cl))
             (λ y. absurd (cc));
         acks = λ cl. push_acks k side.client (length side.history) c w.sent new (none cl)
@@ -262,7 +262,7 @@ module _ (m : AppSpec) (pages : Pages) (lawful : IsPaged m pages) where
       record { low = omega (arith, zero); within = record { high = omega (arith, start); input = omega (arith, silent); asked = omega (arith, silent) }; ends = λ j e x w. never_asked client t.client e.epoch (seg e) (g.of_client j e x w).output })
 
   abbrev GoodTakes : World → ℕ → Side → Connection → ClientStep → Type 0
-  GoodTakes w k base c t = Refines m (Prefix.G m (everywhere m pages lawful)) (Prefix.other m (everywhere m pages lawful)) (Prefix.reset m (everywhere m pages lawful)) (Prefix.evict m (everywhere m pages lawful)) (Prefix.mark m (everywhere m pages lawful)) w k base c t
+  GoodTakes w k base c t = Refines m (PrefixAndWhole.G m (everywhere m pages lawful)) (PrefixAndWhole.other m (everywhere m pages lawful)) (PrefixAndWhole.reset m (everywhere m pages lawful)) (PrefixAndWhole.evict m (everywhere m pages lawful)) (PrefixAndWhole.mark m (everywhere m pages lawful)) w k base c t
 
   took_by : (w : World) (k : ℕ) (base : Side) (c : Connection) (s : PlainSegment) (t : ClientStep) → G k base c w.sent → GoodTakes w k base c t → AsksOn base.client s t →
       (is_clean base ≡ true → is_live c.state ≡ true → Requested k base.client c w.sent → t.client.acked ≤ c.taken) → Refines m G other reset evict mark w k base c t
@@ -301,7 +301,7 @@ module _ (m : AppSpec) (pages : Pages) (lawful : IsPaged m pages) where
       Refines m G other reset evict mark w k (marked side number e) c (client_takes side.client (seg e))
   took w k j side c number e fit sent who g =
       let a = client_asks side.client (seg e) in
-      took_by w k (marked side number e) c (seg e) (client_takes side.client (seg e)) (mark k side c w.sent number e g) (Prefix.took m (everywhere m pages lawful) w k j side c number e fit sent who g.good) a
+      took_by w k (marked side number e) c (seg e) (client_takes side.client (seg e)) (mark k side c w.sent number e g) (PrefixAndWhole.took m (everywhere m pages lawful) w k j side c number e fit sent who g.good) a
       (λ cl l r. (let b = clean_before side number e cl in
       heard_taken side.client c (seg e) (client_takes side.client (seg e)) (g.good b.0).steady a (λ n h. g.acks b.0 l j e sent who b.1 n h) r.low r.within.high))
 
@@ -315,7 +315,7 @@ module _ (m : AppSpec) (pages : Pages) (lawful : IsPaged m pages) where
 
   opening_requested : (addr : Addr) (numbers : List ℕ) (plan : List Planned) → IsPlan plan → Framed m G other reset evict mark (initial_world addr numbers plan)
   opening_requested addr numbers plan is =
-      let b = Prefix.opening_framed m (everywhere m pages lawful) addr numbers plan is in
+      let b = PrefixAndWhole.opening_framed m (everywhere m pages lawful) addr numbers plan is in
       record {
         apart = b.apart;
         single = b.single;
@@ -330,11 +330,11 @@ module _ (m : AppSpec) (pages : Pages) (lawful : IsPaged m pages) where
   all_requested w r = reached m pages lawful (λ v. Framed m G other reset evict mark v)
       (λ served v act harm g fits. does_framed m G other reset evict mark (steady_of m pages lawful) served segment tick birth record {
         took = took;
-        opens = λ w k side c fit g. own_by w k side c (client_opens side.client) g (opens_asks side.client) (Prefix.own_open m (everywhere m pages lawful) w k side c fit g.good);
-        again = λ w k side c fit g. own_by w k side c (client_again side.client) g (again_asks side.client) (Prefix.own_again m (everywhere m pages lawful) w k side c fit g.good);
-        closes = λ w k side c fit g. own_by w k side c (client_closes side.client) g (closes_asks side.client) (Prefix.own_close m (everywhere m pages lawful) w k side c fit g.good);
-        aborts = λ w k side c fit g. own_by w k side c (client_aborts side.client) g (aborts_asks side.client) (Prefix.own_abort m (everywhere m pages lawful) w k side c fit g.good);
-        windows = λ x w k side c fit g. own_by w k side c (advertises_window x side.client) g (window_asks x side.client) (Prefix.own_window m (everywhere m pages lawful) x w k side c fit g.good);
+        opens = λ w k side c fit g. own_by w k side c (client_opens side.client) g (opens_asks side.client) (PrefixAndWhole.own_open m (everywhere m pages lawful) w k side c fit g.good);
+        again = λ w k side c fit g. own_by w k side c (client_again side.client) g (again_asks side.client) (PrefixAndWhole.own_again m (everywhere m pages lawful) w k side c fit g.good);
+        closes = λ w k side c fit g. own_by w k side c (client_closes side.client) g (closes_asks side.client) (PrefixAndWhole.own_close m (everywhere m pages lawful) w k side c fit g.good);
+        aborts = λ w k side c fit g. own_by w k side c (client_aborts side.client) g (aborts_asks side.client) (PrefixAndWhole.own_abort m (everywhere m pages lawful) w k side c fit g.good);
+        windows = λ x w k side c fit g. own_by w k side c (advertises_window x side.client) g (window_asks x side.client) (PrefixAndWhole.own_window m (everywhere m pages lawful) x w k side c fit g.good);
       }
       v act harm g fits)
       opening_requested w r

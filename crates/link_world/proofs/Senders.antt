@@ -4,7 +4,7 @@ use Rattle.link_world.proofs.Doing.{at_number, where_there, delivered_by}
 use Rattle.link_world.proofs.Sides.{finds_one, buried_sockets}
 use Rattle.link_world.proofs.Setups.{SameSetup, takes_setup, opens_setup, again_setup, closes_setup, aborts_setup}
 use Rattle.link_world.proofs.Harmless.{Harmless}
-use Rattle.link_world.proofs.Same.{get_older}
+use Rattle.link_world.proofs.RetransmissionInvariant.{get_older}
 use Rattle.link_world.proofs.Runs.{reached}
 
 -- a client has these sockets

@@ -1,9 +1,9 @@
 -- One step of a connection preserves what holds of it.
 use Rattle.link_world.proofs.Prelude.{◌≡◌, ℕ, ◌+◌, ◌<◌, ◌≤◌, min, Bool, true, false, not, ◌&&◌, inl, inr, List, [], ◌++◌, length, take, drop, refl, sym, ap, ◌∙◌, subst, arith, Option, Some, None, length-append, ltb, append_assoc, wrap, PlainSegment, has_fin, has_rst, has_ack, Beat, AppState, Snapshot, AppSpec, IsPrefixOf, MayWant, Now, State, Closed, SynRcvd, Established, CloseWait, FinWait1, FinWait2, Closing, TimeWait, LastAck, Want, Nothing, Send, Close, Abort, Connection, is_live, rcv_nxt, bare_ack, syn_ack, text_segment, fin_of, reset_of, Outcome, leaves, closes, after_own_fin, peer_has_closed, idles, does_as_wanted, prepared, ask, asked_for, asked, is_out_of_order, is_acked, rests, has_text, delivers_text, takes, with_part, in_state, with_window, connects, peer_closes, stays_established, in_established, fin_acked, fin_waits, by_state, on_segment, outstanding, grows_older, by_beat, on_tick, Step, AbstractClient, own_first, IsPart, prefix_part, prefix_length, prefix_joins, and_true, same_place, empty_part, zero_or_more, ltb-zero, in_place, choose, append_nothing, cut_part, both_ways, is_open, by_open, by_own_fin, fin_lives, on_tick_by, open_live}
 use Rattle.link_world.proofs.Later.{page_more, page_heard, prefix_grows, prefix_all}
-use Rattle.link_world.proofs.Good.{Spoken, spoken, AtSyn, AtText, AtOpen, AtFin, ConnGood, StateGood, Moved, StepGood, SentGood, ClientSaid, IsData, Steady}
-use Rattle.link_world.proofs.Good.NodeSaid.{node_reset, node_syn, node_ack, node_text, node_fin}
-use Rattle.link_world.proofs.Good.ClientSaid.{said_reset, said_syn, said_data}
+use Rattle.link_world.proofs.CleanClientInvariant.{Spoken, spoken, AtSyn, AtText, AtOpen, AtFin, ConnGood, StateGood, Moved, StepGood, SentGood, ClientSaid, IsData, Steady}
+use Rattle.link_world.proofs.CleanClientInvariant.NodeSaid.{node_reset, node_syn, node_ack, node_text, node_fin}
+use Rattle.link_world.proofs.CleanClientInvariant.ClientSaid.{said_reset, said_syn, said_data}
 use Rattle.link_world.proofs.Speaking.{Speaker, HasOutputModel, page_by, HearsSome, KeepsHeard, Received, hears_is, prepare_is, acked_is, wants_is}
 
 module _ (m : AppSpec) (speaker : Speaker) (laws : HasOutputModel m speaker) where

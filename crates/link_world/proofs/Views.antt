@@ -3,8 +3,8 @@ use Rattle.link_world.proofs.Prelude.{◌≡◌, ℕ, zero, suc, ◌+◌, ◌<�
 use Rattle.link_world.proofs.Speaking.{Speaker, HasOutputModel}
 use Rattle.link_world.proofs.Clients.{not_opening}
 use Rattle.link_world.proofs.Later.{part_later, all_later, node_later, client_later}
-use Rattle.link_world.proofs.Good.{is_some, seg, from, to, AtText, AtFin, AtRest, StateGood, ConnGood, NodeSaid, Moved, FromGood, ToGood, HasOpened, OpenedGood, Good, TookGood}
-use Rattle.link_world.proofs.Good.NodeSaid.{node_reset}
+use Rattle.link_world.proofs.CleanClientInvariant.{is_some, seg, from, to, AtText, AtFin, AtRest, StateGood, ConnGood, NodeSaid, Moved, FromGood, ToGood, HasOpened, OpenedGood, Good, TookGood}
+use Rattle.link_world.proofs.CleanClientInvariant.NodeSaid.{node_reset}
 
 -- the captures of an epoch only grow, and its first number stays
 pub record EraLater (a b : PastConnection) : Type 0 where

@@ -1,7 +1,7 @@
 -- Every trace of a node.
 use Rattle.node_laws.proofs.Prelude.{All, option_map, ◌≡◌, ℕ, Bool, ◌&&◌, List, [], ◌∷◌, map, position, true, false, inl, refl, ap, subst, Option, Some, None, PlainSegment, has_rst, IsAddr, IsPaged, IsU32, MayWant, Pages, AppSpec, AppState, Close, Addr, Sockets, Connection, serves, is_again, is_plain_syn, segment_of, Outcome, ident_of, Event, IpRefused, IcmpRefused, TcpRefused, EchoAsked, Arrived, Overlong, Periodic, Echo, TcpReply, append_nothing, choose, all_nil, all_cons, HasBytes, SendsBytes, IsEchoed, IsSteady, steady_of, page_bytes, OutputModel, HasOutputModel, at_every_port, EveryTraceConforms, EveryTraceOfPagesConforms, TraceConforms, TraceEntry, IsDecoded}
 use Rattle.uip_node.specs.Node.{AbstractNode, NodeStep, arrives_at, for_no_connection, happened, initial_node, opens as opens_at, opens_in, slot_for_syn, step}
-use Rattle.node_laws.proofs.Whole.{session_ends}
+use Rattle.node_laws.proofs.EveryIncarnation.{session_ends}
 use Rattle.node_laws.proofs.PeerReads.{every_peer_reads}
 use Rattle.node_laws.proofs.Steps.{LineStep, OfNode, Changes, IsStep, all_happen, changed, turns_happen, trace_over}
 

@@ -3,7 +3,7 @@ use Rattle.node_laws.proofs.Prelude.{All, option_map_or, ◌≡◌, ℕ, suc, �
 use Rattle.tcp_machine.specs.OnTick.{by_beat, limit_of, on_tick, polls as polled_by, ticks_established}
 use Rattle.node_laws.proofs.HonestSessions.{has_of, has_on, lets_go, nothing_more, takes_at}
 use Rattle.node_laws.proofs.Lines.{quiet, met}
-use Rattle.node_laws.proofs.Walk.{nil_of}
+use Rattle.node_laws.proofs.StepTable.{nil_of}
 
 and_no : (b : Bool) → b && false ≡ false
 and_no true = refl

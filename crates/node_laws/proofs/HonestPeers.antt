@@ -11,7 +11,7 @@ use Rattle.node_laws.proofs.Lines.OfMedium.{passes_by, evicted, unanswered, refu
 use Rattle.node_laws.proofs.Replying.{answer_no_syn}
 use Rattle.node_laws.proofs.Slots.{Acted, acts}
 use Rattle.node_laws.proofs.Slots.Acts.{is_called, is_met, is_apart, makes_room}
-use Rattle.node_laws.proofs.Walk.{nil_of}
+use Rattle.node_laws.proofs.StepTable.{nil_of}
 
 -- where one lives the table has a row
 rows_some : (k : ℕ) (cs : List Connection) (i : ℕ) (old z : Connection) → slice_get cs i ≡ Some old → is_live z.state ≡ true → 0 < length (rows_from k (set cs i z))

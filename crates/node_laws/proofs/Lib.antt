@@ -1,12 +1,12 @@
-pub mod Walk
+pub mod StepTable
 pub mod Replying
 pub mod Lines
 pub mod Speaking
 pub mod Texts
-pub mod Kept
-pub mod Lives
+pub mod FromInvariant
+pub mod IncarnationStep
 pub mod Receiving
-pub mod Whole
+pub mod EveryIncarnation
 pub mod Wire
 pub mod PeerReads
 pub mod TurnRuns

@@ -47,7 +47,7 @@ pub use Rattle.uip_node.proofs.Finding.{found}
 pub use Rattle.uip_node.proofs.FitNodes.{FitNode, closed_fits, event_fits, node_snapshot, slot_inside}
 pub use Rattle.uip_node.proofs.Fits.{FitConn, FitOut, accepted_fits, all_cons, all_nil, asked_fits, on_segment_fits, on_tick_fits, prepared_snapshots}
 pub use Rattle.uip_node.proofs.Handed.{hears_is, prepare_is}
-pub use Rattle.uip_node.proofs.Moves.{Moves, asked_moves, segment_moves, tick_moves}
+pub use Rattle.uip_node.proofs.Acknowledged.{Moves, asked_moves, segment_moves, tick_moves}
 pub use Rattle.uip_node.proofs.Peers.{asked_keeps, on_segment_keeps, on_tick_closed, on_tick_keeps}
 pub use Rattle.uip_node.proofs.SocketPairs.{is_same, same_is, same_self, serves_dead, serves_not, serves_yes}
 pub use Rattle.uip_node.proofs.SoundSegments.{IsSoundSegment, Lens, LensWithin, accepted_lens, asked_lens, asked_within, closed_lens, on_segment_lens, on_segment_within, on_tick_lens, on_tick_within, said_sound}

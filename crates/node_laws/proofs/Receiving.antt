@@ -2,7 +2,7 @@
 use Rattle.node_laws.proofs.Prelude.{option_map_or, ◌≡◌, ℕ, ◌+◌, ◌<◌, ◌≤◌, Bool, true, false, inl, inr, List, [], ◌∷◌, length, refl, sym, ap, ◌∙◌, arith, Option, Some, None, slice_get, eqb, wrap, PlainSegment, has_fin, AppSpec, IsPrefixOf, Pages, choose, eqb-eq, same_place, wrap_wrap, prefix_length, Exchange, sent_at, Account, IsAtOffset, IsPrefixOfPage, AccountHolds, TextConforms, NumbersGiveOffsets, OutputModel, Paged, Interactive, Free, IsPagedAt, FollowsModelAt, CarriesByte, IsReceived, EndsAfter, IsSelection, PlainestReceives, receives, takes_next}
 use Rattle.node_laws.proofs.Texts.{all_of_it, element, get_append, get_inside, get_slice, most_or_more, prefix_by}
 use Rattle.node_laws.proofs.Texts.InBoth.{in_first, in_second}
-use Rattle.node_laws.proofs.Kept.{HasEnded, Kept, said_in}
+use Rattle.node_laws.proofs.FromInvariant.{HasEnded, Kept, said_in}
 
 -- the plainest receiver puts its text together from what was sent
 next_received : (iss : ℕ) (incarnation : List Exchange) (got : List ℕ) (place : ℕ) (s : PlainSegment) → sent_at incarnation place ≡ Some s → IsReceived iss incarnation got → IsReceived iss incarnation (takes_next iss got s)

@@ -1,6 +1,6 @@
 -- The offsets of bytes in a text.
 use Rattle.node_laws.proofs.Prelude.{◌≡◌, ℕ, zero, suc, ◌+◌, ◌<◌, ◌≤◌, ◌⊎◌, List, [], ◌∷◌, ◌++◌, length, take, drop, refl, sym, ap, ◌∙◌, arith, Some, None, slice_get, length-append, IsPrefixOf, append_nothing}
-use Rattle.node_laws.proofs.Walk.{nil_of}
+use Rattle.node_laws.proofs.StepTable.{nil_of}
 
 get_drop : (a : ℕ) (xs : List ℕ) (i b : ℕ) → slice_get (drop a xs) i ≡ Some b → slice_get xs (a + i) ≡ Some b
 get_drop zero xs i b h = (let e : zero + i ≡ i = omega arith in ap (slice_get xs) e ∙ h)

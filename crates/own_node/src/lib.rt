@@ -4,14 +4,14 @@
 
 mod holding;
 mod laws;
+mod message_output;
+mod port_status;
 mod ports;
-mod reading;
 #[cfg(test)]
 mod tests;
-mod writing;
 
 pub use holding::HoldsOwn;
 pub use laws::{pairs_capture_ready_messages, ready_messages_are_captured};
+pub use message_output::write;
+pub use port_status::{is_ready, own_port, pending};
 pub use ports::{is_for_closed_port, is_for_closed_port_of_pair};
-pub use reading::{is_ready, own_port, pending};
-pub use writing::write;

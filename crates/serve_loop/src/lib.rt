@@ -4,14 +4,14 @@
 #![tactic(auto)]
 
 mod laws;
-mod line;
-mod node_calls;
+mod line_loop;
+mod line_turn;
+mod node_output;
 mod pacer;
-mod serving;
 mod slip;
 
 pub use laws::{serial_lines_bring_bytes, serial_station_events_are_events};
-pub use line::take_turn;
+pub use line_loop::{budget_is_reported, end_is_reported, serve, serve_over};
+pub use line_turn::take_turn;
 pub use pacer::Pacer;
-pub use serving::{budget_is_reported, end_is_reported, serve, serve_over};
 pub use slip::Slip;

@@ -3,24 +3,24 @@
 //! unchanged.
 #![tactic(auto)]
 
-mod checking;
+mod check_command;
+mod file_list;
 mod finish;
-mod gathering;
 mod halt;
-mod imaging;
+mod image_output;
 mod laws;
 mod named_file;
 mod outcome;
-mod packing;
-mod paging;
+mod pack_command;
+mod page_command;
 mod site_end;
-mod upgrading;
+mod upgrade_command;
 
-pub use checking::check;
+pub use check_command::check;
 pub use file_tree::{KindWord, SiteError, SiteWhy};
 pub use laws::ends_as_due;
 pub use named_file::NamedFile;
-pub use packing::pack;
-pub use paging::page;
+pub use pack_command::pack;
+pub use page_command::page;
 pub use site_end::SiteEnd;
-pub use upgrading::upgrade;
+pub use upgrade_command::upgrade;

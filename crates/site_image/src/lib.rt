@@ -4,6 +4,7 @@
 #![tactic(auto)]
 
 mod head;
+mod image_writer;
 mod kinds;
 mod laws;
 mod names;
@@ -12,9 +13,9 @@ mod parts;
 mod place;
 mod site_error;
 mod version;
-mod writing;
 
 pub use head::read_head;
+pub use image_writer::{push_entry, push_head};
 pub use kinds::{content_kind, is_script};
 pub use laws::{constant_values, one_reading};
 pub use names::{is_kind, is_name};
@@ -23,7 +24,6 @@ pub use parts::{content_part, kind_part, name_part};
 pub use place::Place;
 pub use site_error::{SiteError, SiteWhy};
 pub use version::Version;
-pub use writing::{push_entry, push_head};
 
 /// The greatest size of an image, in bytes.
 pub const LONGEST_IMAGE: usize = 16_777_216;

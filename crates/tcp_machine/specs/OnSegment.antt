@@ -14,7 +14,7 @@ use Rattle.app_events.specs.declared.state.State.TheVariants.{FinWait2, Closing,
 use Rattle.tcp_machine.specs.Connection.{Sockets, Connection, closed, snd_una, rcv_nxt}
 use Rattle.tcp_machine.specs.Segments.{occupies_sequence_space}
 use Rattle.tcp_machine.specs.Ask.{Outcome, leaves, closes}
-use Rattle.tcp_machine.specs.declared.opening.TheConstants.{DEFAULT_MSS}
+use Rattle.tcp_machine.specs.declared.passive_open.TheConstants.{DEFAULT_MSS}
 use Rattle.tcp_machine.specs.declared.step.Step.{Step}
 
 -- The longest text that the peer accepts, by the MSS option of its SYN, and at most `OWN_MSS` (1,460). It is 536 if there is no option,

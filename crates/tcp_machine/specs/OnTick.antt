@@ -14,7 +14,7 @@ use Rattle.tcp_machine.specs.Connection.{Connection}
 use Rattle.tcp_machine.specs.Ask.{Outcome, leaves, closes}
 use Rattle.tcp_machine.specs.OnSegment.{reported_end, with_part}
 use Rattle.tcp_machine.specs.declared.step.Step.{Step}
-use Rattle.tcp_machine.specs.declared.ticking.TheConstants.{REST_TIME}
+use Rattle.tcp_machine.specs.declared.timeouts.TheConstants.{REST_TIME}
 
 -- the limit of retransmissions
 abbrev pub limit_of : State → ℕ

@@ -11,7 +11,7 @@ use Rattle.tcp_table.specs.declared.conn.Conn.{Conn}
 use Rattle.tcp_machine.specs.Connection.{is_live}
 use Rattle.tcp_machine.specs.OnTick.{limit_of}
 use Rattle.tcp_machine.specs.Represents.{is_open}
-use Rattle.tcp_machine.specs.declared.ticking.TheConstants.{REST_TIME}
+use Rattle.tcp_machine.specs.declared.timeouts.TheConstants.{REST_TIME}
 
 -- How much is outstanding in a state: a SYN or a FIN is one number; after the FIN is acknowledged nothing is.
 abbrev pub LenFits : State → ℕ → Type 0

@@ -2,19 +2,19 @@
 //! as a `Step` what the node is to send. The layers above are proved against the definitions in `specs/`.
 #![tactic(auto)]
 
-mod alone;
-mod asking;
+mod app_request;
+mod closing_states;
+mod delivery;
 mod laws;
-mod moves;
-mod opening;
-mod segment;
-mod speaking;
+mod passive_open;
+mod segment_arrives;
 mod step;
-mod ticking;
+mod timeouts;
+mod transitions;
 
-pub use asking::{ask, ask_prepared, is_due, prepare};
+pub use app_request::{ask, ask_prepared, is_due, prepare};
 pub use laws::constant_values;
-pub use opening::{DEFAULT_MSS, accept};
-pub use segment::on_segment;
+pub use passive_open::{DEFAULT_MSS, accept};
+pub use segment_arrives::on_segment;
 pub use step::Step;
-pub use ticking::{REST_TIME, on_tick};
+pub use timeouts::{REST_TIME, on_tick};

@@ -44,7 +44,7 @@ pub use Rattle.telnet_shell.specs.declared.TheConstants.{MOST_COMMANDS}
 pub use Rattle.telnet_shell.specs.declared.command.Command.{Command}
 pub use Rattle.telnet_shell.specs.declared.command.Command.TheVariants.{Blank, Conns, Help, Other, Quit, Refuse, Stats, Ticks}
 pub use Rattle.telnet_shell.specs.declared.desk.Desk.{Desk}
-pub use Rattle.telnet_shell.specs.declared.hearing.TheConstants.{DO, IAC, WILL}
+pub use Rattle.telnet_shell.specs.declared.telnet_input.TheConstants.{DO, IAC, WILL}
 pub use Rattle.telnet_shell.specs.declared.shell.TheConstants.{TELNET_PORT}
 pub use Rattle.uip_node.proofs.Basics.{choose}
 pub use Rattle.uip_node.proofs.DeliveredBytes.{page_bytes}

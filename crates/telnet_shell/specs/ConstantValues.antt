@@ -2,7 +2,7 @@
 use Rattle.std.specs.Prelude.{◌≡◌}
 use Rattle.telnet_shell.specs.declared.TheConstants.{MOST_SILENT_POLLS, MOST_COMMANDS, LONGEST_LINE}
 use Rattle.telnet_shell.specs.declared.shell.TheConstants.{TELNET_PORT}
-use Rattle.telnet_shell.specs.declared.hearing.TheConstants.{IAC, DONT, DO, WONT, WILL}
+use Rattle.telnet_shell.specs.declared.telnet_input.TheConstants.{IAC, DONT, DO, WONT, WILL}
 
 pub record ConstantValues : Type 0 where
   pub most_silent_polls : MOST_SILENT_POLLS ≡ 1200

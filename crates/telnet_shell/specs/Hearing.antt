@@ -2,8 +2,8 @@
 use Rattle.std.specs.Prelude.{◌≡◌, ℕ, ◌==◌, Bool, List, [], ◌∷◌, length, take, nat_lt, slice_index, if◌then◌else◌, Option, None, Some}
 use Rattle.telnet_shell.specs.declared.TheConstants.{LONGEST_LINE}
 use Rattle.telnet_shell.specs.declared.command.Command.{Command}
-use Rattle.telnet_shell.specs.declared.hearing.Reported.{Reported}
-use Rattle.telnet_shell.specs.declared.hearing.Reported.TheVariants as reported
+use Rattle.telnet_shell.specs.declared.telnet_input.Reported.{Reported}
+use Rattle.telnet_shell.specs.declared.telnet_input.Reported.TheVariants as reported
 use Rattle.telnet_shell.specs.Reading.{Awaits, Token, tokens, awaits_after, line_after}
 use Rattle.telnet_shell.specs.Reading.Awaits.{Text, Second, Choice}
 use Rattle.telnet_shell.specs.Reading.Token.{Byte, Answer}

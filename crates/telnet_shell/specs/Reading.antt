@@ -2,7 +2,7 @@
 -- offer of an option is a command.
 use Rattle.std.specs.Prelude.{ℕ, ◌==◌, ◌&&◌, Bool, true, false, List, [], ◌∷◌, ◌++◌, codes, nat_le, if◌then◌else◌}
 use Rattle.std.specs.Str.{bytes_eq}
-use Rattle.telnet_shell.specs.declared.hearing.TheConstants.{IAC, WILL, WONT, DO, DONT}
+use Rattle.telnet_shell.specs.declared.telnet_input.TheConstants.{IAC, WILL, WONT, DO, DONT}
 use Rattle.telnet_shell.specs.declared.command.Command.{Command}
 use Rattle.telnet_shell.specs.declared.command.Command.TheVariants.{Refuse, Help, Stats, Conns, Ticks, Quit, Blank, Other}
 

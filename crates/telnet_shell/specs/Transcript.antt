@@ -8,7 +8,7 @@ use Rattle.generators.specs.declared.capture.Capture.{Capture}
 use Rattle.generators.specs.declared.capture.Capture.TheVariants.{Empty}
 use Rattle.app_events.specs.Prelude.{Snapshot}
 use Rattle.script_lang.specs.Prelude.{takes_capture}
-use Rattle.telnet_shell.specs.declared.hearing.TheConstants.{IAC}
+use Rattle.telnet_shell.specs.declared.telnet_input.TheConstants.{IAC}
 use Rattle.telnet_shell.specs.declared.command.Command.{Command}
 use Rattle.telnet_shell.specs.declared.command.Command.TheVariants.{Refuse, Help, Stats, Conns, Ticks, Quit, Blank, Other}
 

@@ -6,7 +6,7 @@ use Rattle.app_events.specs.Prelude.{AppState, Snapshot, IsLawful, StartsAnew}
 use Rattle.app_events.specs.declared.want.Want.TheVariants.{Nothing, Send, Close, Abort}
 use Rattle.uip_wire.specs.declared.port.TheConstants.{WEB_PORT}
 use Rattle.telnet_shell.specs.declared.shell.TheConstants.{TELNET_PORT}
-use Rattle.telnet_shell.specs.declared.hearing.TheConstants.{IAC, WILL, WONT, DO, DONT}
+use Rattle.telnet_shell.specs.declared.telnet_input.TheConstants.{IAC, WILL, WONT, DO, DONT}
 use Rattle.telnet_shell.specs.declared.command.Command.TheVariants.{Refuse, Help, Stats, Conns, Ticks, Quit, Blank, Other}
 use Rattle.telnet_shell.specs.Reading.{commands_in}
 use Rattle.telnet_shell.specs.Transcript.{transcript}

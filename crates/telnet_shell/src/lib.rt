@@ -3,10 +3,10 @@
 
 mod command;
 mod desk;
-mod hearing;
 mod laws;
-mod saying;
+mod reply_text;
 mod shell;
+mod telnet_input;
 
 pub use command::Command;
 pub use desk::Desk;

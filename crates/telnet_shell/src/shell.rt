@@ -6,8 +6,8 @@ ghost use Rattle.telnet_shell.specs.Reading.{is_quit};
 ghost use Rattle.telnet_shell.specs.ShellMeaning.{receive_all, receive_byte};
 
 use crate::command::Command;
-use crate::hearing::receive;
-use crate::saying::{advance, due, fill_left, left_len};
+use crate::reply_text::{advance, due, fill_left, left_len};
+use crate::telnet_input::receive;
 use crate::{LONGEST_LINE, MOST_COMMANDS, MOST_SILENT_POLLS};
 use app_events::{App, Ending, Now, Want};
 use arrayvec::ArrayVec;

@@ -1,6 +1,6 @@
 //! Sessions through the shell's own fields, against texts worked by hand.
 
-use crate::saying::left_len;
+use crate::reply_text::left_len;
 use crate::{Desk, Shell, TELNET_PORT};
 use app_events::App;
 use std::mem::size_of;

@@ -5,23 +5,23 @@
 
 mod area;
 mod byte_order;
-mod converting;
 mod dump_line;
 mod fields;
 mod form;
 mod laws;
+mod line_dump;
+mod line_loop;
 mod line_reader;
-mod line_reading;
 mod reader;
 mod record;
+mod slip_conversion;
 mod slip_end;
 mod stage;
-mod telling;
 mod watch;
 
-pub use converting::slip;
 pub use laws::{
     constant_values, lines_come_back, read_in_one_way, records_are_datagrams, slip_end_is_reported,
 };
+pub use line_dump::{dump, pcap};
+pub use slip_conversion::slip;
 pub use slip_end::{CaptureWhy, SlipEnd};
-pub use telling::{dump, pcap};

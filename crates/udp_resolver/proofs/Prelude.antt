@@ -5,7 +5,7 @@ pub use Rattle.dns_message.specs.Replies.{way_back}
 unfoldable pub use Rattle.dns_message.specs.Replies.{answer_to, query_datagram}
 pub use Rattle.dns_message.specs.declared.answer.Answer.{Answer}
 pub use Rattle.dns_message.specs.declared.answer.Answer.TheVariants.{Address, Code}
-pub use Rattle.dns_message.specs.declared.asking.Asking.{Asking}
+pub use Rattle.dns_message.specs.declared.query.Asking.{Asking}
 pub use Rattle.packet_buffer.specs.Prelude.{Buffer}
 pub use Rattle.rexmit_timer.specs.Prelude.{IsAtAge, IsBeatOfAge, ages}
 pub use Rattle.rexmit_timer.specs.declared.timer.Beat.{Beat}

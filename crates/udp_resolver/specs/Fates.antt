@@ -3,7 +3,7 @@ use Rattle.std.specs.Prelude.{ℕ, suc, zero, ◌+◌, ◌%◌, nat_le, if◌the
 use Rattle.std.specs.List.{list_all}
 use Rattle.dns_message.specs.Replies.{answer_to}
 use Rattle.dns_message.specs.declared.answer.Answer.{Answer}
-use Rattle.dns_message.specs.declared.asking.Asking.{Asking}
+use Rattle.dns_message.specs.declared.query.Asking.{Asking}
 use Rattle.rexmit_timer.specs.Prelude.{give_up_age}
 use Rattle.rexmit_timer.specs.declared.timer.TheConstants.{TEXT_LIMIT}
 use Rattle.udp_resolver.specs.LineEvents.{LineEvent, MediumInput, Silence}

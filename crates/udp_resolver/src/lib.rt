@@ -8,7 +8,7 @@ mod clock;
 mod fate;
 mod laws;
 mod lines;
-mod resolving;
+mod resolver;
 mod run;
 mod sender;
 #[cfg(test)]
@@ -20,7 +20,7 @@ pub use laws::{
     addresses_are_from_replies, budget_is_reported, constant_values, end_is_reported,
     events_are_of_the_line,
 };
-pub use resolving::resolve;
+pub use resolver::resolve;
 
 /// The most names that are queried at once.
 pub const MOST_NAMES: usize = 4;

@@ -8,7 +8,7 @@ use crate::calls::{
 };
 use crate::handle::AppDevice;
 use crate::held::Held;
-use crate::opening::{uip_app_close, uip_app_open};
+use crate::open_close::{uip_app_close, uip_app_open};
 use c_calls::{BAD_ARGUMENT, HAS_DEVICE, NO_DEVICE, NOT_READY, OK, UipReceived, UipResult};
 use frame_device::LARGEST_OUT;
 use frame_device::worked::{

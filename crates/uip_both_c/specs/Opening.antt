@@ -8,7 +8,7 @@ use Rattle.uip_both_c.specs.BothSpec.{site_of}
 use Rattle.uip_both_c.specs.Handles.{IsFreshBothEther, OpensBothAs}
 use Rattle.uip_both_c.specs.Kept.{BothEther, Kept}
 use Rattle.uip_device.specs.Prelude.{FailsAs, IsOfImage}
-use Rattle.uip_device.specs.declared.opening.OpenFault.{OpenFault}
+use Rattle.uip_device.specs.declared.web_setup.OpenFault.{OpenFault}
 use Rattle.uip_wire.specs.declared.addr.Addr.{Addr}
 
 -- A fresh device as this host with the site of this image, or the reason why there is none.

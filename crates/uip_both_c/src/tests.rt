@@ -6,8 +6,8 @@ ghost use Rattle.std.specs.declared.option.Option.TheVariants.{None};
 use crate::calls::{uip_input_frame, uip_listen, uip_periodic_frame, uip_read, uip_write};
 use crate::handle::UipDevice;
 use crate::held::Held;
-use crate::opening::{uip_close, uip_open_ether};
-use crate::reading::{
+use crate::open_close::{uip_close, uip_open_ether};
+use crate::status_calls::{
     uip_connection, uip_counter, uip_hits, uip_is_idle, uip_query, uip_set_value, uip_ticks,
 };
 use c_calls::{

@@ -13,7 +13,7 @@ use Rattle.frame_device.specs.Prelude.{station_after_moves}
 use Rattle.frame_device.specs.contracts.ether.EthernetFrames.TheImpl.{ghosts as ether_link}
 use Rattle.uip_device.specs.contracts.value_pages.ValuePagesApp.TheImpl.{ghosts}
 use Rattle.uip_device.specs.Prelude.{FailsAs, IsOfImage, first_numbers, value_spec, write_value}
-use Rattle.uip_device.specs.declared.opening.OpenFault.{OpenFault}
+use Rattle.uip_device.specs.declared.web_setup.OpenFault.{OpenFault}
 use Rattle.uip_c.specs.Kept.{EtherWeb}
 
 abbrev pub ether_site : EtherWeb → SiteContent

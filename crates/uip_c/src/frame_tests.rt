@@ -1,10 +1,10 @@
 //! A device on Ethernet: the worked frames of `frame_device`, and each call for another link.
 
 use crate::calls::{uip_drain, uip_input_frame, uip_periodic_frame};
-use crate::ether_opening::uip_open_ether;
+use crate::ether_open::uip_open_ether;
 use crate::handle::UipDevice;
-use crate::opening::uip_open;
-use crate::reading::{
+use crate::open_close::uip_open;
+use crate::status_calls::{
     uip_connection, uip_counter, uip_hits, uip_is_idle, uip_set_value, uip_ticks,
 };
 use crate::tests::{IMAGE, OWN, VALUE_IMAGE, answer, check_refused, close, made, no_device};

@@ -1,6 +1,6 @@
 use crate::calls::uip_input;
-use crate::opening::uip_open;
-use crate::reading::{uip_hits, uip_query};
+use crate::open_close::uip_open;
+use crate::status_calls::{uip_hits, uip_query};
 use crate::tests::{OWN, SYN, VALUE_IMAGE, close, made, no_device};
 use c_calls::{BAD_ARGUMENT, NO_DEVICE, OK};
 use c_pages::UipQuery;

@@ -1,10 +1,10 @@
 use crate::calls::{uip_drain, uip_feed, uip_input, uip_periodic, uip_periodic_datagram};
-use crate::ether_opening::uip_open_ether;
+use crate::ether_open::uip_open_ether;
 use crate::frame_tests::{MAC, MASK, ROUTER, check_frames_refused};
 use crate::handle::UipDevice;
 use crate::held::Held;
-use crate::opening::{uip_close, uip_open};
-use crate::reading::{
+use crate::open_close::{uip_close, uip_open};
+use crate::status_calls::{
     uip_connection, uip_counter, uip_hits, uip_is_idle, uip_set_value, uip_ticks,
 };
 use c_calls::{

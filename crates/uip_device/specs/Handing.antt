@@ -1,7 +1,7 @@
 -- The pending rest of an encoded datagram.
 use Rattle.std.specs.Prelude.{◌≡◌, ◌≤◌, ◌+◌, ◌⊎◌, ℕ, List, [], ◌∷◌, ◌++◌, drop, length, Option, None, Some, IfSome}
 use Rattle.uip_slip.specs.Prelude.{escaped}
-use Rattle.uip_device.specs.declared.handing.TheConstants.{LARGEST_TEXT}
+use Rattle.uip_device.specs.declared.pending_output.TheConstants.{LARGEST_TEXT}
 
 -- the remaining bytes, escaped, and the END after them
 abbrev pub rest_text : List ℕ → List ℕ

@@ -19,8 +19,8 @@ use Rattle.uip_device.specs.Devices.{IsFreshDevice, IsSoundDevice}
 use Rattle.uip_device.specs.Moves.{Move, Writing}
 use Rattle.uip_device.specs.Output.{datagrams_sent, line_sent, node_reached}
 use Rattle.uip_device.specs.declared.device.Device.{Device}
-use Rattle.uip_device.specs.declared.opening.OpenFault.{OpenFault}
-use Rattle.uip_device.specs.declared.opening.OpenFault.TheVariants.{BadSite, NoMemory}
+use Rattle.uip_device.specs.declared.web_setup.OpenFault.{OpenFault}
+use Rattle.uip_device.specs.declared.web_setup.OpenFault.TheVariants.{BadSite, NoMemory}
 
 abbrev pub WebDevice : Type 0
 WebDevice = Device ValuePages DeviceWeb

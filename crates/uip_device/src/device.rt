@@ -11,8 +11,8 @@ ghost use Rattle.uip_device.specs.Handing.{IsPartWritten, text_to_come};
 ghost use Rattle.uip_device.specs.Sending.{SendsOver};
 
 use crate::datagrams::copy_sent;
-use crate::handing::{LARGEST_TEXT, Written, hand_on, write_text};
-use crate::node_reading::{is_node_idle, node_counter, node_row, node_ticks};
+use crate::node_status::{is_node_idle, node_counter, node_row, node_ticks};
+use crate::pending_output::{LARGEST_TEXT, Written, hand_on, write_text};
 use app_events::{App, Row};
 use std::alloc::Global;
 use uip_edge::NoMemory;

@@ -5,23 +5,23 @@
 mod datagrams;
 mod device;
 mod device_web;
-mod handing;
 mod laws;
-mod node_reading;
-mod opening;
+mod node_status;
+mod pending_output;
 mod query;
 mod value_pages;
 mod web_device;
+mod web_setup;
 
 pub use device::{Device, FeedResult};
 pub use device_web::{DeviceWeb, FlashWeb};
-pub use handing::LARGEST_TEXT;
 pub use laws::{calls_are_reported, calls_keep_the_promise, constant_values, line_is_served};
-pub use node_reading::{is_node_idle, node_counter, node_row, node_ticks};
-pub use opening::{OpenFault, open_shared, open_web};
+pub use node_status::{is_node_idle, node_counter, node_row, node_ticks};
+pub use pending_output::LARGEST_TEXT;
 pub use query::{LONGEST_QUERY, Query, QueryRead};
 pub use value_pages::ValuePages;
 pub use web_device::{WebDevice, node_hits, node_query, set_node_value};
+pub use web_setup::{OpenFault, open_shared, open_web};
 
 #[cfg(test)]
 mod tests;

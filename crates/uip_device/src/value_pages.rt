@@ -10,8 +10,8 @@ ghost use Rattle.web_pages.specs.Prelude.{hits_by, target_of, wanted};
 ghost use Rattle.uip_device.specs.Query.{kept_query, kept_text, place_wanted, query_after, query_in, text_after_mark};
 
 use crate::device_web::{DeviceWeb, FlashWeb, see_counted};
-use crate::opening::see_loaded;
 use crate::query::{Query, query_text};
+use crate::web_setup::see_loaded;
 use app_events::{App, Ending, Now, Want};
 use app_pair::CanPair;
 use device_values::ValueCapture;

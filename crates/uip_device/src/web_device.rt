@@ -11,9 +11,9 @@ ghost use Rattle.uip_device.specs.WebDevices.{IsSoundWebDevice, site_in, write_v
 
 use crate::device::Device;
 use crate::device_web::{DeviceWeb, FlashWeb, see_counted};
-use crate::opening::see_loaded;
 use crate::query::QueryRead;
 use crate::value_pages::ValuePages;
+use crate::web_setup::see_loaded;
 use device_values::Values;
 use file_tree::FileId;
 use uip_node::Node;

@@ -32,7 +32,7 @@ pub use Rattle.tcp_machine.proofs.Saying.{open_lives}
 pub use Rattle.tcp_machine.specs.Prelude.{CanBeAsked, ConnRepresents, Connection, HasSoundNumbers, IsAnswer, IsLike, IsSound, LenFits, Meets, Outcome, Rests, SameNumbers, SameSockets, Sockets, StepFits, accept, accepted, after_own_fin, ask, ask_prepared, asked, asked_for, bare_ack, by_beat, by_state, closed, closes, count_of, does_as_wanted, fin_of, first_mss, grows_older, has_text, delivers_text, in_state, is_acked, is_again, is_open, is_out_of_order, is_plain_syn, is_resting, leaves, limit_of, occupies_sequence_space, on_tick, outstanding, peer_has_closed, plain, polls, prepared, rcv_nxt, reset_for_no_connection, reset_of, rests, row_of, rows_from, same_sockets, segment_of, serves, snd_una, syn_ack, takes, text_segment, tick_by, reported_end, tries_of, waits_for_ack, with_part, with_window}
 unfoldable pub use Rattle.tcp_machine.specs.Prelude.{fin_acked, fin_waits, idles, in_established, on_segment, peer_closes, rests_on, stays_established, ticks_established}
 pub use Rattle.tcp_machine.specs.declared.step.Step.{Step}
-pub use Rattle.tcp_machine.specs.declared.ticking.TheConstants.{REST_TIME}
+pub use Rattle.tcp_machine.specs.declared.timeouts.TheConstants.{REST_TIME}
 pub use Rattle.tcp_segment.proofs.Back.{segment_back}
 pub use Rattle.tcp_segment.specs.Prelude.{Datagram, IsReadBack, PlainSegment, datagram_len, datagram_of, fixed_words, has_fin, has_rst, has_syn, offset_of, option_words, plain_of, segment_bytes, segment_sum, sent_in}
 unfoldable pub use Rattle.tcp_segment.specs.Prelude.{datagram_bytes}

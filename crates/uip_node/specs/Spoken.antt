@@ -6,7 +6,7 @@ use Rattle.tcp_segment.specs.Prelude.{PlainSegment, datagram_bytes}
 use Rattle.tcp_machine.specs.Prelude.{Connection, Sockets, rcv_nxt, snd_una}
 use Rattle.uip_node.specs.Edge.{datagram_to, reply_bytes}
 use Rattle.uip_node.specs.Events.{Reply}
-use Rattle.uip_node.specs.declared.speaking.Heading.{Heading}
+use Rattle.uip_node.specs.declared.output.Heading.{Heading}
 
 -- the segment of a connection with this heading and text
 abbrev pub headed : Heading → Connection → List ℕ → PlainSegment

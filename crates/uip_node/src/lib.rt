@@ -3,13 +3,13 @@
 #![tactic(auto)]
 
 pub mod counter;
-mod counters;
-mod counts;
-mod deliver;
+mod event_counts;
+mod increments;
 mod laws;
 mod listing;
 mod node;
-mod speaking;
+mod output;
+mod slot_events;
 
 pub use laws::constant_values;
 pub use node::Node;

@@ -3,11 +3,11 @@
 ghost use Rattle.std.specs.Prelude.{◌≡◌, ◌==◌, ◌&&◌};
 ghost use Rattle.tcp_machine.specs.Prelude.{is_again};
 
-use crate::counts;
-use crate::deliver::{
+use crate::event_counts;
+use crate::output::put_reset;
+use crate::slot_events::{
     ask_app, conn_in, count_slots, is_live_in, open_in, rows_in, speak_in, take_segment, take_tick,
 };
-use crate::speaking::put_reset;
 use app_events::{App, Now};
 use icmp_echo::reply;
 use packet_buffer::Packet;
@@ -165,7 +165,7 @@ impl<A: App> Node<A> {
         ensures step { (n : AbstractNode) → Represents A.App self.old n n.history
             → Represents A.App self.new (step (A.app_spec (A.config self.old.shared)) A.served n Overlong).node (seen Overlong n.history) }
     {
-        counts::overlong(&mut self.net);
+        event_counts::overlong(&mut self.net);
     }
 
     /// Sends the segment of a step of the connection in a slot.
@@ -187,7 +187,7 @@ impl<A: App> Node<A> {
             id,
         ) {
             Some(len) => {
-                counts::speak(&mut self.net, is_again(step));
+                event_counts::speak(&mut self.net, is_again(step));
                 self.ident = id;
                 Some(len)
             }
@@ -235,7 +235,7 @@ impl<A: App> Node<A> {
     {
         let id = self.ident.wrapping_add(1);
         let len = put_reset(&mut self.packet, self.addr, peer, seg, id);
-        counts::speak(&mut self.net, false);
+        event_counts::speak(&mut self.net, false);
         self.ident = id;
         Some(len)
     }
@@ -250,7 +250,7 @@ impl<A: App> Node<A> {
         match self.table.slot_for_syn() {
             Some(slot) => self.open(slot, peer, seg),
             None => {
-                counts::turn_away(&mut self.net);
+                event_counts::turn_away(&mut self.net);
                 None
             }
         }
@@ -279,7 +279,7 @@ impl<A: App> Node<A> {
             (λ m served n. arrives m served n (sockets_of peer seg.now)
             (plain_of seg.now (datagram_in self.old.packet))) self.old self.new result }
     {
-        counts::segment_arrives(&mut self.net);
+        event_counts::segment_arrives(&mut self.net);
         match self.table.find(peer, seg.from, seg.to) {
             Some(slot) => self.deliver(slot, seg),
             None => self.answer_no_connection(peer, seg),
@@ -297,7 +297,7 @@ impl<A: App> Node<A> {
     {
         match check_segment(self.packet.bytes(), head) {
             Err(fate) => {
-                counts::refuse_tcp(&mut self.net, fate);
+                event_counts::refuse_tcp(&mut self.net, fate);
                 None
             }
             Ok(seg) => self.segment_arrives(head.source, &seg),
@@ -313,11 +313,11 @@ impl<A: App> Node<A> {
     {
         match reply(&mut self.packet, head) {
             Err(fate) => {
-                counts::refuse_icmp(&mut self.net, fate);
+                event_counts::refuse_icmp(&mut self.net, fate);
                 None
             }
             Ok(()) => {
-                counts::echo(&mut self.net);
+                event_counts::echo(&mut self.net);
                 Some(self.packet.bytes().len())
             }
         }
@@ -329,7 +329,7 @@ impl<A: App> Node<A> {
     {
         match check_head(self.packet.bytes(), self.addr) {
             Err(fate) => {
-                counts::refuse_ip(&mut self.net, fate);
+                event_counts::refuse_ip(&mut self.net, fate);
                 None
             }
             Ok(head) => match head.proto {
@@ -354,7 +354,7 @@ impl<A: App> Node<A> {
         ensures { Refines A.App (λ m served n. step m served n (Periodic slot)) self.old self.new result }
     {
         count_slots(&self.table);
-        self.ticks = counts::ticks_at(self.ticks, slot);
+        self.ticks = event_counts::ticks_at(self.ticks, slot);
         self.table.next_iss();
         if !is_live_in(&self.table, slot) {
             return None;

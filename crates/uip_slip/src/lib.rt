@@ -3,14 +3,14 @@
 #![tactic(auto)]
 
 mod decoder;
-mod encoding;
+mod encoder;
 mod fed;
 mod marks;
+mod slip_text;
 mod text_area;
-mod writing;
 
 pub use decoder::Decoder;
-pub use encoding::{Encoder, encode, encoded_len, text_is_one_frame};
+pub use encoder::{Encoder, encode, encoded_len, text_is_one_frame};
 pub use fed::{Fed, FedRun};
 pub use marks::END;
-pub use writing::{put_escaped, text_into};
+pub use slip_text::{put_escaped, text_into};

@@ -3,7 +3,7 @@
 ghost use Rattle.std.specs.Prelude.{◌≡◌, ◌≤◌, ◌<◌, ◌+◌, ◌*◌, ◌++◌, [], ◌∷◌, length, take};
 ghost use Rattle.uip_slip.specs.Text.{escaped};
 
-use crate::writing::put_escaped;
+use crate::slip_text::put_escaped;
 use std::marker::Model;
 use uip_wire::LARGEST_DATAGRAM;
 

@@ -3,7 +3,7 @@
 use Rattle.uipd.proofs.Prelude.{◌≡◌, ℕ, ◌-◌, ◌^◌, ◌<◌, ◌≤◌, List, Option, None, Some, Ok, Err, refl, sym, ap, subst, ◌∙◌, inl, inr, arith, ◌⊎◌, ⊤, File, LoadFault, FailsToOpen, LacksFile, site_read, Due, Ends, SiteEnd, EndsWith, IsLoadText, IsReplayText, LacksEither, WroteDue, ReplayEnd, as_due, LineView, LineUnfailed, Outside, WorkView, WorkUnfailed, line_in, work_in, Converts, ReportsLine, SlipEnd, Rose, Files, Item, ServeEnd, CaptureDone, Completes, ImageDone, LacksFor, LineDone, OrShort, ReplayDone, RunIsComplete, ServingDone, no_hits, app_spec_of, output_of, ports_of, TaskRuns, ServeRuns, ServesBy, IsUndisturbed, SiteServes, RunsAs, status_of_fault, status_of_replay, status_of_serving, status_of_site, status_of_slip, Task, Serves, Checks, Pages, Packs, Upgrades, Replays, Loads, Dumps, Captures, PlaysBack, ShowsText, task_of, ServedLine, Status}
 use Rattle.file_tree.specs.declared.load_fault.LoadFault.TheVariants as loads
 use Rattle.site_commands.specs.declared.site_end.SiteEnd.TheVariants as sites
-use Rattle.link_replay.specs.declared.replay_end.ReplayEnd.TheVariants as replays
+use Rattle.link_replay.specs.declared.commands.replay_end.ReplayEnd.TheVariants as replays
 use Rattle.trace.specs.declared.slip_end.SlipEnd.TheVariants as slips
 use Rattle.uip_edge.specs.declared.serve_end.ServeEnd.TheVariants as serves
 use Rattle.uipd.specs.declared.status.Status.TheVariants as status

@@ -3,7 +3,7 @@ use Rattle.uipd.proofs.Prelude.{◌≡◌, ℕ, List, Option, sym, ◌∙◌, in
 use Rattle.uip_edge.specs.declared.serve_end.ServeEnd.TheVariants as serves
 use Rattle.file_tree.specs.declared.load_fault.LoadFault.TheVariants as loads
 use Rattle.site_commands.specs.declared.site_end.SiteEnd.TheVariants as ends
-use Rattle.link_replay.specs.declared.replay_end.ReplayEnd.TheVariants as replays
+use Rattle.link_replay.specs.declared.commands.replay_end.ReplayEnd.TheVariants as replays
 
 serving_has_words : (end : ServeEnd) → status_of_serving end ≡ BadWords → ⊥
 serving_has_words serves.End e = cc

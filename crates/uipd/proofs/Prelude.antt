@@ -11,7 +11,7 @@ pub use Rattle.line_medium.specs.Prelude.{MediumSpec}
 pub use Rattle.line_laws.proofs.Lines.{every_line}
 pub use Rattle.link_replay.proofs.Undisturbed.{as_due}
 pub use Rattle.link_replay.specs.Prelude.{EndsWith, IsLoadText, IsReplayText, LacksEither, WroteDue}
-pub use Rattle.link_replay.specs.declared.replay_end.ReplayEnd.{ReplayEnd}
+pub use Rattle.link_replay.specs.declared.commands.replay_end.ReplayEnd.{ReplayEnd}
 pub use Rattle.node_laws.proofs.EveryTraceConforms.{paged_everywhere}
 pub use Rattle.node_laws.specs.Prelude.{HasOutputModel}
 pub use Rattle.serve_loop.proofs.ByteLaws.{slip_brings_bytes}

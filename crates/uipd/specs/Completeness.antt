@@ -6,7 +6,7 @@ use Rattle.site_image.specs.Prelude.{File}
 use Rattle.site_image.specs.declared.site_error.SiteError.{SiteError}
 use Rattle.site_commands.specs.Prelude.{Due, check_due, page_due, pack_due, upgrade_due, end_of}
 use Rattle.link_replay.specs.Prelude.{IsLoadText, IsReplayText, LacksEither}
-use Rattle.link_replay.specs.declared.replay_end.ReplayEnd.{ReplayEnd}
+use Rattle.link_replay.specs.declared.commands.replay_end.ReplayEnd.{ReplayEnd}
 use Rattle.trace.specs.Prelude.{capture_file, Converts, dump_text}
 use Rattle.trace.specs.declared.slip_end.SlipEnd.{SlipEnd}
 use Rattle.trace.specs.declared.slip_end.SlipEnd.TheVariants as slips

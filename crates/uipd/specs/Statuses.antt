@@ -7,8 +7,8 @@ use Rattle.file_tree.specs.declared.load_fault.LoadFault.{LoadFault}
 use Rattle.file_tree.specs.declared.load_fault.LoadFault.TheVariants as loads
 use Rattle.site_commands.specs.declared.site_end.SiteEnd.{SiteEnd}
 use Rattle.site_commands.specs.declared.site_end.SiteEnd.TheVariants as ends
-use Rattle.link_replay.specs.declared.replay_end.ReplayEnd.{ReplayEnd}
-use Rattle.link_replay.specs.declared.replay_end.ReplayEnd.TheVariants as replays
+use Rattle.link_replay.specs.declared.commands.replay_end.ReplayEnd.{ReplayEnd}
+use Rattle.link_replay.specs.declared.commands.replay_end.ReplayEnd.TheVariants as replays
 use Rattle.trace.specs.declared.slip_end.SlipEnd.{SlipEnd}
 use Rattle.trace.specs.declared.slip_end.SlipEnd.TheVariants as slips
 use Rattle.uipd.specs.declared.status.Status.{Status}

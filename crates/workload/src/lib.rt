@@ -3,7 +3,7 @@
 
 mod events;
 mod laws;
-mod making;
+mod maker;
 
 pub use laws::worked_workloads;
-pub use making::make;
+pub use maker::make;

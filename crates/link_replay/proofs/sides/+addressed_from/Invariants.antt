@@ -1,5 +1,0 @@
-use Rattle.link_replay.proofs.Prelude.{length}
-use Rattle.link_replay.proofs.sides.+addressed_from.Given as goal
-
-abbrev pub decreases-addressed_from : goal.decreases-addressed_from
-decreases-addressed_from l = length l.sides.now

@@ -1,4 +1,0 @@
-use Rattle.serve_loop.proofs.serving.serve.Goals as goal
-
-pub returns-clause-serves : goal.returns-clause-serves
-returns-clause-serves g c = c.serve_over.ensures.serves tt c.new-medium.ensures

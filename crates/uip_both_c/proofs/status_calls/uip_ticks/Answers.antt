@@ -1,0 +1,9 @@
+use Rattle.uip_both_c.proofs.Taking.{read_out}
+use Rattle.uip_both_c.proofs.status_calls.uip_ticks.Goals as goal
+
+pub returns-in-Some-read_device-clause-fine : goal.returns-in-Some-read_device-clause-fine
+returns-in-Some-read_device-clause-fine c = rw c.read_device-read.ensures (λ fine. (
+  c.deref.result.now,
+  read_out c.deref.result.now c.in-Some-read_device.opened.value _ c.deref.ensures c.in-Some-read_device.ensures.taken,
+  λ files own n s. c.node_ticks.ensures n s.node.represented,
+))
