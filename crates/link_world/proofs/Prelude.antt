@@ -63,7 +63,7 @@ pub use Rattle.uip_node.proofs.SocketPairs.{apart, flip, is_same, not_peer, same
 pub use Rattle.uip_node.proofs.SoundSegments.{IsSoundSegment, Lens, accepted_lens, asked_lens, closed_lens, none_sound, on_segment_lens, on_tick_lens, said_sound}
 pub use Rattle.uip_node.proofs.Steadiness.{steady_of}
 pub use Rattle.uip_node.proofs.Stepped.{stepped_fits, stepped_tells}
-pub use Rattle.uip_node.proofs.Reported.{IsDue, Onto, OutReported, Safe, SafeState, StepReports, Still, Tells, alike_refl, alike_sym, alike_trans, due, segment_tells, tick_tells}
+pub use Rattle.uip_node.proofs.Outstanding.{IsDue, Onto, OutReported, Safe, SafeState, StepReports, Still, Tells, alike_refl, alike_sym, alike_trans, due, segment_tells, tick_tells}
 pub use Rattle.uip_node.specs.Prelude.{AbstractNode, Alike, Answer, AnswersIn, Arrived, Echo, EchoAsked, EchoReplied, Event, GoesOnBy, HasBytes, HistoryEntry, IcmpRefused, IpRefused, IsEvent, IsSlice, IsSteady, NoSlot, NodeStep, Overlong, Periodic, Reply, SendsBytes, Silent, Spoke, TcpReply, TcpRefused, arrives, arrives_at, by_head, by_proto, by_segment, connection_in, counters, datagram_to, event_of, gone_by, ident_of, initial_node, initial_number, opens, passes, periodic, raised_by, raised_by_answer, raises, refuses, remembers, run, serving, slot_for_syn, snapshot, step, tick, ticks_of, times}
 pub use Rattle.uip_wire.proofs.Folding.{one_byte}
 pub use Rattle.uip_wire.specs.Prelude.{address_at, checksum_of, word_at, wrap}

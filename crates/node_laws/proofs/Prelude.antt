@@ -53,7 +53,7 @@ pub use Rattle.uip_node.proofs.SocketPairs.{is_same, same_is, same_self, serves_
 pub use Rattle.uip_node.proofs.SoundSegments.{IsSoundSegment, Lens, LensWithin, accepted_lens, asked_lens, asked_within, closed_lens, on_segment_lens, on_segment_within, on_tick_lens, on_tick_within, said_sound}
 pub use Rattle.uip_node.proofs.Steadiness.{steady_of}
 pub use Rattle.uip_node.proofs.Stepped.{stepped_fits, stepped_tells}
-pub use Rattle.uip_node.proofs.Reported.{IsDue, OutReports, Safe, SafeState, StepReports, alike_refl, alike_sym, alike_trans, due, segment_tells, tick_tells}
+pub use Rattle.uip_node.proofs.Outstanding.{IsDue, OutReports, Safe, SafeState, StepReports, alike_refl, alike_sym, alike_trans, due, segment_tells, tick_tells}
 pub use Rattle.uip_node.specs.Prelude.{AbstractNode, Alike, AnswersPolled, Arrived, Echo, EchoAsked, Event, GoesOnBy, HasBytes, HistoryEntry, IcmpRefused, IpRefused, IsEvent, IsSlice, IsSteady, NodeStep, Overlong, Periodic, Reply, SendsBytes, TcpReply, TcpRefused, arrives_at, by_head, by_proto, by_segment, called_by, connection_in, datagram_to, event_of, ident_of, initial_node, initial_number, joined, opens, periodic, refuses, run, serving, slot_for_syn, snapshot, step}
 unfoldable pub use Rattle.uip_node.specs.Prelude.{for_no_connection, happened, opens_in}
 pub use Rattle.uip_wire.specs.Prelude.{address_at, checksum_of, long_at, word_at, wrap}

@@ -1,7 +1,7 @@
 -- A connection whose application was asked fits, and has what is outstanding; its numbers are low.
 use Rattle.uip_node.proofs.Prelude.{All, ℕ, ◌<◌, ◌≤◌, length, sym, subst, arith, AppState, AppSpec, IsSnapshot, IsNow, IsU32, Now, State, Closed, SynRcvd, Established, CloseWait, FinWait1, FinWait2, Closing, TimeWait, LastAck, Connection, Outcome, asked, IsSteady}
 use Rattle.uip_node.proofs.Fits.{FitConn, FitOut, asked_fits, prepared_snapshots}
-use Rattle.uip_node.proofs.Reported.{IsNear, TextSafe, SafeState, OutReports, OutReported, asked_tells}
+use Rattle.uip_node.proofs.Outstanding.{IsNear, TextSafe, SafeState, OutReports, OutReported, asked_tells}
 
 module _ (m : AppSpec) (steady : IsSteady m) (Low : ℕ → Type 0) (low_text : (p : AppState) → All IsSnapshot p.snapshots → Low (length (m.output p))) where
   asks_fit : (o : Outcome) → All IsU32 o.numbers → FitConn o.connection → (now : Now) → IsNow now → All IsSnapshot (m.prepare o.numbers o.connection.part now).snapshots
