@@ -35,7 +35,7 @@ fn input_or_drop(device: &mut OwnEther, frame: &mut [u8], len: usize) -> usize
 /// one, to the same place: an ARP packet, or the reply of the node. A frame of fewer than 14 or more than 1514 bytes is dropped, and so is
 /// one for another host, or a TCP segment to a port that is not open.
 #[unsafe(no_mangle)]
-pub extern "C" fn uip_app_input_frame(
+pub extern "C" fn uip_app_input_frame_area(
     alloc: Global,
     device: &mut AppDevice,
     frame: &mut [u8],

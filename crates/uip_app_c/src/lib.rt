@@ -10,7 +10,7 @@ mod open_close;
 mod tests;
 
 pub use calls::{
-    uip_app_input_frame, uip_app_listen, uip_app_periodic_frame, uip_app_read, uip_app_write,
+    uip_app_input_frame_area, uip_app_listen, uip_app_periodic_frame, uip_app_read, uip_app_write,
 };
 pub use handle::AppDevice;
 pub use held::{Held, OwnEther};

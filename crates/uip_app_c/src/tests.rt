@@ -4,7 +4,7 @@ ghost use Rattle.std.specs.Prelude.{◌≡◌};
 ghost use Rattle.std.specs.declared.option.Option.TheVariants.{None};
 
 use crate::calls::{
-    uip_app_input_frame, uip_app_listen, uip_app_periodic_frame, uip_app_read, uip_app_write,
+    uip_app_input_frame_area, uip_app_listen, uip_app_periodic_frame, uip_app_read, uip_app_write,
 };
 use crate::handle::AppDevice;
 use crate::held::Held;
@@ -76,7 +76,7 @@ fn check_reply(
     let mut frame = [0; LARGEST_OUT];
     frame[..42].copy_from_slice(sent);
     assert_eq!(rt;
-        uip_app_input_frame(alloc, device, &mut frame, 42),
+        uip_app_input_frame_area(alloc, device, &mut frame, 42),
         UipResult::done(42, reply.len(), None)
     );
     assert!(rt; frame.starts_with(reply));
@@ -86,7 +86,10 @@ fn check_reply(
 fn check_refused(rt: &impl Abort, alloc: Global, device: &mut AppDevice, status: u32) {
     let mut frame = [0; LARGEST_OUT];
     let refused = UipResult::refused(status);
-    assert_eq!(rt; uip_app_input_frame(alloc, device, &mut frame, 42), refused);
+    assert_eq!(rt;
+        uip_app_input_frame_area(alloc, device, &mut frame, 42),
+        refused
+    );
     assert_eq!(rt;
         uip_app_periodic_frame(alloc, device, 9, &mut frame),
         refused
@@ -162,7 +165,7 @@ fn four_ports_are_opened(rt: HostRuntime) {
     let mut frame = [0; LARGEST_OUT];
     frame[..54].copy_from_slice(&SYN);
     assert_eq!(rt;
-        uip_app_input_frame(alloc, &mut device, &mut frame, 54),
+        uip_app_input_frame_area(alloc, &mut device, &mut frame, 54),
         UipResult::done(54, 0, None)
     );
     for port in [502, 23, 5025, 65535, 502] {
@@ -170,7 +173,7 @@ fn four_ports_are_opened(rt: HostRuntime) {
     }
     assert_eq!(rt; uip_app_listen(alloc, &mut device, 7), BAD_ARGUMENT);
     assert_eq!(rt;
-        uip_app_input_frame(alloc, &mut device, &mut frame, 54),
+        uip_app_input_frame_area(alloc, &mut device, &mut frame, 54),
         UipResult::done(54, 58, None)
     );
     close(&rt, alloc, device);
@@ -183,7 +186,7 @@ fn a_bad_argument_is_refused(rt: HostRuntime) {
     let mut frame = [0; LARGEST_OUT];
     let refused = UipResult::refused(BAD_ARGUMENT);
     assert_eq!(rt;
-        uip_app_input_frame(alloc, &mut device, &mut frame, 1515),
+        uip_app_input_frame_area(alloc, &mut device, &mut frame, 1515),
         refused
     );
     assert_eq!(rt;

@@ -12,7 +12,7 @@ mod status_calls;
 #[cfg(test)]
 mod tests;
 
-pub use calls::{uip_input_frame, uip_listen, uip_periodic_frame, uip_read, uip_write};
+pub use calls::{uip_input_frame_area, uip_listen, uip_periodic_frame, uip_read, uip_write};
 pub use handle::UipDevice;
 pub use held::{BothApps, BothEther, Held};
 pub use laws::{both_calls_are_exact, both_calls_keep_the_promise};

@@ -3,7 +3,7 @@
 ghost use Rattle.std.specs.Prelude.{◌≡◌};
 ghost use Rattle.std.specs.declared.option.Option.TheVariants.{None};
 
-use crate::calls::{uip_input_frame, uip_listen, uip_periodic_frame, uip_read, uip_write};
+use crate::calls::{uip_input_frame_area, uip_listen, uip_periodic_frame, uip_read, uip_write};
 use crate::handle::UipDevice;
 use crate::held::Held;
 use crate::open_close::{uip_close, uip_open_ether};
@@ -104,7 +104,7 @@ fn check_reply(
     let mut frame = [0; LARGEST_OUT];
     frame[..42].copy_from_slice(sent);
     assert_eq!(rt;
-        uip_input_frame(alloc, device, &mut frame, 42),
+        uip_input_frame_area(alloc, device, &mut frame, 42),
         UipResult::done(42, reply.len(), None)
     );
     assert!(rt; frame.starts_with(reply));
@@ -124,7 +124,7 @@ fn check_datagram(
     frame[..14].copy_from_slice(&HEADER);
     frame[14..14 + len].copy_from_slice(datagram);
     assert_eq!(rt;
-        uip_input_frame(alloc, device, &mut frame, 14 + len),
+        uip_input_frame_area(alloc, device, &mut frame, 14 + len),
         UipResult::done(14 + len, written, None)
     );
 }
@@ -133,7 +133,10 @@ fn check_datagram(
 fn check_refused(rt: &impl Abort, alloc: Global, device: &mut UipDevice, status: u32) {
     let mut frame = [0; LARGEST_OUT];
     let refused = UipResult::refused(status);
-    assert_eq!(rt; uip_input_frame(alloc, device, &mut frame, 42), refused);
+    assert_eq!(rt;
+        uip_input_frame_area(alloc, device, &mut frame, 42),
+        refused
+    );
     assert_eq!(rt; uip_periodic_frame(alloc, device, 9, &mut frame), refused);
     assert_eq!(rt;
         uip_write(alloc, device, 9, 0, b"bye\n", 1, &mut frame),
@@ -311,7 +314,7 @@ fn a_bad_argument_is_refused(rt: HostRuntime) {
     let mut frame = [0; LARGEST_OUT];
     let refused = UipResult::refused(BAD_ARGUMENT);
     assert_eq!(rt;
-        uip_input_frame(alloc, &mut device, &mut frame, 1515),
+        uip_input_frame_area(alloc, &mut device, &mut frame, 1515),
         refused
     );
     assert_eq!(rt;

@@ -193,7 +193,7 @@ pub extern "C" fn uip_periodic_datagram(
 /// one, to the same place: an ARP packet, or the reply of the node. A frame of fewer than 14 or more than 1514 bytes is dropped, and so is
 /// one for another host.
 #[unsafe(no_mangle)]
-pub extern "C" fn uip_input_frame(
+pub extern "C" fn uip_input_frame_area(
     alloc: Global,
     device: &mut UipDevice,
     frame: &mut [u8],

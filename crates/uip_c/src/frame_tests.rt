@@ -1,6 +1,6 @@
 //! A device on Ethernet: the worked frames of `frame_device`, and each call for another link.
 
-use crate::calls::{uip_drain, uip_input_frame, uip_periodic_frame};
+use crate::calls::{uip_drain, uip_input_frame_area, uip_periodic_frame};
 use crate::ether_open::uip_open_ether;
 use crate::handle::UipDevice;
 use crate::open_close::uip_open;
@@ -45,7 +45,10 @@ pub(crate) fn check_frames_refused(
 ) {
     let mut frame = [0; LARGEST_OUT];
     let refused = answer(status);
-    assert_eq!(rt; uip_input_frame(alloc, device, &mut frame, 60), refused);
+    assert_eq!(rt;
+        uip_input_frame_area(alloc, device, &mut frame, 60),
+        refused
+    );
     assert_eq!(rt; uip_periodic_frame(alloc, device, 0, &mut frame), refused);
 }
 
@@ -55,7 +58,7 @@ fn check_reply(rt: &impl Abort, alloc: Global, device: &mut UipDevice, sent: &[u
     let len = sent.len();
     assert!(rt; len <= frame.len());
     frame[..len].copy_from_slice(sent);
-    let done = uip_input_frame(alloc, device, &mut frame, len);
+    let done = uip_input_frame_area(alloc, device, &mut frame, len);
     assert_eq!(rt; done, made(len, reply.len()));
     assert!(rt; frame.starts_with(reply));
 }
@@ -95,9 +98,12 @@ fn a_call_for_another_link_is_refused(rt: HostRuntime) {
     );
     let bad = answer(BAD_ARGUMENT);
     assert_eq!(rt; uip_periodic_frame(alloc, &mut device, 10, &mut frame), bad);
-    assert_eq!(rt; uip_input_frame(alloc, &mut device, &mut frame, 1515), bad);
     assert_eq!(rt;
-        uip_input_frame(alloc, &mut device, &mut frame[1..], 60),
+        uip_input_frame_area(alloc, &mut device, &mut frame, 1515),
+        bad
+    );
+    assert_eq!(rt;
+        uip_input_frame_area(alloc, &mut device, &mut frame[1..], 60),
         bad
     );
     assert_eq!(rt;

@@ -17,8 +17,8 @@ mod status_calls;
 mod tests;
 
 pub use calls::{
-    MIN_OUT, uip_drain, uip_feed, uip_input, uip_input_frame, uip_periodic, uip_periodic_datagram,
-    uip_periodic_frame,
+    MIN_OUT, uip_drain, uip_feed, uip_input, uip_input_frame_area, uip_periodic,
+    uip_periodic_datagram, uip_periodic_frame,
 };
 pub use ether_open::uip_open_ether;
 pub use handle::UipDevice;
