@@ -89,7 +89,7 @@ static byte *begin_frame(const tested *t, const byte *frame, size_t len, size_t 
 
 static uip_result frame_in(tested *t, const byte *frame, size_t len, size_t room, text *to) {
     byte *out = begin_frame(t, frame, len, room);
-    uip_result done = uip_input_frame(&t->handle, out, room, len);
+    uip_result done = uip_input_frame(&t->handle, out, len, room);
     unsigned wanted = foretold(t, room < UIP_MAX_FRAME || len > room, ETHER);
     end(t, done, wanted, out, room, to, "uip_input_frame");
     WANT(done.pending == 0 && done.consumed == (wanted == UIP_OK ? len : 0), "uip_input_frame took %zu of %zu bytes", done.consumed, len);

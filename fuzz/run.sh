@@ -65,7 +65,7 @@ asan)
     build fuzz_asan -O1 -fsanitize=address,undefined -fno-sanitize-recover=all "$here"/*.c
     exec "$out/fuzz_asan" 1000000 "${2:-1000000}" "${3:-1}" $4;;
 planted)
-    calls="open open_ether feed periodic drain input periodic_datagram input_frame periodic_frame counter"
+    calls="open open_ether feed periodic drain input periodic_datagram input_frame_area periodic_frame counter"
     calls="$calls set_value hits query is_idle connection close"
     planted 44 "$here/*.c" planted.c "$(printf 'uip_%s ' $calls)" 3000000 1 mixed;;
 app)
@@ -77,7 +77,7 @@ app-asan)
     build fuzz_app_asan -O1 -fsanitize=address,undefined -fno-sanitize-recover=all $app
     exec "$out/fuzz_app_asan" 1000000 "${2:-1000000}" "${3:-1}";;
 app-planted)
-    calls="open listen input_frame periodic_frame read write close"
+    calls="open listen input_frame_area periodic_frame read write close"
     planted 67 "$app" app.c "node_writes node_listens $(printf 'uip_app_%s ' $calls)" 3000000 1;;
 both)
     # shellcheck disable=SC2086
@@ -88,7 +88,7 @@ both-asan)
     build fuzz_both_asan -O1 -fsanitize=address,undefined -fno-sanitize-recover=all $both
     exec "$out/fuzz_both_asan" 1000000 "${2:-1000000}" "${3:-1}";;
 both-planted)
-    calls="open_ether listen input_frame periodic_frame read write close set_value hits query is_idle connection ticks counter"
+    calls="open_ether listen input_frame_area periodic_frame read write close set_value hits query is_idle connection ticks counter"
     planted 99 "$both" both.c "node_writes node_listens node_receives $(printf 'uip_%s ' $calls)" 3000000 1;;
 esac
 

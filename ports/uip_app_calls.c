@@ -12,10 +12,10 @@ unsigned uip_app_open(uip_app *device, const unsigned char own[4], const unsigne
     return status;
 }
 
-uip_result uip_app_input_frame(uip_app *device, unsigned char *frame, size_t room, size_t len) {
+uip_result uip_app_input_frame_area(uip_app *device, unsigned char *frame, size_t room, size_t len) {
     module_device d = of_device(device);
     module_result result;
-    port_uip_app_input_frame(&result, &d, frame, room, len);
+    port_uip_app_input_frame_area(&result, &d, frame, room, len);
     put_device(device, &d);
     return of_result(&result);
 }

@@ -79,10 +79,10 @@ uip_opened uip_open_ether(uip_device *device, const unsigned char *image, size_t
     return opened;
 }
 
-uip_result uip_input_frame(uip_device *device, unsigned char *frame, size_t room, size_t len) {
+uip_result uip_input_frame_area(uip_device *device, unsigned char *frame, size_t room, size_t len) {
     module_device d = of_device(device);
     module_result result;
-    port_uip_input_frame(&result, &d, frame, room, len);
+    port_uip_input_frame_area(&result, &d, frame, room, len);
     put_device(device, &d);
     return of_result(&result);
 }

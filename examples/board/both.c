@@ -47,7 +47,7 @@ int main(void) {
     mac_start(mac);
     for (unsigned ticks = 0; status == UIP_OK; board_sleep(ticks)) {
         size_t len = mac_receive(frame, sizeof frame);
-        if (len) status = sent(uip_input_frame(&device, frame, sizeof frame, len));
+        if (len) status = sent(uip_input_frame(&device, frame, len, sizeof frame));
         if (status == UIP_OK && tick_is_due(&ticks)) status = tick();
         if (status == UIP_OK) status = serve();
     }

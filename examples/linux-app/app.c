@@ -138,7 +138,7 @@ static void serve(void) {
 
 static void receive(const unsigned char *bytes, size_t len) {
     memcpy(frame, bytes, len);
-    send_frame(uip_app_input_frame(&device, frame, sizeof frame, len));
+    send_frame(uip_app_input_frame(&device, frame, len, sizeof frame));
     serve();
 }
 

@@ -18,8 +18,8 @@ size=$(tool "${SIZE:-llvm-size}" "$kit/llvm-size" size) || fail "no llvm-size he
 mkdir -p "$out"
 case "$1" in
 both) crate=uip_both_c prefix=uip
-    calls="open_ether input_frame periodic_frame set_value hits query ticks counter is_idle connection close listen read write";;
-*) crate=uip_app_c prefix=uip_app calls="open listen input_frame periodic_frame read write close";;
+    calls="open_ether input_frame_area periodic_frame set_value hits query ticks counter is_idle connection close listen read write";;
+*) crate=uip_app_c prefix=uip_app calls="open listen input_frame_area periodic_frame read write close";;
 esac
 library=${LIBRARY:-$out/lib${crate}_aarch64.a}
 [ -n "$LIBRARY" ] || sh "$top/ports/aarch64.sh" $crate "$library" || exit 1

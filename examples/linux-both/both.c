@@ -96,7 +96,7 @@ static void open_device(const char *name) {
 static void work(void) {
     size_t len = mac_receive(frame, sizeof frame);
     if (len) {
-        send_written(uip_input_frame(&device, frame, sizeof frame, len));
+        send_written(uip_input_frame(&device, frame, len, sizeof frame));
         serve();
     }
     if (half_a_second_passed()) {

@@ -69,7 +69,7 @@ static void without_a_device(void) {
     expect(is(uip_input(&device, request, 30, out, sizeof out), UIP_NO_DEVICE, 0, 0), "uip_input without a device");
     expect(is(uip_periodic_datagram(&device, 0, out, sizeof out), UIP_NO_DEVICE, 0, 0), "uip_periodic_datagram without a device");
     expect(is(uip_drain(&device, out, sizeof out), UIP_NO_DEVICE, 0, 0), "uip_drain without a device");
-    expect(is(uip_input_frame(&device, out, sizeof out, 60), UIP_NO_DEVICE, 0, 0), "uip_input_frame without a device");
+    expect(is(uip_input_frame(&device, out, 60, sizeof out), UIP_NO_DEVICE, 0, 0), "uip_input_frame without a device");
     expect(is(uip_periodic_frame(&device, 0, out, sizeof out), UIP_NO_DEVICE, 0, 0), "uip_periodic_frame without a device");
     expect(uip_ticks(&device).status == UIP_NO_DEVICE, "uip_ticks without a device");
     expect(uip_counter(&device, UIP_DATAGRAMS_IN).status == UIP_NO_DEVICE, "uip_counter without a device");
@@ -100,7 +100,7 @@ static void bad_calls(void) {
     expect(is(uip_periodic(&device, 10, out, sizeof out), UIP_BAD_ARGUMENT, 0, 0), "uip_periodic of slot 10");
     expect(is(uip_input(&device, request, UIP_MAX_DATAGRAM + 1, out, sizeof out), UIP_BAD_ARGUMENT, 0, 0), "uip_input, long");
     expect(is(uip_periodic_datagram(&device, 0, out, UIP_MAX_DATAGRAM - 1), UIP_BAD_ARGUMENT, 0, 0), "uip_periodic_datagram with too little room");
-    expect(is(uip_input_frame(&device, out, sizeof out, 60), UIP_WRONG_LINK, 0, 0), "uip_input_frame on a line");
+    expect(is(uip_input_frame(&device, out, 60, sizeof out), UIP_WRONG_LINK, 0, 0), "uip_input_frame on a line");
     expect(is(uip_periodic_frame(&device, 0, out, sizeof out), UIP_WRONG_LINK, 0, 0), "uip_periodic_frame on a line");
     expect(uip_counter(&device, 0).status == UIP_BAD_ARGUMENT && uip_counter(&device, 21).status == UIP_BAD_ARGUMENT, "uip_counter of none");
     expect(uip_connection(&device, UIP_SLOTS).status == UIP_BAD_ARGUMENT, "uip_connection of slot 10");
@@ -167,8 +167,9 @@ static void opening_on_ethernet(void) {
 }
 
 static void bad_calls_on_ethernet(void) {
-    expect(is(uip_input_frame(&device, out, UIP_MAX_FRAME - 1, 60), UIP_BAD_ARGUMENT, 0, 0), "uip_input_frame with too little room");
-    expect(is(uip_input_frame(&device, out, UIP_MAX_FRAME, UIP_MAX_FRAME + 1), UIP_BAD_ARGUMENT, 0, 0), "uip_input_frame, too long");
+    expect(is(uip_input_frame(&device, out, 60, UIP_MAX_FRAME - 1), UIP_BAD_ARGUMENT, 0, 0), "uip_input_frame with too little room");
+    expect(is(uip_input_frame(&device, out, UIP_MAX_FRAME + 1, UIP_MAX_FRAME), UIP_BAD_ARGUMENT, 0, 0), "uip_input_frame, too long");
+    expect(is(uip_input_frame(&device, out, UIP_MAX_FRAME, 60), UIP_BAD_ARGUMENT, 0, 0), "uip_input_frame, len and room exchanged");
     expect(is(uip_periodic_frame(&device, UIP_SLOTS, out, sizeof out), UIP_BAD_ARGUMENT, 0, 0), "uip_periodic_frame of slot 10");
     expect(is(uip_periodic_frame(&device, 0, out, UIP_MAX_FRAME - 1), UIP_BAD_ARGUMENT, 0, 0), "uip_periodic_frame with too little room");
     expect(is(uip_feed(&device, request_text, 34, out, sizeof out), UIP_WRONG_LINK, 0, 0), "uip_feed on Ethernet");
@@ -188,7 +189,7 @@ static void bad_calls_on_ethernet(void) {
 // Passes a frame to the device, and compares what it sends.
 static void exchange(const unsigned char *sent, size_t len, const unsigned char *expected, size_t expected_len, const char *what) {
     memcpy(out, sent, len);
-    uip_result done = uip_input_frame(&device, out, UIP_MAX_FRAME, len);
+    uip_result done = uip_input_frame(&device, out, len, UIP_MAX_FRAME);
     expect(is(done, UIP_OK, len, expected_len) && done.pending == 0 && !memcmp(out, expected, expected_len), what);
 }
 

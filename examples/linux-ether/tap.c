@@ -72,7 +72,7 @@ static void receive_until(double time) {
     ssize_t len = read(tap, frame, sizeof frame);
     if (len < 0) fail("read");
     received++;
-    uip_result done = uip_input_frame(&device, frame, sizeof frame, (size_t)len);
+    uip_result done = uip_input_frame(&device, frame, (size_t)len, sizeof frame);
     expect_ok(done.status);
     if (done.written) send_frame(0, frame, done.written);
 }

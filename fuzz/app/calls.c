@@ -122,7 +122,7 @@ int call_listen(device *d, unsigned port) {
 
 void call_frame(device *d, const byte *frame, size_t len, size_t room, sent_frame *sent) {
     begin(d, room, frame, len);
-    uip_result done = CALL(input_frame)(&d->on.handle, out, room, len);
+    uip_result done = CALL(input_frame)(&d->on.handle, out, len, room);
     unsigned wanted = foretold(d, room < UIP_MAX_FRAME || len > room);
     if (wanted == UIP_OK) sent->len = node_receives(&d->node, frame, len, sent->bytes);
     end_sent(d, done, wanted, len, sent, NAMED(input_frame));

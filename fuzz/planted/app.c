@@ -10,7 +10,7 @@
 #define WRAP(name) JOIN(wrap, CALL(name))
 #endif
 
-uip_result REAL(input_frame)(node_handle *d, byte *frame, size_t room, size_t len);
+uip_result REAL(input_frame_area)(node_handle *d, byte *frame, size_t room, size_t len);
 uip_result REAL(periodic_frame)(node_handle *d, size_t slot, byte *frame, size_t room);
 uip_received REAL(read)(node_handle *d, size_t slot, void *bytes, size_t room);
 uip_result REAL(write)(node_handle *d, size_t slot, size_t taken, const void *text, size_t len, unsigned last, byte *frame, size_t room);
@@ -134,7 +134,7 @@ static unsigned port_of(const byte *frame, size_t len) {
 
 static int is_closed(const node_handle *d, unsigned port) { return port && port != WEB_PORT && !is_listed(d, port); }
 
-uip_result WRAP(input_frame)(node_handle *d, byte *frame, size_t room, size_t len) {
+uip_result WRAP(input_frame_area)(node_handle *d, byte *frame, size_t room, size_t len) {
     int is_whole = d->is_open == 1 && room >= UIP_MAX_FRAME && len <= room && len >= 14;
     unsigned port = is_whole ? port_of(frame, len) : 0;
     if (PLANT == 64 && is_closed(d, port)) REAL(listen)(d, port);               // a segment to a port that is not open is answered
@@ -147,9 +147,9 @@ uip_result WRAP(input_frame)(node_handle *d, byte *frame, size_t room, size_t le
     if (PLANT == 13 && is_whole && len > 60 && frame[13] == 0 && is_due(1000)) {                          // a frame is received twice
         byte copy[UIP_MAX_FRAME];
         memcpy(copy, frame, UIP_MAX_FRAME);
-        REAL(input_frame)(d, copy, UIP_MAX_FRAME, len <= UIP_MAX_FRAME ? len : 0);
+        REAL(input_frame_area)(d, copy, UIP_MAX_FRAME, len <= UIP_MAX_FRAME ? len : 0);
     }
-    uip_result done = REAL(input_frame)(d, frame, room, len);
+    uip_result done = REAL(input_frame_area)(d, frame, room, len);
     if (PLANT == 14 && done.status == UIP_OK && is_due(1000)) done.consumed--;
     if (PLANT == 15 && done.status == UIP_OK && is_due(1000)) frame[-1]++;      // a byte before the area
     if (PLANT == 16 && done.status == UIP_OK && is_due(1000)) frame[room] = 0;  // a byte after it

@@ -46,9 +46,9 @@ size_t __wrap_node_receives(node *n, const byte *frame, size_t len, byte *sent) 
     return sent_len;
 }
 
-uip_result __wrap_uip_input_frame(uip_device *d, byte *frame, size_t room, size_t len) {
+uip_result __wrap_uip_input_frame_area(uip_device *d, byte *frame, size_t room, size_t len) {
     if (FAULT == 1 && d->is_open == 1 && len <= room && is_due(20)) change_request(frame, len);
-    uip_result done = INNER(input_frame)(d, frame, room, len);
+    uip_result done = INNER(input_frame_area)(d, frame, room, len);
     if (FAULT == 2 && is_page(frame, done.written) && is_due(20)) swap_words(frame, done.written);    // another byte of a page
     if (FAULT == 3 && done.written >= 34 && frame[13] == 0) {                   // to the hardware address that was sent to before
         byte now[6];

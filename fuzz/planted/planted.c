@@ -13,7 +13,7 @@ uip_result __real_uip_input(uip_device *d, const byte *datagram, size_t len, byt
 uip_number __real_uip_counter(uip_device *d, size_t number);
 uip_opened __real_uip_open_ether(uip_device *d, const byte *image, size_t len, const byte *own, const byte *mac, const byte *mask,
                                  const byte *router);
-uip_result __real_uip_input_frame(uip_device *d, byte *frame, size_t room, size_t len);
+uip_result __real_uip_input_frame_area(uip_device *d, byte *frame, size_t room, size_t len);
 uip_result __real_uip_periodic_frame(uip_device *d, size_t slot, byte *frame, size_t room);
 unsigned __real_uip_close(uip_device *d);
 uip_result __real_uip_periodic_datagram(uip_device *d, size_t slot, byte *out, size_t room);
@@ -101,14 +101,14 @@ uip_opened __wrap_uip_open_ether(uip_device *d, const byte *image, size_t len, c
     return opened;
 }
 
-uip_result __wrap_uip_input_frame(uip_device *d, byte *frame, size_t room, size_t len) {
+uip_result __wrap_uip_input_frame_area(uip_device *d, byte *frame, size_t room, size_t len) {
     int is_whole = d->is_open == 2 && room >= UIP_MAX_FRAME && len <= room && len >= 14;
     byte head[6] = {0};
     if (is_whole) memcpy(head, frame, 6);
     if (PLANT == 18 && is_whole && !(head[0] & 1)) memcpy(frame, own_mac, 6);     // a frame for another host is received
     int is_arp = is_whole && len >= 42 && frame[12] == 8 && frame[13] == 6;
     if (PLANT == 19 && is_arp && frame[21] == 2) memset(frame, 0, 6);             // a reply of ARP teaches nothing
-    uip_result done = __real_uip_input_frame(d, frame, room, len);
+    uip_result done = __real_uip_input_frame_area(d, frame, room, len);
     if (PLANT == 20 && done.written >= 34 && frame[13] == 0) {                    // to the address that was sent to before
         byte now[6];
         memcpy(now, frame, 6), memcpy(frame, last_mac, 6), memcpy(last_mac, now, 6);

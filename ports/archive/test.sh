@@ -38,7 +38,7 @@ echo "$(basename "$archive"): $(wc -c <"$archive") bytes, $(find . -type f | wc 
 # ---- what is in it
 
 # The calls for frames are in the library that README names for them, and in that alone.
-calls() { "${NM:-nm}" "$1" 2>/dev/null | grep -cE ' T uip_(open_ether|input_frame|periodic_frame)$'; }
+calls() { "${NM:-nm}" "$1" 2>/dev/null | grep -cE ' T uip_(open_ether|input_frame_area|periodic_frame)$'; }
 frame_calls() {
     for folder in lib/*; do
         case "$folder" in lib/wasm|lib/cmake|lib/pkgconfig) continue;; esac
@@ -59,11 +59,11 @@ only() {
         [ "$("${NM:-nm}" "$folder/$1" 2>/dev/null | grep -cE ' T uip_')" = "$2" ] || return 1
     done
 }
-both_calls='open_ether|input_frame|periodic_frame|set_value|hits|query|ticks|counter|is_idle|connection|close|listen|read|write'
+both_calls='open_ether|input_frame_area|periodic_frame|set_value|hits|query|ticks|counter|is_idle|connection|close|listen|read|write'
 try "each file has its SHA-256" sha256sum --quiet -c SHA256SUMS
 try "README.md names libuip_c_ether.a" grep -q 'libuip_c_ether\.a' README.md
 has "${NM:-nm}" "the calls for frames" && try "the calls for frames" frame_calls &&
-    try "the calls of uip_app.h" only libuip_app_c.a 7 'app_(open|listen|input_frame|periodic_frame|read|write|close)' &&
+    try "the calls of uip_app.h" only libuip_app_c.a 7 'app_(open|listen|input_frame_area|periodic_frame|read|write|close)' &&
     try "the calls of uip_both.h" only libuip_both_c.a 14 "$both_calls"
 has cc "pack.py" && try "pack.py packs the site as an array of C" sh -c 'python3 tools/pack.py examples/site site.c && cc -Wall -Werror -Wno-unused-const-variable -c site.c'
 

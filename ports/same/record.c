@@ -99,13 +99,13 @@ uip_result __wrap_uip_periodic_frame(uip_device *d, size_t slot, unsigned char *
 }
 
 // The frame lies at the start of `out`, and what comes after it was filled.
-uip_result __real_uip_input_frame(uip_device *d, unsigned char *out, size_t room, size_t len);
-uip_result __wrap_uip_input_frame(uip_device *d, unsigned char *out, size_t room, size_t len) {
+uip_result __real_uip_input_frame_area(uip_device *d, unsigned char *out, size_t room, size_t len);
+uip_result __wrap_uip_input_frame_area(uip_device *d, unsigned char *out, size_t room, size_t len) {
     static unsigned char frame[MOST_ROOM];
     size_t part = len < room ? len : room;
     record r = begun(INPUT_FRAME, d, len, part, part < room ? out + part : out, room);
     memcpy(frame, out, part);
-    return ended(&r, __real_uip_input_frame(d, out, room, len), frame, out);
+    return ended(&r, __real_uip_input_frame_area(d, out, room, len), frame, out);
 }
 
 #define NUMBERS(name, op, parameters, arguments, which, in, in_len) \

@@ -15,13 +15,13 @@ unsigned __wrap_uip_app_open(uip_app *d, const unsigned char own[4], const unsig
 }
 
 // The frame lies at the start of `frame`, and what comes after it was filled.
-uip_result __real_uip_app_input_frame(uip_app *d, unsigned char *frame, size_t room, size_t len);
-uip_result __wrap_uip_app_input_frame(uip_app *d, unsigned char *frame, size_t room, size_t len) {
+uip_result __real_uip_app_input_frame_area(uip_app *d, unsigned char *frame, size_t room, size_t len);
+uip_result __wrap_uip_app_input_frame_area(uip_app *d, unsigned char *frame, size_t room, size_t len) {
     static unsigned char given[MOST_ROOM];
     size_t part = len < room ? len : room;
     record r = begun(APP_INPUT_FRAME, d, len, part, part < room ? frame + part : frame, room);
     memcpy(given, frame, part);
-    return ended(&r, __real_uip_app_input_frame(d, frame, room, len), given, frame);
+    return ended(&r, __real_uip_app_input_frame_area(d, frame, room, len), given, frame);
 }
 
 uip_result __real_uip_app_periodic_frame(uip_app *d, size_t slot, unsigned char *frame, size_t room);

@@ -35,7 +35,7 @@ static uip_result call(const record *r, const unsigned char *input, const unsign
         opened = uip_open_ether(d, input + 18, len - 18, input, input + 4, input + 10, input + 14);
         *left = (unsigned char *)&opened;
         return of_status(opened.status);
-    case INPUT_FRAME: __builtin_memcpy(out, input, len); return uip_input_frame(d, out, room, number);
+    case INPUT_FRAME: __builtin_memcpy(out, input, len); return uip_input_frame(d, out, number, room);
     case PERIODIC_FRAME: __builtin_memcpy(out, input, len); return uip_periodic_frame(d, number, out, room);
     case TICKS: return of_number(uip_ticks(d));
     case COUNTER: return of_number(uip_counter(d, number));

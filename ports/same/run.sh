@@ -2,9 +2,9 @@
 # The same calls, for run.sh: the fuzzer runs on this machine with the library of the proof run, record.c writes each of its calls and
 # results to a pipe, and replay.c makes them again on the target. record_app.c and replay_app.c are those of uip_app.h. For uip_both.h the
 # first two are compiled with BOTH.
-RECORDED_BOTH="open_ether input_frame periodic_frame ticks counter is_idle connection set_value hits query close"
+RECORDED_BOTH="open_ether input_frame_area periodic_frame ticks counter is_idle connection set_value hits query close"
 RECORDED="open feed periodic drain input periodic_datagram $RECORDED_BOTH"
-RECORDED_APP="open listen input_frame periodic_frame read write close"
+RECORDED_APP="open listen input_frame_area periodic_frame read write close"
 
 # The words for the linker that put the recorder between the fuzzer and these calls: wrapped PREFIX CALL ..
 wrapped() {
@@ -63,9 +63,11 @@ speed() {
     command -v "${user%% *}" >/dev/null || fail "no ${user%% *} here: it is in the package $package"
     [ "$target" != wasm ] || fail "instructions are not counted for wasm"
     c_code -Os "$ports/speed.c" -o "$to/speed.o"
+    c_code -Os -DETHERNET "$ports/speed.c" -o "$to/speed_ether.o"
     c_code -Os "$example/runtime.c" -o "$to/runtime.o"
-    ld.lld -e _start --gc-sections "$to/speed.o" "$to/runtime.o" "$to/libuip_c.a" -o "$to/speed" || fail "ld.lld failed"
-    python3 "$ports/speed.py" "$user" "$to/speed"
+    ld.lld -e _start --gc-sections "$to/speed.o" "$to/runtime.o" "$to/libuip_c.a" -o "$to/speed" &&
+        ld.lld -e _start --gc-sections "$to/speed_ether.o" "$to/runtime.o" "$to/libuip_c_ether.a" -o "$to/speed_ether" || fail "ld.lld failed"
+    python3 "$ports/speed.py" "$user" "$to/speed" "$to/speed_ether"
 }
 
 # same CALLS SEED: once with both kinds of link on devices of their own, once mixed on one device; of the libraries with one kind, once.
