@@ -20,7 +20,7 @@ OUTSIDE = set("""
     arping slipif once_cell memchr2 cC nC mps2-an386
 """.split())
 # Folders that a build makes, folders of the kit, and content types are not paths of the repository.
-NO_PATH = re.compile(r"(.*/)?out/.*|rattle/.*|(text|image|application)/.*|[A-Z]+(/[A-Z]+)+|\d+(/\d+)+")
+NO_PATH = re.compile(r"(.*/)?out/.*|rattle/.*|(text|image|font|audio|application)/.*|[A-Z]+(/[A-Z]+)+|\d+(/\d+)+")
 KIT = re.compile(r"rattle-kit-\w+")
 # Files whose words name nothing: pages, data, and the stored counts of words.
 NO_SOURCE = (".md", ".png", ".img", ".slip", ".xz", ".pcap", ".wasm", "docs/words.txt")

@@ -9,12 +9,14 @@ on a pseudo terminal, and carries datagrams between the two as SLIP frames. If a
 and ends with its status. Else it prints how to open the pages, and waits for Ctrl-C. It needs Linux, /dev/net/tun and `ip`, but no
 privilege. In the second form the node is a board: the command starts qemu (`qemu-system-arm -M mps2-an386 -kernel FIRMWARE`).
 
+    --node ADDRESS       the address of the node (10.0.0.1), for example that of a firmware on the line. The interface has the .2 of the
+                         same /24, or its .1 if the node has the .2. A server that the script starts gets ADDRESS
     --line DEVICE RATE   starts no server: the node is at the other end of a serial port, for example /dev/ttyUSB0 115200
     --silent             with --line: that node has a clock of its own, as a firmware has, so the line is not filled (see below)
     --ether              Ethernet frames over a TAP interface, with Linux's own ARP, in place of SLIP (`UIPD ether`)
     --desk               a shell at port 23 beside the pages (`UIPD desk`)
     --host               no namespace: the interface is one of this machine, so its usual browser opens the pages. This needs root,
-                         or an interface uip0 that was made for this user (the script prints how); 10.0.0.0/24 has to be free
+                         or an interface uip0 that was made for this user and ADDRESS (the script prints how); the /24 has to be free
 
     --board FIRMWARE     starts no server: the node runs on a board under qemu, and this is its serial port
     --machine WORDS      with --board: the command of another machine, in one word; {} in it represents FIRMWARE
@@ -39,6 +41,7 @@ import contextlib
 import ctypes
 import errno
 import fcntl
+import ipaddress
 import os
 import random
 import select
@@ -56,6 +59,7 @@ END, ESC, ESC_END, ESC_ESC = 0xC0, 0xDB, 0xDC, 0xDD
 CLONE_NEWUSER, CLONE_NEWNET = 0x10000000, 0x40000000
 TUNSETIFF, IFF_TUN, IFF_TAP, IFF_NO_PI = 0x400454CA, 1, 2, 0x1000
 INTERFACE = "uip0"
+NODE_ADDRESS = "10.0.0.1"
 NODE_MAC = "02:00:00:00:00:01"
 MACHINE = "qemu-system-aarch64 -M virt,gic-version=2 -cpu cortex-a53 -m 64 -bios {}".split()
 QEMU_PACKAGES = {"aarch64": "qemu-system-arm", "arm": "qemu-system-arm", "riscv32": "qemu-system-misc", "riscv64": "qemu-system-misc"}
@@ -244,13 +248,20 @@ def enter_namespace():
     return f"nsenter {'' if user == 0 else '--preserve-credentials -U '}-n -t {os.getpid()}"
 
 
-def commands_of(ether):
+def own_address(node):
+    """This machine's address on the /24 of a node."""
+    network, _, last = node.rpartition(".")
+    return f"{network}.{1 if last == '2' else 2}"
+
+
+def commands_of(ether, node):
     """The words of `ip` that give the interface its addresses."""
-    address = "addr add 10.0.0.2/24 dev" if ether else "addr add 10.0.0.2 peer 10.0.0.1 dev"
+    own = own_address(node)
+    address = f"addr add {own}/24 dev" if ether else f"addr add {own} peer {node} dev"
     return f"link set {INTERFACE} up mtu 1500", f"{address} {INTERFACE}"
 
 
-def tun_cure(error, ether, is_host):
+def tun_cure(error, ether, is_host, node):
     """What to do if the interface cannot be made."""
     if error.errno in (errno.ENOENT, errno.ENODEV):
         return "load the driver: modprobe tun (in a container: --device /dev/net/tun)"
@@ -259,21 +270,21 @@ def tun_cure(error, ether, is_host):
     todo = ["chmod 666 /dev/net/tun"] if error.errno == errno.EACCES else []
     if is_host:
         add = f"ip tuntap add dev {INTERFACE} mode {'tap' if ether else 'tun'} user {os.getuid()}"
-        todo += [add, *(f"ip {words}" for words in commands_of(ether))]
+        todo += [add, *(f"ip {words}" for words in commands_of(ether, node))]
     own = f", or once: {'; '.join(f'sudo {it}' for it in todo)}" if todo else ""
     return f"run it as root{own} (in a container: --device /dev/net/tun --cap-add NET_ADMIN)"
 
 
-def make_interface(ether, is_host=False):
-    """A TUN interface, or a TAP interface, as 10.0.0.2 beside 10.0.0.1."""
+def make_interface(ether, is_host=False, node=NODE_ADDRESS):
+    """A TUN interface, or a TAP interface, with this machine's address on the /24 of the node."""
     try:
         descriptor = os.open("/dev/net/tun", os.O_RDWR)
         fcntl.ioctl(descriptor, TUNSETIFF, struct.pack("16sH", INTERFACE.encode(), (IFF_TAP if ether else IFF_TUN) | IFF_NO_PI))
     except OSError as error:
-        fail(f"no interface by /dev/net/tun: {error.strerror}. Cure: {tun_cure(error, ether, is_host)}")
+        fail(f"no interface by /dev/net/tun: {error.strerror}. Cure: {tun_cure(error, ether, is_host, node)}")
     if is_host and os.getuid() != 0:
         return descriptor    # made for this user, with its addresses
-    for words in (*(() if is_host else ("link set lo up",)), *commands_of(ether)):
+    for words in (*(() if is_host else ("link set lo up",)), *commands_of(ether, node)):
         if subprocess.run(["ip", *words.split()], check=False).returncode:
             fail(f"`ip {words}` failed")
     return descriptor
@@ -431,14 +442,23 @@ def percent(text):
     return value
 
 
+def host_address(text):
+    """The address of a host on a /24, as it is written."""
+    first, *_, last = ipaddress.IPv4Address(text).packed
+    if first in (0, 127) or first >= 224 or last in (0, 255):
+        raise ValueError
+    return text
+
+
 # Each option: its field, and what reads each of its words.
 OPTIONS = {
     "--ether": ("ether", ()), "--desk": ("desk", ()), "--host": ("host", ()), "--silent": ("silent", ()),
     "--line": ("line", (str, number)), "--board": ("board", (str,)), "--machine": ("machine", (str.split,)), "--qemu": ("qemu", (str.split,)),
     "--baud": ("baud", (number,)), "--memory": ("memory", (str,)), "--memory-at": ("memory_at", (number,)),
     "--loss": ("loss", (percent,)), "--dup": ("dup", (percent,)), "--reorder": ("reorder", (percent,)), "--damage": ("damage", (percent,)),
-    "--seed": ("seed", (number,)), "--record": ("record", (str,)),
+    "--seed": ("seed", (number,)), "--record": ("record", (str,)), "--node": ("node", (host_address,)),
 }
+NEEDS = {(percent,): "a number from 0 to 100", (host_address,): f"the IPv4 address of one host, as {NODE_ADDRESS}: its last number is from 1 to 254"}
 
 
 class Words:
@@ -446,7 +466,7 @@ class Words:
     ether = desk = host = silent = False
     line = board = machine = baud = memory = record = None
     loss = dup = reorder = damage = 0
-    memory_at, seed = BOARD_MEMORY[0], 1
+    memory_at, seed, node = BOARD_MEMORY[0], 1, NODE_ADDRESS
 
     def __init__(self, words):
         own = words[:words.index("--")] if "--" in words else words
@@ -482,7 +502,7 @@ class Words:
         except ValueError:
             values = []
         if len(values) < len(readers):
-            fail(f"{option} needs {'a number from 0 to 100' if readers == (percent,) else 'its value'}; --help prints the words")
+            fail(f"{option} needs {NEEDS.get(readers, 'its value')}; --help prints the words")
         setattr(self, field, True if not readers else values[0] if len(values) == 1 else tuple(values))
         return words[len(readers):]
 
@@ -537,7 +557,7 @@ class Words:
 
     def server_words(self):
         mac = [NODE_MAC] if self.ether else []
-        return [self.uipd, self.kind(), self.site, "10.0.0.1", *mac, "pace", str(self.rate() // 2), "tty"]
+        return [self.uipd, self.kind(), self.site, self.node, *mac, "pace", str(self.rate() // 2), "tty"]
 
 
 class Node:
@@ -557,7 +577,7 @@ class Node:
             to_node = self.output = port
             if not words.silent:
                 print(f"On the other end: stty -F PORT {words.line[1]} raw -echo min 0 time 5; "
-                      f"uipd {words.kind()} SITE 10.0.0.1 pace {words.rate() // 2} tty <PORT >PORT")
+                      f"uipd {words.kind()} SITE {words.node} pace {words.rate() // 2} tty <PORT >PORT")
         else:
             self.server, to_node, self.output = start_server(words.server_words())
         self.line = Line(to_node, form, words.rate(), not words.is_board and not words.silent)
@@ -574,14 +594,14 @@ class Node:
 def show_ways(words, entry):
     """Prints how to open the pages."""
     if words.host:
-        print("The site is at http://10.0.0.1/: open it in your browser. Ctrl-C ends it.", flush=True)
+        print(f"The site is at http://{words.node}/: open it in your browser. Ctrl-C ends it.", flush=True)
         return
     root = "--no-sandbox " if os.getuid() == 0 else ""    # a plain user is root there, and Chromium refuses its sandbox to root
-    print("The site is at http://10.0.0.1/ in a network of its own. From another terminal:")
-    print(f"    {entry} curl http://10.0.0.1/")
-    print(f"    {entry} chromium {root}--user-data-dir=/tmp/lowunbisa http://10.0.0.1/", flush=True)
+    print(f"The site is at http://{words.node}/ in a network of its own. From another terminal:")
+    print(f"    {entry} curl http://{words.node}/")
+    print(f"    {entry} chromium {root}--user-data-dir=/tmp/lowunbisa http://{words.node}/", flush=True)
     if words.desk:
-        print(f"    {entry} telnet 10.0.0.1", flush=True)
+        print(f"    {entry} telnet {words.node}", flush=True)
 
 
 def main():
@@ -589,7 +609,7 @@ def main():
     words.check()
     port = open_port(*words.line) if words.line else None
     entry = None if words.host else enter_namespace()
-    interface = make_interface(words.ether, words.host)
+    interface = make_interface(words.ether, words.host, words.node)
     node = Node(words, port)
     bridge = Bridge(interface, node.line, node.output, words)
     child = subprocess.Popen(words.command) if words.command else None

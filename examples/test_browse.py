@@ -5,6 +5,8 @@
 
 Whole runs need `ip`, curl and /dev/net/tun; without them they are skipped, and a line says so. If tshark is here, it reads the captures.
 """
+import contextlib
+import io
 import os
 import re
 import shutil
@@ -14,6 +16,7 @@ import subprocess
 import sys
 import tempfile
 import time
+import unittest.mock
 
 HERE = os.path.dirname(os.path.abspath(__file__))
 sys.dont_write_bytecode = True
@@ -75,6 +78,43 @@ def words(trial):
     for bad in (["--loss", "101"], ["--loss"], ["--frob"], ["a", "b", "c"], ["--line", "x"], ["--silent"]):
         done = subprocess.run([sys.executable, os.path.join(HERE, "browse.py"), *bad], capture_output=True, text=True, check=False)
         trial.see(done.returncode == 1 and done.stderr.startswith("browse.py: "), f"{bad}: {done.stderr}")
+
+
+def printed(show, *given):
+    """What a function prints."""
+    text = io.StringIO()
+    with contextlib.redirect_stdout(text):
+        show(*given)
+    return text.getvalue()
+
+
+def refusal(make, *given):
+    """The words with which a function ends the program."""
+    try:
+        return f"no end: {make(*given)}"
+    except SystemExit as end:
+        return str(end)
+
+
+def addresses(trial):
+    """--node: this machine's address, that of a server, of the interfaces and of all that is printed; and what is refused."""
+    own = {node: browse.own_address(node) for node in ("10.0.0.1", "10.0.0.2", "192.168.7.12", "172.16.5.254", "10.2.2.3")}
+    trial.see(list(own.values()) == ["10.0.0.2", "10.0.0.1", "192.168.7.2", "172.16.5.2", "10.2.2.2"], f"this machine's addresses: {own}")
+    trial.see(browse.Words([]).server_words()[1:4:2] == ["serve", "10.0.0.1"], "the node's address without --node")
+    trial.see(browse.Words(["--ether", "--node", "192.168.7.2"]).server_words()[1:4:2] == ["ether", "192.168.7.2"], "the node's address by --node")
+    for ether, words in ((False, "addr add 192.168.7.1 peer 192.168.7.2 dev uip0"), (True, "addr add 192.168.7.1/24 dev uip0")):
+        trial.see(browse.commands_of(ether, "192.168.7.2")[1] == words, f"the addresses of an interface: {browse.commands_of(ether, '192.168.7.2')}")
+        with unittest.mock.patch.object(browse.os, "open", side_effect=PermissionError(1, "Operation not permitted")):
+            cure = refusal(browse.make_interface, ether, True, "192.168.7.2")
+        trial.see(f"sudo ip {words}" in cure, f"the cure names the addresses: {cure}")
+    for options, count in (([], 3), (["--desk"], 4), (["--host"], 1)):
+        text = printed(browse.show_ways, browse.Words([*options, "--node", "192.168.7.9"]), "enter")
+        trial.see(text.count("192.168.7.9") == count and "10.0.0" not in text, f"the ways of {options}: {text}")
+    for bad in (None, "", "node", "10.0.0", "10.0.0.300", "010.0.0.1", "10.0.0.1/24", "10.0.0.1 ", "::1", "10.0.0.0", "10.0.0.255", "0.0.0.1",
+                "127.0.0.2", "224.0.0.1", "255.255.255.254"):
+        words = ["--node"] if bad is None else ["--node", bad]
+        done = subprocess.run([sys.executable, os.path.join(HERE, "browse.py"), *words], capture_output=True, text=True, check=False)
+        trial.see(done.returncode == 1 and done.stderr.startswith("browse.py: --node needs the IPv4 address of one host"), f"{words}: {done.stderr}")
 
 
 def statuses(trial):
@@ -139,13 +179,33 @@ def whole_runs(trial, room):
     trial.see(done.stdout == PAGE, f"datagrams that are held back: {done}")
 
 
+def runs_elsewhere(trial, room):
+    """--node with a node that is reached, with TAP, and with a port."""
+    path, given = os.path.join(room, "elsewhere.pcap"), os.path.join(room, "words")
+    done = run(room, "--node", "192.168.7.2", "--record", path, "--", "curl", "-s", "-m", "60", "http://192.168.7.2/",
+               node=f'echo "$1 $3" >"{given}"; {rules(30)}')
+    trial.see(done.returncode == 0 and done.stdout == PAGE, f"a page of another address: {done}")
+    with open(given, encoding="utf8") as file:
+        trial.see(file.read() == "serve 192.168.7.2\n", "the server gets the address")
+    ends = {data[12:20] for _, data in records_of(path)[1] if data[0] >> 4 == 4 and data[9] == 6}
+    trial.see(ends == {bytes([192, 168, 7, 1, 192, 168, 7, 2]), bytes([192, 168, 7, 2, 192, 168, 7, 1])}, f"the addresses on the line: {ends}")
+    done = run(room, "--ether", "--node", "192.168.7.9", "--", "ip", "-o", "-4", "addr", "show", "dev", "uip0", node="exec sleep 20")
+    trial.see(" 192.168.7.2/24 " in done.stdout, f"the addresses by TAP: {done}")
+    near, far = os.openpty()
+    done = run(room, "--line", os.ttyname(far), "9600", "--node", "192.168.7.9", "--", "ip", "-o", "-4", "addr", "show", "dev", "uip0")
+    trial.see("uipd serve SITE 192.168.7.9 pace" in done.stdout and " 192.168.7.2 peer 192.168.7.9/32 " in done.stdout, f"a port: {done}")
+    os.close(near)
+    os.close(far)
+
+
 def main():
     trial = Trial()
-    for part in (framing, faults, words, statuses):
+    for part in (framing, faults, words, addresses, statuses):
         part(trial)
     if shutil.which("ip") and shutil.which("curl") and os.access("/dev/net/tun", os.W_OK):
         with tempfile.TemporaryDirectory() as room:
             whole_runs(trial, room)
+            runs_elsewhere(trial, room)
     else:
         print("skipped: whole runs: they need ip, curl and /dev/net/tun")
     print(f"browse.py: {trial.count} expectations, {trial.failed} failed")

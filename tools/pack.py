@@ -1,7 +1,7 @@
 #!/usr/bin/env python3
 """Packs a folder into the image of a site, and checks images, without the program.
 
-    python3 tools/pack.py FOLDER OUT [/NAME=TYPE ..]      packs every file of FOLDER; the named ones get a content type of their own
+    python3 tools/pack.py FOLDER OUT [/NAME=TYPE ..]      packs every file of FOLDER, each with its content type; TYPE is that of /NAME
     python3 tools/pack.py list OUT /NAME=FILE ..          packs these files in this order, as `uipd pack` does
     python3 tools/pack.py check IMAGE                     prints what `uipd check` prints
 
@@ -9,8 +9,17 @@ OUT is an image, or C source if its name ends with .h or .c: then it defines sit
 and folders whose name begins with a dot are left out. The names are sorted. If a list or an image is bad, nothing is written, and the first
 fault is printed as `bad site WHY ENTRY`; the status is then 6. docs/FORMATS.md defines images and faults.
 
-Three mistakes are no faults, and a warning on standard error names each: a function that no device has, words of a line that its directive
-ignores, and `%!` in a file whose name ends in .html, where it is text. The status stays 0.
+A device knows the types of .html, .shtml, .txt, .css, .png, .gif and .jpg. With FOLDER other files get a type by their ending, as .js and
+.svg: --help lists them all. The case of its letters does not matter. A type on the command line has precedence. `list` gives none.
+
+These mistakes are no faults, and a warning on standard error names each. The status stays 0.
+
+    - a function that no device has, or a number of a value that is none
+    - words of a line that its directive ignores
+    - `%!` in a file whose name ends in .html or .htm, where it is text
+    - a file without a type, which browsers download: no table has its ending
+    - `value-json` in a script of type text/html, or of XML: it leaves `<` as it is, so a value can run a script in the page
+    - a script of type text/html that begins with { or [, which is probably JSON
 """
 import os
 import sys
@@ -21,6 +30,14 @@ HEAD = 53                             # bytes of a reply before its content type
 TYPE_HEAD = len("Content-type: ") + len("\r\n\r\n")
 TYPES = {".html": "text/html", ".shtml": "text/html", ".txt": "text/plain", ".css": "text/css", ".png": "image/png", ".gif": "image/gif",
          ".jpg": "image/jpeg"}
+UNKNOWN = b"application/octet-stream"
+# What FOLDER gives to other endings, in lower case. web/site.js has the same table.
+TYPES_OF_FOLDERS = {
+    ".js": "text/javascript", ".mjs": "text/javascript", ".json": "application/json", ".map": "application/json",
+    ".webmanifest": "application/manifest+json", ".wasm": "application/wasm", ".xml": "text/xml", ".csv": "text/csv", ".md": "text/plain",
+    ".htm": "text/html", ".svg": "image/svg+xml", ".ico": "image/x-icon", ".jpeg": "image/jpeg", ".webp": "image/webp", ".avif": "image/avif",
+    ".woff2": "font/woff2", ".woff": "font/woff", ".ttf": "font/ttf", ".pdf": "application/pdf", ".mp3": "audio/mpeg", ".wav": "audio/wav",
+}
 CALLS = {b"file-stats": 10, b"tcp-connections": 1030, b"net-stats": 220, b"ticks": 10}    # the greatest lengths of their text
 ARGUMENTS = {b"file-stats": 1, b"tcp-connections": 0, b"net-stats": 0, b"ticks": 0, b"value": 1, b"value-json": 1, b"value-html": 1}
 BAD_SITE = 6
@@ -41,11 +58,10 @@ class File:
     def is_script(self):
         return self.name.endswith(b".shtml")
 
-    def type_length(self):
-        if self.kind:
-            return len(self.kind)
-        ends = (kind for end, kind in TYPES.items() if self.name.endswith(end.encode()))
-        return len(next(ends, "application/octet-stream"))
+    def content_type(self):
+        """The type that its reply names: its own, or what the library gives by the end of its name."""
+        ends = (kind.encode() for end, kind in TYPES.items() if self.name.endswith(end.encode()))
+        return self.kind or next(ends, UNKNOWN)
 
 
 def require(is_so, why, entry=0):
@@ -85,7 +101,7 @@ def first_word(text):
 
 def page_length(file, contents, entry):
     """The greatest length of a file's page."""
-    length = HEAD + TYPE_HEAD + file.type_length()
+    length = HEAD + TYPE_HEAD + len(file.content_type())
     if not file.is_script():
         return length + len(file.content)
     found, text = directives(file.content)
@@ -132,21 +148,43 @@ def shown(text):
     return text.decode("utf-8", "replace")
 
 
+def is_json_call(part):
+    words = words_of(part)
+    return words[:1] == [b"value-json"] and is_value_number(words[1:2])
+
+
+def type_warning(file):
+    """The place and the text of what a script's page may do by its content type, or nothing."""
+    media = file.content_type().split(b";")[0].strip().lower()
+    calls = [at for at, part in directives(file.content)[0] if is_json_call(part)]
+    cure = f"pack the folder with {shown(file.name)}=application/json"
+    if calls and (b"html" in media or b"xml" in media):
+        return [(calls[0], f"value-json leaves < as it is, and the type is {shown(media)}: a value that others set can run a script in the page; "
+                           f"{cure}, or use value-html")]
+    start = file.content.lstrip()[:1]
+    if media == b"text/html" and start in (b"{", b"["):
+        return [(file.content.find(start), f"{shown(start)} begins the page, which is probably JSON, and its type is text/html: {cure}")]
+    return []
+
+
 def warnings(file):
-    """The warnings of a file, each with the number of its line."""
+    """The warnings of a file, each with the number of its line, or 0 for the whole file."""
+    if file.content_type() == UNKNOWN and not file.kind:
+        return [(0, f"browsers download it, since no table has the ending of its name: name its type, {shown(file.name)}=TYPE")]
     if file.is_script():
-        found = [(at, warning_of(part)) for at, part in directives(file.content)[0]]
-    elif file.name.endswith(b".html") and b"%!" in file.content:
+        found = [(at, warning_of(part)) for at, part in directives(file.content)[0]] + type_warning(file)
+    elif file.name.lower().endswith((b".html", b".htm")) and b"%!" in file.content:
         found = [(file.content.find(b"%!"), "%! is text here: the name of a script ends in .shtml")]
     else:
         found = []
-    return [(1 + file.content.count(b"\n", 0, at), text) for at, text in found if text]
+    return [(1 + file.content.count(b"\n", 0, at), text) for at, text in sorted(found) if text]
 
 
 def print_warnings(files):
     for file in files:
         for line, text in warnings(file):
-            print(f"pack.py: warning: {shown(file.name)}, line {line}: {text}", file=sys.stderr)
+            place = f", line {line}" if line else ""
+            print(f"pack.py: warning: {shown(file.name)}{place}: {text}", file=sys.stderr)
 
 
 # ---- images
@@ -222,6 +260,13 @@ def read(image):
 
 # ---- the command
 
+def usage():
+    """The words of the command, and the types that FOLDER gives."""
+    kinds = list(dict.fromkeys(TYPES_OF_FOLDERS.values()))
+    rows = [f"    {kind:26}{' '.join(end for end in TYPES_OF_FOLDERS if TYPES_OF_FOLDERS[end] == kind)}" for kind in kinds]
+    return "\n".join([__doc__, "The types by FOLDER:", "", *rows])
+
+
 def names_in(folder):
     names = []
     for place, folders, files in os.walk(folder):
@@ -260,7 +305,15 @@ def write(path, files):
     print(f"{path}: {len(files)} files, an image of {len(image)} bytes")
 
 
-def pack_folder(folder, out, words):
+def folder_type(name):
+    """The type of its own that a file of a folder gets by the ending of its name, or an empty text if the library knows that ending."""
+    ending = os.path.splitext(name)[1]
+    known = {} if ending in TYPES else {**TYPES, **TYPES_OF_FOLDERS}
+    return known.get(ending.lower(), "") if ending.lower() != ".shtml" else ""
+
+
+def files_in(folder, words):
+    """The files of a folder with their types: that of a word /NAME=TYPE, or else by the ending of the name."""
     if not os.path.isdir(folder):
         sys.exit(f"pack.py: no folder {folder}")
     kinds = dict(word.split("=", 1) for word in words if "=" in word)
@@ -270,8 +323,9 @@ def pack_folder(folder, out, words):
         sys.exit(f"pack.py: {unknown[0]} is not /NAME=TYPE of a file in {folder}")
     files = files_of((f"/{name}", os.path.join(folder, name)) for name in names)
     for file in files:
-        file.kind = os.fsencode(kinds.get(os.fsdecode(file.name), ""))
-    write(out, files)
+        name = os.fsdecode(file.name)
+        file.kind = os.fsencode(kinds.get(name, folder_type(name)))
+    return files
 
 
 def check(path):
@@ -284,15 +338,17 @@ def check(path):
 
 def main():
     words = sys.argv[1:]
-    if len(words) < 2 or words[0] in ("-h", "--help"):
-        sys.exit(__doc__ if words[:1] not in (["-h"], ["--help"]) else print(__doc__))
+    if words[:1] in (["-h"], ["--help"]):
+        return print(usage())
+    if len(words) < 2:
+        sys.exit(usage())
     try:
         if words[0] == "check" and len(words) == 2:
             check(words[1])
         elif words[0] == "list":
             write(words[1], files_of(word.partition("=")[::2] for word in words[2:]))
         else:
-            pack_folder(words[0], words[1], words[2:])
+            write(words[1], files_in(words[0], words[2:]))
     except Fault as fault:
         print(fault)
         sys.exit(BAD_SITE)

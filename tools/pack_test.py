@@ -1,6 +1,6 @@
 #!/usr/bin/env python3
-"""Tests tools/pack.py: by the definition in docs/FORMATS.md, by the images that the program packed, by a C compiler, by the library and by the
-program.
+"""Tests tools/pack.py: by the definition in docs/FORMATS.md, by the images that the program packed, by a folder of each type, by a C compiler,
+by the library and by the program.
 
     python3 tools/pack_test.py [CASES]      CASES random damaged images (3,000)
 
@@ -8,8 +8,11 @@ The library (`rt lib` in crates/uip_c) opens every random image, and the program
 lists; what is not built is skipped, and the test prints it. Then faults are planted in pack.py: the tests by the definition must find each.
 The status is 0 if everything was as expected.
 """
+import contextlib
+import io
 import os
 import random
+import re
 import shutil
 import subprocess
 import sys
@@ -101,15 +104,51 @@ PAGES = [    # the greatest length of a page: the texts are in docs/FORMATS.md
 ]
 WARNINGS = [    # the lines with a warning, each with what it must name
     ((b"/a.shtml", b"<p>\n%! ticks\n%!net-stats\n%!  tcp-connections \n%! file-stats /x\n%!: /x\n"), []),
-    ((b"/a.shtml", b"%! value 3\r\n%! value-html 3\n%!value-json  15 \r\n%!\n%! "), []),
+    ((b"/a.shtml", b"%! value 3\r\n%! value-html 3\n%!value-json  15 \r\n%!\n%! ", b"text/javascript"), []),
     ((b"/a.shtml", b"It is %! value 3 &deg;C\nand %! temperature\n"), [(1, "&deg;C"), (2, "temperature")]),
     ((b"/a.shtml", b"%! value-html 3</p>\n%! value 16\n%! value-json\n%! value 00\n%! value 0 x"),
      [(1, "\"3</p>\""), (2, "\"16\""), (3, "\"\""), (4, "\"00\""), (5, "x")]),
     ((b"/a.shtml", b"\n%! ticks half seconds\n\n%!:/x of it\r\n%! file-stats /x </b>"), [(2, "half seconds"), (4, "of it"), (5, "</b>")]),
     ((b"/a.shtml", b"%! Ticks\n%!value3\n%! : /x\n%! file-stats\t/x"), [(1, "Ticks"), (2, "value3"), (3, ":"), (4, "file-stats\t/x")]),
     ((b"/a.html", b"100%\n!\n% !\n"), []), ((b"/a.html", b"a\nb%! ticks\n%! ticks\n"), [(2, ".shtml")]), ((b"/a.txt", b"%! ticks x\n"), []),
-    ((b"/xhtml", b"%! ticks x\n"), []),
+    ((b"/a.HTM", b"%!ticks", b"text/html"), [(1, ".shtml")]), ((b"/xhtml", b"%! ticks x\n", b"text/plain"), []),
+    # a type that browsers download
+    ((b"/xhtml", b"%! ticks x\n"), [(0, "/xhtml=TYPE")]), ((b"/a.js", b""), [(0, "/a.js=TYPE")]), ((b"/a.JPG", b""), [(0, "/a.JPG=TYPE")]),
+    ((b"/a.bin", b"", b"application/octet-stream"), []), ((b"/a.js", b"%! value-json 1", b"text/javascript"), []), ((b"/a.gif", b""), []),
+    # value-json where < begins an element
+    ((b"/a.shtml", b"<p>\n%! value 1\n%! value-json 2\n%!value-json 3\n"), [(3, "text/html: a value that others set")]),
+    ((b"/a.shtml", b"<p>%! value-json 0", b"Text/HTML; charset=utf-8"), [(1, "/a.shtml=application/json, or use value-html")]),
+    ((b"/a.shtml", b"%! value-json 0", b"application/xhtml+xml"), [(1, "value-json")]),
+    ((b"/a.shtml", b"%! value-json 0", b"image/svg+xml"), [(1, "svg")]),
+    ((b"/a.shtml", b"%! value-json 0", b"application/json"), []), ((b"/a.shtml", b"%! value-json 0", b"text/plain"), []),
+    ((b"/a.shtml", b"%! value-html 0\n%! value 1\n value-json 2 %%!: /value-json"), []),
+    ((b"/a.shtml", b"a\n%! value-json 0 }"), [(2, "}"), (2, "<")]),
+    # JSON that is served as HTML
+    ((b"/a.shtml", b"{\"a\": %! value 1\n}"), [(1, "/a.shtml=application/json")]), ((b"/a.shtml", b" \r\n\t[1]", b"text/html"), [(2, "[ begins")]),
+    ((b"/a.shtml", b"[]", b"text/html;charset=utf-8"), [(1, "[ begins")]), ((b"/a.shtml", b"[]", b"text/plain"), []),
+    ((b"/a.shtml", b"{%! value-json 0\n}"), [(1, "value-html")]), ((b"/a.shtml", b"{}", b"application/json"), []), ((b"/a.shtml", b"<p>{}"), []),
+    ((b"/a.html", b"{}"), []), ((b"/a.shtml", b"%! value 0\n{"), []), ((b"/a.shtml", b""), []),
 ]
+# A folder: the type of its own that each file gets, and the words of the command line, which win.
+FOLDER = {
+    "a.js": "text/javascript", "a.mjs": "text/javascript", "a.json": "application/json", "a.map": "application/json",
+    "a.webmanifest": "application/manifest+json", "a.wasm": "application/wasm", "a.xml": "text/xml", "a.csv": "text/csv", "a.md": "text/plain",
+    "a.htm": "text/html", "a.svg": "image/svg+xml", "a.ico": "image/x-icon", "a.jpeg": "image/jpeg", "a.webp": "image/webp",
+    "a.avif": "image/avif", "a.woff2": "font/woff2", "a.woff": "font/woff", "a.ttf": "font/ttf", "a.pdf": "application/pdf",
+    "a.mp3": "audio/mpeg", "a.wav": "audio/wav",
+    "A.JS": "text/javascript", "A.PNG": "image/png", "A.HTML": "text/html", "in/b.min.js": "text/javascript",
+    "a.html": "", "a.shtml": "", "a.txt": "", "a.css": "", "a.png": "", "a.gif": "", "a.jpg": "",
+    "a.bin": "", "js": "", "a.d/c": "", "A.SHTML": "", "js.gz": "",
+    "own.js": "text/plain", "own.html": "text/html; charset=utf-8", "own.bin": "application/octet-stream",
+    "own.shtml": "application/json", "none.js": "",
+}
+LIBRARY_TYPES = {b"/a.html": b"text/html", b"/a.shtml": b"text/html", b"/a.txt": b"text/plain", b"/a.css": b"text/css", b"/a.png": b"image/png",
+                 b"/a.gif": b"image/gif", b"/a.jpg": b"image/jpeg", b"/a.js": b"application/octet-stream"}
+FOLDER_WORDS = ["/own.js=text/plain", "/own.html=text/html; charset=utf-8", "/own.bin=application/octet-stream", "/own.shtml=application/json",
+                "/none.js="]
+FOLDER_CONTENTS = {"a.shtml": "<p>%! value-json 0\n", "own.shtml": "{%! value-json 0\n}"}
+FOLDER_WARNINGS = [("/A.SHTML:", "download"), ("/a.bin:", "download"), ("/a.d/c:", "download"), ("/a.shtml, line 1:", "value-html"),
+                   ("/js:", "download"), ("/js.gz:", "download"), ("/none.js:", "download")]
 SOURCES = [(b"UIPSITE1\0\0", 10, 0), (HELLO, 32, 1), (b"UIPSITE1\1\2" + b"".join(b"\4/%03d\0\0\0\0" % k for k in range(258)), 2332, 258)]
 
 
@@ -121,6 +160,7 @@ def by_definition(pack):
               if (is_so := listed(pack, files)) != expected]
     wrong += [f"a page of {file[0]!r}: {is_so}, expected {expected}" for file, expected in PAGES
               if (is_so := pack.page_lengths([pack.File(*file)])) != [expected]]
+    wrong += [f"the type of {name!r}: {is_so}" for name, kind in LIBRARY_TYPES.items() if (is_so := pack.File(name, b"").content_type()) != kind]
     wrong += [f"warnings of {file[1]!r}: {is_so}, expected {expected}" for file, expected in WARNINGS
               if not agree(is_so := pack.warnings(pack.File(*file)), expected)]
     wrong += [f"C source of {length} bytes" for image, length, files in SOURCES
@@ -131,7 +171,57 @@ def by_definition(pack):
     wrong += [f"examples/{name} is another image" for name, files in (("site.img", site), ("state.img", state)) if pack.pack(files) != read(name)]
     if pack.pack([pack.File(b"/index.html", b"hello\n")]) != HELLO:
         wrong.append("the image of one file is another")
+    return wrong + by_folder(pack)
+
+
+def run_main(pack, *words):
+    """What the command prints on standard error, and its status."""
+    errors, sys.argv[1:] = io.StringIO(), words
+    with contextlib.redirect_stderr(errors), contextlib.redirect_stdout(io.StringIO()):
+        try:
+            pack.main()
+        except SystemExit as end:
+            return errors.getvalue().splitlines(), end.code
+    return errors.getvalue().splitlines(), 0
+
+
+def by_folder(pack):
+    """The expectations of a packed folder that do not hold: its types, its warnings, and what `list` makes of one of its files."""
+    wrong = []
+    with tempfile.TemporaryDirectory() as room:
+        folder, image, script = os.path.join(room, "site"), os.path.join(room, "image"), os.path.join(room, "site/a.js")
+        for name in FOLDER:
+            os.makedirs(os.path.dirname(os.path.join(folder, name)), exist_ok=True)
+            with open(os.path.join(folder, name), "w") as file:
+                file.write(FOLDER_CONTENTS.get(name, ""))
+        printed, status = run_main(pack, folder, image, *FOLDER_WORDS)
+        files = pack.read(read(image)) if status == 0 else []
+        found = {file.name.decode()[1:]: file.kind.decode() for file in files}
+        wrong += [f"{name} of a folder has the type \"{found.get(name)}\"" for name, kind in FOLDER.items() if found.get(name) != kind]
+        wrong += [f"a folder has the warnings {printed}"] * (not matches(printed, FOLDER_WARNINGS))
+        wrong += [f"check prints {again}" for again, _ in [run_main(pack, "check", image)] if again != printed]
+        printed, status = run_main(pack, "list", image, f"/a.js={script}")
+        is_plain = status == 0 and read(image) == b"UIPSITE1\0\1\5/a.js\0\0\0\0" and matches(printed, [("/a.js:", "download")])
+        wrong += [] if is_plain else [f"list gives a type, or no warning: {printed}"]
     return wrong
+
+
+def matches(lines, expected):
+    return len(lines) == len(expected) and all(
+        line.startswith(f"pack.py: warning: {place}") and text in line for line, (place, text) in zip(lines, expected))
+
+
+def by_tables(pack):
+    """The tables of types in docs/FORMATS.md, in --help and in web/site.js that are other ones."""
+    rows = re.findall(r"^\| (`\.\w.*) \| (`.*`) \|$", read("../docs/FORMATS.md").decode(), re.M)
+    cells = [[re.findall(r"`([^`]*)`", cell) for cell in row] for row in rows]
+    table = re.search(r"^const TYPES = \{(.*?)\};", read("../web/site.js").decode(), re.S | re.M)
+    tables = {
+        "docs/FORMATS.md": {end: kind for ends, kinds in cells for end, kind in zip(ends, kinds * (len(ends) // len(kinds)), strict=True)},
+        "--help": {end: kind for kind, ends in re.findall(r"^    (\w+/\S+) +(\..*)$", pack.usage(), re.M) for end in ends.split()},
+        "web/site.js": {f".{end}": kind for end, kind in re.findall(r'(\w+): "([^"]*)"', table[1])},
+    }
+    return [f"{place} has another table of types" for place, types_there in tables.items() if types_there != pack.TYPES_OF_FOLDERS]
 
 
 def agree(warnings, expected):
@@ -240,7 +330,24 @@ PLANTS = [    # a text of pack.py, and the text that replaces it
     ('require(size <= LONGEST_IMAGE, "long")', "pass"), ('require(len(files) <= MOST_FILES, "many")', "pass"),
     ('b"value": 1', 'b"value": 2'), ('b"net-stats": 0, b"ticks": 0', 'b"net-stats": 0, b"ticks": 2'), ("ignored = words[1:]", "ignored = []"),
     ("words[1 + ARGUMENTS", "words[2 + ARGUMENTS"), ("1 + file.content.count", "file.content.count"), ("if not words:", "if False:"), ("range(16)}", "range(17)}"),
-    ('endswith(b".html") and', 'endswith(b"html") and'), ("image[8:10]", "image[9:10]"),
+    ('(b".html", b".htm"))', '(b".html",))'), ('(b".html", b".htm"))', '(b"html", b".htm"))'), ("image[8:10]", "image[9:10]"),
+    # types: each row of the tables, what wins, and the case of letters
+    *((f'"{ending}": "', f'"{ending}": "x') for ending in sorted({os.path.splitext(it)[1] for it in FOLDER if it.startswith("a.")} - {"", ".bin"})),
+    ("kinds.get(name, folder_type(name))", "folder_type(name) or kinds.get(name, '')"), ("kinds.get(name, folder_type(name))", 'kinds.get(name, "")'),
+    ("kinds.get(name, folder_type(name))", "kinds.get(name) or folder_type(name)"), ("known.get(ending.lower()", "known.get(ending"),
+    ("known = {} if ending in TYPES else", "known ="), ("{**TYPES, **TYPES_OF_FOLDERS}", "TYPES_OF_FOLDERS"),
+    ('if ending.lower() != ".shtml" else ""', ""), ("os.path.splitext(name)[1]", '"." + name.partition(".")[2]'),
+    ("return self.kind or next(ends, UNKNOWN)", "return next(ends, UNKNOWN)"),
+    # the warnings of types
+    ("== UNKNOWN and not file.kind", "== UNKNOWN"), ("if file.content_type() == UNKNOWN and", "if False and"), ("+ type_warning(file)", ""),
+    ("if calls and (b", "if False and (b"), ('(b"html" in media or b"xml" in media)', 'b"html" in media'),
+    ('(b"html" in media or b"xml" in media)', "True"), ('(b"html" in media or b"xml" in media)', 'media == b"text/html"'),
+    (".strip().lower()", ""), ('.split(b";")[0]', ""), ("calls[0], f", "calls[-1], f"), ('words[:1] == [b"value-json"] and', ""),
+    ('words[:1] == [b"value-json"]', 'words[:1] in ([b"value"], [b"value-json"])'), ("and is_value_number(words[1:2])\n", "\n"),
+    ('if media == b"text/html" and start', "if False and start"), ('if media == b"text/html" and start', "if start"),
+    ("content.lstrip()[:1]", "content[:1]"), ('in (b"{", b"[")', 'in (b"{",)'), ('in (b"{", b"[")', 'in (b"[",)'),
+    ("file.content.find(start)", "0"), ('if line else ""', 'if True else ""'),
+    ("    print_warnings(files)\n    print(", "    print("), ("    print_warnings(files)\n    for file, length", "    for file, length"),
 ]
 
 
@@ -266,8 +373,9 @@ def main():
     images = [random_image(rng, pack) for _ in range(int(sys.argv[1]) if sys.argv[1:] else 3000)]
     expected = [verdict(pack, image) for image in images]
     wrong = by_definition(pack)
-    print(f"by the definition: {len(IMAGES)} images, {len(LISTS)} lists, {len(PAGES)} pages; wrong: {len(wrong)}")
+    print(f"by the definition: {len(IMAGES)} images, {len(LISTS)} lists, {len(PAGES)} pages, a folder of {len(FOLDER)} files; wrong: {len(wrong)}")
     sources = by_compiler(pack)
+    wrong += by_tables(pack)
     print("skipped: there is no C compiler" if sources is None else f"by the C compiler: {len(SOURCES) + 1} images; wrong: {len(sources)}")
     wrong += sources or []
     for what, found in (("library", by_library(images, expected)), ("program", by_program(pack, images, expected))):

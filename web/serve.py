@@ -31,7 +31,6 @@ import select
 import shutil
 import signal
 import struct
-import subprocess
 import sys
 import tempfile
 import threading
@@ -42,9 +41,10 @@ from http.server import BaseHTTPRequestHandler, ThreadingHTTPServer
 
 HERE = os.path.dirname(os.path.abspath(__file__))
 EXAMPLES = os.path.join(HERE, "../examples")
-sys.path.insert(0, EXAMPLES)
+sys.path[:0] = [EXAMPLES, os.path.join(HERE, "../tools")]
 try:
     import browse
+    import pack
 except ImportError:   # a system without terminals, as Windows
     browse = None
 
@@ -89,13 +89,14 @@ def stamp_of(site):
     return hashlib.sha256(repr([(path, os.stat(path).st_mtime_ns, os.stat(path).st_size) for path in paths]).encode()).hexdigest()[:16]
 
 
-def packed(uipd, folder, to):
-    """Writes the image of a folder by the program's own `pack`."""
-    files = [f"/{name}={os.path.join(folder, name)}" for name in names_in(folder)]
+def packed(folder, to):
+    """Writes the image of a folder, each file with its type."""
+    try:
+        image = pack.pack(pack.files_in(folder, []))
+    except pack.Fault as fault:
+        fail(f"cannot pack {folder}: {fault}")
     with open(to, "wb") as file:
-        status = subprocess.run([uipd, "pack", *files], stdout=file, check=False).returncode
-    if status:
-        fail(f"cannot pack {folder}: {status_words(status)}")
+        file.write(image)
     return to
 
 
@@ -174,7 +175,7 @@ class Watched:
 
     def open(self):
         then, place = stamp_of(self.site), tempfile.TemporaryDirectory()
-        image = packed(self.uipd, self.site, os.path.join(place.name, "site.img")) if os.path.isdir(self.site) else self.site
+        image = packed(self.site, os.path.join(place.name, "site.img")) if os.path.isdir(self.site) else self.site
         words = [self.uipd, "serve", image, "10.0.0.1", "pace", str(browse.LOCAL_RATE // 2), "tty"]
         return WatchedLine(lambda: stamp_of(self.site) != then, *browse.start_server(words), release=place.cleanup, has_statuses=True)
 
@@ -426,7 +427,7 @@ class Words:
         if not is_named and (browse is None or not os.path.exists(self.uipd)):
             return None
         if browse is None:
-            fail("no examples/browse.py here, or no pseudo terminals on this system; without a word the device runs inside the page")
+            fail("no examples/browse.py or tools/pack.py here, or no pseudo terminals on this system; without a word the device runs inside the page")
         node = self.named()
         node.is_asked = bool(is_named)   # the page then connects at once
         return node

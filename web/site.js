@@ -1,15 +1,24 @@
 // A site's image from files, by docs/FORMATS.md, and what an image has.
 const MAGIC = "UIPSITE2", MOST_FILES = 1024;
-// Content types that a node does not know by a name's end.
-const TYPES = { js: "text/javascript", mjs: "text/javascript", json: "application/json", svg: "image/svg+xml", webp: "image/webp",
-  ico: "image/x-icon", jpeg: "image/jpeg", htm: "text/html", md: "text/plain", woff2: "font/woff2", wasm: "application/wasm",
-  pdf: "application/pdf" };
+// Content types that a node does not know by a name's end. tools/pack.py has the same table.
+const TYPES = {
+  js: "text/javascript", mjs: "text/javascript", json: "application/json", map: "application/json", webmanifest: "application/manifest+json",
+  wasm: "application/wasm", xml: "text/xml", csv: "text/csv", md: "text/plain", htm: "text/html", svg: "image/svg+xml", ico: "image/x-icon",
+  jpeg: "image/jpeg", webp: "image/webp", avif: "image/avif", woff2: "font/woff2", woff: "font/woff", ttf: "font/ttf", pdf: "application/pdf",
+  mp3: "audio/mpeg", wav: "audio/wav",
+};
+// Those that it knows in small letters alone. A script's name has to end in .shtml.
+const KNOWN = { html: "text/html", txt: "text/plain", css: "text/css", png: "image/png", gif: "image/gif", jpg: "image/jpeg" };
 
 const VALUE = /%! +value(?:-json|-html)? +(0|[1-9]|1[0-5])(?=[ \r\n]|$)/g;   // docs/FORMATS.md, Scripts
 
 const ascii = text => Array.from(text, sign => sign.charCodeAt(0));
 
-const typeOf = name => TYPES[/\.(\w+)$/.exec(name)?.[1].toLowerCase()] ?? "";
+const types = new Map(Object.entries({ ...KNOWN, ...TYPES }));
+function typeOf(name) {
+  const ending = /[^/]\.([^./]*)$/.exec(name)?.[1] ?? "";
+  return Object.hasOwn(KNOWN, ending) ? "" : types.get(ending.toLowerCase()) ?? "";
+}
 
 // Each file is { name, bytes }; a name begins with "/".
 export function pack(files) {

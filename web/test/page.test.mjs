@@ -495,6 +495,11 @@ for (const [name, words] of [["the device inside", site => [site]], ["UIPD", sit
       await tab.until(shows("two"));
       writeFileSync(join(site, "sub/two.html"), "<title>three</title>");
       await tab.until(shows("three"));   // the same path
+      writeFileSync(join(site, "app.js"), `export const title = "by a module";`);   // which a browser loads by its type alone
+      writeFileSync(join(site, "sub/two.html"), `<script type="module">import { title } from "../app.js"; document.title = title;</script>`);
+      await tab.until(shows("by a module"));
+      writeFileSync(join(site, "a b.txt"), "");
+      await tab.until(name === "UIPD" ? ends(`the line ended: serve.py: cannot pack ${site}: bad site name 1`) : hasNotice('"/a b.txt" is no name'));
     });
   });
 

@@ -1,7 +1,8 @@
 // Parts of the page that need no browser: its verdicts, the server by uIP's rules, and images of sites.
 import test from "node:test";
 import assert from "node:assert/strict";
-import { existsSync, mkdtempSync, readFileSync, readdirSync, rmSync, writeFileSync } from "node:fs";
+import { execFileSync } from "node:child_process";
+import { existsSync, mkdirSync, mkdtempSync, readFileSync, readdirSync, rmSync, writeFileSync } from "node:fs";
 import { tmpdir } from "node:os";
 import { join } from "node:path";
 import { Clock } from "../clock.js";
@@ -83,6 +84,17 @@ test("an image is read and written as the program does", () => {
   assert.deepEqual(unpack(pack(own)).map(({ name, bytes }) => [name, Buffer.from(bytes).toString()]), own.map(({ name, bytes }) => [name, bytes.toString()]));
   assert.throws(() => pack([{ name: "/a b", bytes: disk("/index.html") }]), /"\/a b" is no name for a file/);
   assert.throws(() => pack(Array.from({ length: 1025 }, (_, n) => ({ name: `/${n}`, bytes: [] }))), /1024 files at most/);
+});
+
+test("a folder is packed as tools/pack.py does", () => {
+  const folder = mkdtempSync(join(tmpdir(), "packed-")), site = join(folder, "site"), out = join(folder, "out.img");
+  const names = ["LOGO.PNG", "PAGE.HTML", "SCRIPT.SHTML", "a.constructor", "a.d/b", "a.min.js", "app.mjs", "x.bin", "index.html", "logo.png", "now.shtml", "README", "shape.SVG"];
+  const files = names.sort().map(name => ({ name: `/${name}`, bytes: Buffer.from(name) }));
+  mkdirSync(join(site, "a.d"), { recursive: true });
+  for (const { name, bytes } of files) writeFileSync(join(site, name), bytes);
+  execFileSync("python3", [join(top, "tools/pack.py"), site, out], { stdio: "pipe" });
+  assert.ok(readFileSync(out).equals(Buffer.from(pack(files))));
+  rmSync(folder, { recursive: true });
 });
 
 test("the ping that the program's own page has, and two in one feed", () => {

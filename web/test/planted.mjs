@@ -177,7 +177,9 @@ const FAULTS = {
     [`["file-stats", 1]`, `["file-stats", 0]`, "parts", "no effect"],
     [`isScript ? text.matchAll`, `true ? text.matchAll`, "parts", "no effect"],
     [`    if (entry.name.startsWith(".")) return;`, `    if (!entry.isFile) return;`, "page", "Chromium: a folder and an image"],
-    [`const typeOf = name => TYPES`, `const typeOf = name => ({})`, "page", "Chromium: one's own site"],
+    [`types.get(ending.toLowerCase()) ?? ""`, `""`, "page", "Chromium: one's own site"],
+    [`types.get(ending.toLowerCase()) ?? ""`, `types.get(ending) ?? ""`, "parts", "as tools/pack.py does"],
+    [`Object.hasOwn(KNOWN, ending) ? "" : `, "", "parts", "as tools/pack.py does"],
   ],
   "verdict.js": [
     [`  if (wrong) return`, `  if (false) return`, "parts", "each verdict"],
@@ -273,6 +275,9 @@ const FAULTS = {
   "serve.py": [
     [`threading.Thread(target=webbrowser.open, args=(address,), daemon=True).start()`, `webbrowser.open(address)`, "parts", "while the browser runs"],
     [`(f": {browse.STATUSES[status]}" if status in browse.STATUSES else "")`, `""`, "page", "statuses in words"],
+    [`pack.pack(pack.files_in(folder, []))`, `pack.pack(pack.files_of((f"/{it}", os.path.join(folder, it)) for it in names_in(folder)))`,
+      "page", "live reload of a folder, UIPD"],
+    [`fail(f"cannot pack {folder}: {fault}")`, `fail(str(fault))`, "page", "live reload of a folder, UIPD"],
     [`self.is_changed = self.look()`, `pass`, "page", "live reload of a folder, UIPD"],
     [`            if name not in names:`, `            if False:`, "page", "live reload of a folder, the device inside"],
     [` or self.headers.get("Origin") != f"http://{self.headers['Host']}"`, "", "browser", "why a node ended"],
