@@ -14,7 +14,8 @@
 #                                                  status, number, byte and call of the heap must be the same
 #     sh ports/run.sh TARGET same-app [CALLS [SEED]]    the same for the library of uip_app.h
 #     sh ports/run.sh TARGET same-both [CALLS [SEED]]   the same for the library of uip_both.h
-#     sh ports/run.sh TARGET speed                 counts the instructions of a ping and of a small file (not for wasm)
+#     sh ports/run.sh TARGET speed                 counts the instructions of pings, ARP, a small file and ticks on each link, of full segments
+#                                                  and of opening (not for wasm)
 #     sh ports/run.sh TARGET planted [CALLS [SAME]]     plants faults in the conversion of the module: each must be found, by `same` or by
 #                                                  SAME, which is same-app or same-both
 #     sh ports/run.sh m4 app                       builds a firmware with an application of its own (uip_app.h), and runs it: four clients of
@@ -37,7 +38,7 @@
 #
 # The first run proves the library (module.sh). Needs python3 and the kit of `rt`; for fetch, usage and state qemu-system-arm or
 # qemu-system-misc, `ip` and /dev/net/tun; for same and planted qemu-user and a C compiler for this machine; for wasm node.
-case "$1" in -h|--help|"") sed -n '2,42s/^# \{0,1\}//p' "$0"; exit 0;; esac
+case "$1" in -h|--help|"") sed -n '2,43s/^# \{0,1\}//p' "$0"; exit 0;; esac
 ports=$(cd "$(dirname "$0")" && pwd)
 top=$(cd "$ports/.." && pwd)
 example=$top/examples/board
@@ -106,7 +107,7 @@ library() {
     without_vectors scalar
     convert "$module" module calls.h
     # The calls for Ethernet share functions with uip_open. A firmware without Ethernet has them built in only if its module has no such call.
-    sed -E 's/^define ([a-z0-9]+) @port_uip_(open_ether|input_frame|periodic_frame)\(/define internal \1 @port_uip_\2(/' \
+    sed -E 's/^define ([a-z0-9]+) @port_uip_(open_ether|input_frame_area|periodic_frame)\(/define internal \1 @port_uip_\2(/' \
         "$to/module.ll" >"$to/serial.ll" || fail "the calls for Ethernet were not removed"
     [ "$(cmp -l "$to/module.ll" "$to/serial.ll" 2>/dev/null | head -1)" ] || fail "there was no call for Ethernet to remove"
     c_code -Os "$ports/uip_calls.c" -o "$to/module_calls.o"
