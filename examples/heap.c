@@ -12,11 +12,11 @@ alignas(16)
 #else
 _Alignas(16)
 #endif
-static unsigned char area[UIP_HEAP_SIZE];
+static unsigned char heap_area[UIP_HEAP_SIZE];
 size_t heap_used;      // the offset after the last block
 size_t heap_blocks;    // how many blocks are not freed
 
-static uip_block block_of(size_t ok, void *at) {
+static uip_block heap_block(size_t ok, void *at) {
     uip_block block = {ok, at};
     return block;
 }
@@ -24,15 +24,15 @@ static uip_block block_of(size_t ok, void *at) {
 uip_block rattle_alloc(size_t len, size_t align) {
     size_t at = (heap_used + align - 1) & ~(align - 1);
     if (len == 0) len = align;
-    if (at > sizeof area || len > sizeof area - at) return block_of(0, area);
+    if (at > sizeof heap_area || len > sizeof heap_area - at) return heap_block(0, heap_area);
     heap_used = at + len;
     heap_blocks++;
-    return block_of(1, area + at);
+    return heap_block(1, heap_area + at);
 }
 
 uip_block rattle_realloc(void *block, size_t kept, size_t len, size_t align) {
     (void)block, (void)kept, (void)len, (void)align;
-    return block_of(0, area);
+    return heap_block(0, heap_area);
 }
 
 void rattle_dealloc(void *block) {

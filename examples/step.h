@@ -11,13 +11,15 @@
  *     nothing is to do                 sleeps
  *
  * It sleeps by wfi, unless `events` has changed since the pass began. So no wake-up is lost, and `work` sees each request
- * before the next one is handled. Keep `work` short: it runs before each piece of at most 256 bytes.
+ * before the next one is handled. Keep `work` short: it runs before each piece of at most 256 bytes, and after each
+ * interrupt that adds to `events`. A pass takes at most 64 bytes from the ring.
  *
  * The ring. Between two feeds the loop sends at most two frames, in 24 pieces. Meanwhile at most 2 * UIP_MAX_OUT = 6,004
  * bytes arrive, and what the line brings in 24 gaps: in a gap `work` and half_a_second_passed run, and one call is made.
- * With a circular DMA add what can wait before it interrupts: half the ring, or the bytes of half a second, if they are
- * less. If this sum is free at each feed, no byte is lost. So 8,192 bytes suit most, and 16,384 with a circular DMA at
- * 115,200 bits a second. A smaller ring is allowed: if it overflows, TCP sends the lost data again, after seconds.
+ * With a circular DMA add what can wait until the loop wakes: half the ring, or what arrives in the longest sleep, if
+ * that is less. If this sum is free at each feed, no byte is lost. So 8,192 bytes suit most, also with a circular DMA if a
+ * clock wakes the loop within 100 ms, and 16,384 if it may sleep for half a second at 115,200 bits a second. A smaller ring
+ * is allowed: if it overflows, TCP sends the lost data again, after seconds.
  *
  * SPDX-License-Identifier: MIT OR Apache-2.0
  * Copyright 2026 The Lowunbisa authors
@@ -30,17 +32,22 @@
 unsigned serve(void);                                     /* the loop. Returns the status of a call that failed, if one does */
 void reset_step(void);                                    /* between uip_close and the next uip_open */
 
-/* You define these, as firmware/sleep.c and port.c do. */
+/* You define these. firmware/port.c, or port_dma.c for a circular DMA, has read_serial, events, dma_is_busy and dma_send. */
 extern uip_device device;                                 /* not static; open when `serve` is called */
-void work(void);                                          /* sets values, reads hits and queries */
+void work(void);                                          /* sets values, reads hits and queries. It may make any call but those that
+                                                             send. Interrupts are on; it may hold them back for a moment */
 int half_a_second_passed(void);                           /* 1 if a tick is due, once for each tick. Asked between ticks, if the port
-                                                             does not send. It returns 0 to leave ticks out */
+                                                             does not send. It returns 0 to leave ticks out. If a clock ends the
+                                                             sleep anyway, it may be tick_is_due_at(milliseconds()): ticks.h */
 size_t read_serial(unsigned char *bytes, size_t room);    /* moves what has arrived, 0 if nothing. It does not wait */
 
 extern volatile unsigned events;                          /* not static. An interrupt adds 1 if it gives the loop or `work`
                                                              something to do: bytes arrived (with a DMA: line idle, half full,
                                                              full), the port has sent, half a second passed, or one of yours.
-                                                             A task of an RTOS need not add: it ends wfi */
+                                                             Interrupts that add may preempt one another: a lost count does
+                                                             no harm.
+                                                             A clock that only ends the sleep adds 1, too. A task of an RTOS
+                                                             need not add: it ends wfi */
 int dma_is_busy(void);                                    /* 1 while the port sends: a variable that dma_send sets, and that the
                                                              interrupt clears which adds to `events`. If you stop the port's
                                                              clock, take the interrupt of the last bit, not of the DMA */

@@ -8,7 +8,8 @@
  *     unsigned limit;
  *     size_t len;
  *     char name[16];
- *     if (number_in(query, got.len, "limit", &limit) && limit <= 100) ..        // 21; tenths_in reads 21.5 as 215
+ *     if (number_in(query, got.len, "limit", &limit) && limit <= 100) ..        // 21; tenths_in reads 21.5 as 215, and
+ *                                                                               // signed_tenths_in also -5.5 as -55
  *     if (text_in(query, got.len, "name", name, sizeof name, &len)) ..          // 5 bytes of UTF-8
  *
  * SPDX-License-Identifier: MIT OR Apache-2.0
@@ -28,7 +29,9 @@ UIP_INLINE size_t decimal(char *to, unsigned number) {
     return len;
 }
 
-/* Writes a number of tenths: -55 as -5.5. 12 bytes at most, without a 0 at their end. Returns their number. */
+/* Writes a number of tenths: -55 as -5.5. 12 bytes at most, without a 0 at their end. Returns their number. Two of them fit into a value;
+ * three take up to 38 bytes, if you do not limit the numbers.
+ */
 UIP_INLINE size_t tenths_text(char *to, int tenths) {
     unsigned magnitude = tenths < 0 ? 0u - (unsigned)tenths : (unsigned)tenths;
     size_t len = 0;
@@ -75,30 +78,94 @@ UIP_INLINE int number_in(const unsigned char *query, size_t len, const char *nam
     return 1;
 }
 
-/* Reads the field NAME=NUMBER in tenths, of one to eight digits: 12.5 is 125, as is 12.50; 12 is 120, and .5 is 5. Returns 0, and
- * changes nothing, if there is none such, or if it is no whole number of tenths.
- */
-UIP_INLINE int tenths_in(const unsigned char *query, size_t len, const char *name, unsigned *tenths) {
-    size_t size, k, digits = 0, decimals = 0;
+/* Reads a text in tenths, of one to eight digits. Returns 0, and changes nothing, if it is no whole number of tenths. */
+UIP_INLINE int tenths_of(const unsigned char *text, size_t size, unsigned *tenths) {
+    size_t k, digits = 0, decimals = 0;
     unsigned sum = 0;
     int is_after_point = 0;
-    const unsigned char *field = field_in(query, len, name, &size);
-    if (!field) return 0;
     for (k = 0; k < size; k++) {
-        if (field[k] == '.' && !is_after_point) {
+        if (text[k] == '.' && !is_after_point) {
             is_after_point = 1;
-        } else if (digit_of(field[k]) > 9) {
+        } else if (digit_of(text[k]) > 9) {
             return 0;
         } else if (is_after_point && decimals++ > 0) {
-            if (field[k] != '0') return 0;
+            if (text[k] != '0') return 0;
         } else {
             if (digits++ == 8) return 0;
-            sum = sum * 10 + digit_of(field[k]);
+            sum = sum * 10 + digit_of(text[k]);
         }
     }
     if (digits == 0) return 0;
     *tenths = decimals ? sum : sum * 10;
     return 1;
+}
+
+/* Reads the field NAME=NUMBER in tenths, of one to eight digits: 12.5 is 125, as is 12.50; 12 is 120, and .5 is 5. Returns 0, and
+ * changes nothing, if there is none such, if it is no whole number of tenths, or if it has a sign.
+ */
+UIP_INLINE int tenths_in(const unsigned char *query, size_t len, const char *name, unsigned *tenths) {
+    size_t size;
+    const unsigned char *field = field_in(query, len, name, &size);
+    return field ? tenths_of(field, size, tenths) : 0;
+}
+
+/* The same for a number that may have the sign - before it: -5.5 is -55. */
+UIP_INLINE int signed_tenths_in(const unsigned char *query, size_t len, const char *name, int *tenths) {
+    size_t size;
+    unsigned magnitude;
+    const unsigned char *field = field_in(query, len, name, &size);
+    int is_negative = field && size > 0 && field[0] == '-';
+    if (!field || !tenths_of(field + is_negative, size - (size_t)is_negative, &magnitude)) return 0;
+    *tenths = is_negative ? -(int)magnitude : (int)magnitude;
+    return 1;
+}
+
+/* Reads the field NAME=ADDRESS, such as 10.0.0.1: four numbers of at most 255, each of one to three digits. Returns 0, and changes
+ * nothing, if there is none such. Not tested: whether it is the address of a host.
+ */
+UIP_INLINE int address_in(const unsigned char *query, size_t len, const char *name, unsigned char address[4]) {
+    size_t size, k, part = 0, digits = 0;
+    unsigned numbers[4] = {0, 0, 0, 0};
+    const unsigned char *field = field_in(query, len, name, &size);
+    if (!field) return 0;
+    for (k = 0; k < size; k++) {
+        if (field[k] == '.') {
+            if (digits == 0 || part == 3) return 0;
+            part++;
+            digits = 0;
+            continue;
+        }
+        if (digit_of(field[k]) > 9 || digits++ == 3) return 0;
+        numbers[part] = numbers[part] * 10 + digit_of(field[k]);
+        if (numbers[part] > 255) return 0;
+    }
+    if (part != 3 || digits == 0) return 0;
+    for (k = 0; k < 4; k++) address[k] = (unsigned char)numbers[k];
+    return 1;
+}
+
+/* Whether an address can be that of a host: its first byte is 1 to 223 and not 127. With a mask of up to 30 bits, its part for the host
+ * is neither all 0 nor all 1. Pass a mask of 0.0.0.0 for a serial line.
+ */
+UIP_INLINE int is_host(const unsigned char address[4], const unsigned char mask[4]) {
+    unsigned host = 0, all = 0;
+    size_t k;
+    for (k = 0; k < 4; k++) {
+        host = host << 8 | (address[k] & (255u ^ mask[k]));
+        all = all << 8 | (255u ^ mask[k]);
+    }
+    if (address[0] == 0 || address[0] == 127 || address[0] > 223) return 0;
+    return all < 3 || (host != 0 && host != all);
+}
+
+/* Writes an address: 10.0.0.1. 15 bytes at most, without a 0 at their end. Returns their number. */
+UIP_INLINE size_t address_text(char *to, const unsigned char address[4]) {
+    size_t k, len = 0;
+    for (k = 0; k < 4; k++) {
+        if (k > 0) to[len++] = '.';
+        len += decimal(to + len, address[k]);
+    }
+    return len;
 }
 
 /* Copies the text of the field NAME=TEXT, with + as a space, and %XX as a byte, without a 0 at its end. Returns 0 if there

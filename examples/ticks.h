@@ -10,7 +10,7 @@
 #include "uip.h"
 
 /* Returns 1 if a tick is due at this time, in milliseconds modulo 2^32: once for each half second. If three or more are due, after a
- * stall, only one is made.
+ * stall, only one is made. Call it in one place: its state is that of the file which includes it.
  */
 UIP_INLINE int tick_is_due_at(unsigned milliseconds) {
     static unsigned last;

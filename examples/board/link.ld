@@ -9,7 +9,7 @@ SECTIONS {
     .text : { __flash_start = .; KEEP(*(.start)) *(.text .text.*) } > FLASH
     .rodata : { *(.rodata .rodata.* .srodata .srodata.* .data.rel.ro .data.rel.ro.*) . = ALIGN(8); __flash_end = .; } > FLASH
     .stack (NOLOAD) : { __stack_low = .; . += 8K; __stack_top = .; } > RAM
-    .heap (NOLOAD) : { *(.bss.area) } > RAM
+    .heap (NOLOAD) : { *(.bss.heap_area) } > RAM
     .data : { *(.data .data.* .sdata .sdata.* .got .got.*) } > RAM
     ASSERT(SIZEOF(.data) == 0, "the start code copies no data to memory")
     .bss (NOLOAD) : { . = ALIGN(16); __bss_start = .; *(.bss .bss.* .sbss .sbss.* COMMON) . = ALIGN(16); __bss_end = .; } > RAM

@@ -14,8 +14,8 @@ import time
 count = 0
 
 
-def page(name, tries=20):
-    """The body of the reply to a request."""
+def reply_to(name, tries=20):
+    """The head and the body of the reply to a request."""
     for left in reversed(range(tries)):
         try:
             reply = b""
@@ -24,11 +24,17 @@ def page(name, tries=20):
                 while piece := connection.recv(4096):
                     reply += piece
             head, _, body = reply.partition(b"\r\n\r\n")
-            return head.split()[1].decode() + " " + body.decode()
+            return head.decode(), body.decode()
         except OSError:
             if not left:
                 raise
             time.sleep(0.5)
+
+
+def page(name):
+    """The status and the body of the reply to a request."""
+    head, body = reply_to(name)
+    return f"{head.split()[1]} {body}"
 
 
 def expect(what, pattern, name):
@@ -61,7 +67,10 @@ def main(note):
     expect("the setting in the form", r'required value="42">', "/now.shtml?10")
     expect("the first button again", r"turns on", "/on.html?11")
     expect("the lamp is on again", r"The lamp is on: ", "/now.shtml?12")
-    state = json.loads(page("/state.shtml").split(" ", 1)[1])
+    head, body = reply_to("/state.shtml")
+    state = json.loads(body)
+    if not head.endswith("\r\nContent-type: application/json"):
+        sys.exit(f"client.py: the state as JSON has another type:\n{head}")
     if state["temperature"] != -5.5 or state["lamp"] != "on" or state["n"] != token_now("/now.shtml?13"):
         sys.exit(f"client.py: the state as JSON is {state}")
     if note == "1":

@@ -9,11 +9,12 @@
 
 #include <stddef.h>
 
-/* All programs */
+/* All programs; gate.c has no lamp, no temperature and no start_number */
 void board_start(void);                                   /* starts clock, sensor, and port or controller */
 void lamp(unsigned percent);                              /* its brightness, 0 to 100 */
 int temperature(void);                                    /* in tenths of a degree: -55 is -5.5 */
-unsigned start_number(void);                              /* a number that no earlier start had: counted in flash, or random */
+unsigned start_number(void);                              /* a number that no earlier start had: counted in flash, or random. It is
+                                                             the same at each call until the next start */
 void fail(unsigned status, unsigned entry, const char *word);    /* no device was opened: shows why, and never returns */
 void stop(unsigned status);                               /* records the status, and resets the processor */
 
@@ -32,16 +33,14 @@ size_t datagram_receive(unsigned char *bytes, size_t room);    /* copies a recei
                                                                   is none. It drops a longer one. It may wait, at most 20 ms */
 void datagram_send(void *to, const unsigned char *bytes, size_t len);    /* sends a datagram; it may wait, or drop it */
 
-/* ether.c and rtos.c */
+/* ether.c, rtos.c and gate.c */
 extern const unsigned char mac[6];                        /* the hardware address */
 size_t mac_receive(unsigned char *frame, size_t room);    /* copies a received frame, and returns its length, or 0 if there is
                                                              none. It may wait for one, at most 20 ms */
 void mac_send(void *to, const unsigned char *frame, size_t len);    /* sends a frame, padded to 60 bytes. When it returns,
                                                                        `frame` is no longer used */
 
-/* sleep.c and rtos_serial.c */
-unsigned char port_read(void);                            /* the byte that the port has received */
-void port_start(const unsigned char *bytes, size_t len);  /* begins to send by DMA or interrupt; `bytes` stay as they are */
+/* sleep.c and rtos_serial.c: what port.h lists, too */
 
 /* sleep.c */
 void timer_start(void);                                   /* the timer of half a second runs again, after timer_stop */
@@ -49,6 +48,14 @@ void timer_stop(void);
 void interrupts_off(void);                                /* Cortex-M: cpsid i, not BASEPRI; RISC-V: csrci mstatus, 8 */
 void interrupts_on(void);                                 /* cpsie i; csrsi mstatus, 8 */
 void sleep_until_interrupt(int is_deep);                  /* dsb, wfi; an interrupt ends it that is held back, too. If it is deep,
-                                                             all clocks may stop but that of the receiver */
+                                                             all clocks may stop but that of the receiver, and with port_dma.c
+                                                             those of its DMA and memory */
+
+/* gate.c */
+unsigned random_bits(void);                               /* 32 bits of a true random generator, such as that of the processor. If it
+                                                             fails, reset: no number may come again after a start */
+void gate_motor(int direction);                           /* 1 opens, -1 closes, 0 stops */
+int gate_position(void);                                  /* in tenths of a per cent: 0 is closed, 1000 is open */
+int gate_is_blocked(void);
 
 #endif

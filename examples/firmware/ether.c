@@ -5,7 +5,7 @@
  * Copyright 2026 The Lowunbisa authors
  */
 #include "pages.h"
-#include "site.c"                              /* python3 tools/pack.py examples/firmware/site site.c */
+#include "site.c"                              /* python3 tools/pack.py examples/firmware/site site.c /state.shtml=application/json */
 #define UIP_HEAP_SIZE UIP_MEMORY_ETHER(SITE_IMAGE_FILES)
 #include "../heap.c"
 #include "../ticks.h"
@@ -24,7 +24,7 @@ int main(void) {
     while (status == UIP_OK) {                 /* nothing that arrives ends this loop */
         size_t len = mac_receive(frame, sizeof frame);
         if (len > 0) {
-            uip_result done = uip_input_frame(&device, frame, sizeof frame, len);
+            uip_result done = uip_input_frame(&device, frame, len, sizeof frame);
             if (done.written > 0) mac_send(NULL, frame, done.written);
             status = done.status;
         }

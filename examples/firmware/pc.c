@@ -1,7 +1,8 @@
 /*
  * The drivers of this folder on a PC, so that its programs can be tried and tested: standard input and output in the place of a
  * serial port, threads in the place of interrupts and tasks, and an interface of Linux in the place of an Ethernet controller (tap0)
- * or a link of datagrams (tun0). PC_SERIAL, PC_SLEEP, PC_RTOS_SERIAL, PC_DATAGRAMS, PC_ETHER or PC_RTOS names the program.
+ * or a link of datagrams (tun0). PC_SERIAL, PC_SLEEP, PC_RTOS_SERIAL, PC_DATAGRAMS, PC_ETHER or PC_RTOS names the program; gate.c has
+ * PC_RTOS and PC_GATE.
  *
  * SPDX-License-Identifier: MIT OR Apache-2.0
  * Copyright 2026 The Lowunbisa authors
@@ -277,9 +278,21 @@ void board_start(void) {
     }
 }
 
+#ifdef PC_GATE
+static void frame_by_test(const unsigned char *frame, ssize_t len);
+static size_t frame_again(unsigned char *frame);
+#endif
+
 size_t RECEIVE(unsigned char *bytes, size_t room) {
+#ifdef PC_GATE
+    size_t again = frame_again(bytes);
+    if (again) return again;
+#endif
     if (!has_input(interface, 20)) return 0;
     ssize_t len = read(interface, bytes, room);
+#ifdef PC_GATE
+    frame_by_test(bytes, len);
+#endif
 #ifdef PC_DATAGRAMS
     if (len > 0 && bytes[0] >> 4 == 4) last_received = milliseconds();    /* Linux sends IPv6 of its own */
 #endif
@@ -310,6 +323,118 @@ void start_tasks(void (*first)(void *), void (*second)(void *)) {
     second_task = second;
     if (pthread_create(&thread, NULL, run_second, NULL) != 0) exit(2);
     first(NULL);
+}
+
+#endif
+#ifdef PC_GATE
+
+#include <sys/random.h>
+
+struct queue {
+    pthread_mutex_t lock;
+    pthread_cond_t put;
+    size_t size;
+    int is_full;
+    unsigned char item[32];
+};
+
+queue queue_make(size_t size) {
+    static struct queue queues[2];
+    static unsigned count;
+    queue made = &queues[count++];
+    if (count > 2 || size > sizeof made->item) exit(2);
+    pthread_mutex_init(&made->lock, NULL);
+    pthread_cond_init(&made->put, NULL);
+    made->size = size;
+    return made;
+}
+
+static int put(queue to, const void *item, int overwrites) {
+    pthread_mutex_lock(&to->lock);
+    int fits = overwrites || !to->is_full;
+    if (fits) memcpy(to->item, item, to->size);
+    to->is_full = 1;
+    pthread_cond_signal(&to->put);
+    pthread_mutex_unlock(&to->lock);
+    return fits;
+}
+
+int queue_put(queue to, const void *item) { return put(to, item, 0); }
+void queue_overwrite(queue to, const void *item) { put(to, item, 1); }
+
+int queue_get(queue from, void *item, unsigned limit) {
+    struct timespec end;
+    clock_gettime(CLOCK_REALTIME, &end);
+    end.tv_nsec += (long)limit * 1000000;
+    if (end.tv_nsec >= 1000000000) end.tv_sec++, end.tv_nsec -= 1000000000;
+    pthread_mutex_lock(&from->lock);
+    while (!from->is_full && limit > 0)
+        if (pthread_cond_timedwait(&from->put, &from->lock, &end) != 0) break;
+    int has_item = from->is_full;
+    if (has_item) memcpy(item, from->item, from->size);
+    from->is_full = 0;
+    pthread_mutex_unlock(&from->lock);
+    return has_item;
+}
+
+unsigned random_bits(void) {
+    unsigned bits;
+    if (getrandom(&bits, sizeof bits, 0) != sizeof bits) exit(2);
+    return bits;
+}
+
+/* gate.py is the gate, and holds the tasks: it writes these files in the present folder. If there is none, the number is `other`. */
+static long number_of(const char *file, long other) {
+    FILE *from = fopen(file, "r");
+    long number = other;
+    if (from && fscanf(from, "%ld", &number) != 1) number = other;
+    if (from) fclose(from);
+    return number;
+}
+
+/* While the file `hold` has a number that is less than *passes, the task waits, and `held` has *passes. The passes are counted since
+ * the file was written first.
+ */
+static void hold(const char *hold, const char *held, unsigned *passes) {
+    if (number_of(hold, -1) < 0) {
+        *passes = 0;
+        return;
+    }
+    ++*passes;
+    for (int is_first = 1; number_of(hold, (long)*passes) < (long)*passes; usleep(2000)) {
+        FILE *to = is_first ? fopen(held, "w") : NULL;
+        if (to) fprintf(to, "%u", *passes), fclose(to);
+        is_first = 0;
+    }
+}
+
+void gate_motor(int direction) { fprintf(stderr, "motor %d\n", direction); }
+int gate_position(void) { return (int)number_of("position", 0); }
+
+int gate_is_blocked(void) {
+    static unsigned passes;
+    hold("hold-control", "control-held", &passes);
+    return number_of("blocked", 0) == 1;
+}
+
+static unsigned char last_frame[1514];
+static size_t last_len;
+
+/* Holds the task that makes the calls, after some segments of TCP. If the file `twice` is 1, each one comes twice. */
+static void frame_by_test(const unsigned char *frame, ssize_t len) {
+    static unsigned passes;
+    if (len < 34 || frame[12] != 8 || frame[13] != 0 || frame[23] != 6) return;
+    hold("hold-network", "network-held", &passes);
+    if (number_of("twice", 0) != 1) return;
+    memcpy(last_frame, frame, (size_t)len);
+    last_len = (size_t)len;
+}
+
+static size_t frame_again(unsigned char *frame) {
+    size_t len = last_len;
+    memcpy(frame, last_frame, len);
+    last_len = 0;
+    return len;
 }
 
 #endif

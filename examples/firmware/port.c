@@ -7,7 +7,6 @@
  */
 #include "port.h"
 #include "../step.h"
-#include "drivers.h"
 
 volatile unsigned events;                      /* an interrupt that gives the loop something to do adds 1 */
 volatile unsigned bytes_received;

@@ -1,4 +1,5 @@
-/* The interrupts of port.c, and its count.
+/* The port of a serial line for ../step.c: port.c, in which each byte interrupts, or port_dma.c, in which a circular DMA receives (port_dma.h
+ * has what that needs besides). Both define read_serial, events, dma_is_busy and dma_send of step.h.
  *
  * SPDX-License-Identifier: MIT OR Apache-2.0
  * Copyright 2026 The Lowunbisa authors
@@ -6,9 +7,19 @@
 #ifndef PORT_H
 #define PORT_H
 
-void on_received(void);                        /* the port has received a byte */
-void port_put(unsigned char byte);             /* stores a byte, as on_received does: END (0xC0) after a sleep without the receiver */
-void on_sent(void);                            /* the port has sent the last bit of what port_start began */
-extern volatile unsigned bytes_received;       /* modulo 2^32 */
+#include <stddef.h>
+
+/* You write these. */
+void port_start(const unsigned char *bytes, size_t len);  /* begins to send by DMA or interrupt; `bytes` stay as they are */
+unsigned char port_read(void);                            /* port.c: the byte that the port has received */
+
+/* Your interrupts call these. */
+void on_received(void);                                   /* port.c: the port has received a byte */
+void on_sent(void);                                       /* the port has read all that port_start began (the end of the DMA). If you
+                                                             stop its clock in a sleep: it has sent the last bit */
+
+void port_put(unsigned char byte);                        /* port.c: stores a byte, as on_received does: END (0xC0) after a sleep
+                                                             without the receiver */
+extern volatile unsigned bytes_received;                  /* modulo 2^32 */
 
 #endif

@@ -7,30 +7,32 @@
  */
 #include "port_dma.h"
 #include "../step.h"
-#include "drivers.h"
 #include "port.h"
 
 volatile unsigned events;                      /* an interrupt that gives the loop something to do adds 1 */
 volatile unsigned bytes_received;              /* at the last interrupt of the receiver */
 
-unsigned char dma_ring[RING];
+volatile unsigned char dma_ring[RING];
 static volatile unsigned laps;                 /* how often the DMA reached the end of the ring */
 static unsigned taken;                         /* how many bytes were taken, modulo 2^32 */
 static volatile int is_sending;
 
-/* How many bytes the DMA has written since the start. */
-static unsigned written(void) {
-    unsigned before, place;
+/* How many bytes the DMA has written since the start, modulo 2^32; it is known to be `at_least` or more. If the DMA has just reached the
+ * end of the ring, and the interrupt has not come yet, `laps` is one too low.
+ */
+static unsigned written(unsigned at_least) {
+    unsigned before, place, count;
     do {
         before = laps;
         place = dma_place();
-    } while (before != laps);                  /* the DMA reached the end in between */
-    return before * RING + place;
+    } while (before != laps);                  /* the interrupt came in between */
+    count = before * RING + place;
+    return count - at_least < 0x80000000u ? count : count + RING;
 }
 
 void on_dma(int is_end) {
     if (is_end) laps++;
-    bytes_received = written();
+    bytes_received = written(bytes_received);
     events++;
 }
 
@@ -41,8 +43,9 @@ void on_sent(void) {
 
 size_t read_serial(unsigned char *bytes, size_t room) {
     size_t len = 0;
-    if (written() - taken > RING) taken = written();    /* the DMA has overtaken: all is lost, and TCP sends it again */
-    for (; len < room && taken != written(); taken++) bytes[len++] = dma_ring[taken % RING];
+    unsigned end = written(taken);
+    if (end - taken > RING) taken = end;       /* the DMA has overtaken: all is lost, and TCP sends it again */
+    for (; len < room && taken != end; taken++) bytes[len++] = dma_ring[taken % RING];
     return len;
 }
 

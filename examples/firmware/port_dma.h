@@ -14,9 +14,11 @@
 #error "RING is not a power of two"
 #endif
 
-extern unsigned char dma_ring[RING];           /* the DMA writes it. On a core with a data cache it is not cached */
-void on_dma(int is_end);                       /* the interrupts of the receiver; `is_end` at the end of the ring, else 0. They and
+extern volatile unsigned char dma_ring[RING];  /* the DMA writes it. On a core with a data cache it is not cached */
+void on_dma(int is_end);                       /* the interrupts of the receiver. 1 at the end of the ring: leave none out.
+                                                  0 at its half, and if the line falls idle. They and
                                                   on_sent may preempt one another: a lost count of `events` does no harm */
-unsigned dma_place(void);                      /* yours: where the DMA writes next, 0 to RING - 1 (on an STM32 RING - NDTR) */
+unsigned dma_place(void);                      /* yours: where the DMA writes next, 0 to RING - 1 (on an STM32
+                                                  (RING - NDTR) % RING) */
 
 #endif

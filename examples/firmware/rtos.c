@@ -7,7 +7,7 @@
  * Copyright 2026 The Lowunbisa authors
  */
 #include "pages.h"
-#include "site.c"                              /* python3 tools/pack.py examples/firmware/site site.c */
+#include "site.c"                              /* python3 tools/pack.py examples/firmware/site site.c /state.shtml=application/json */
 #define UIP_HEAP_SIZE UIP_MEMORY_ETHER(SITE_IMAGE_FILES)
 #include "../heap.c"
 #include "../text.h"
@@ -34,7 +34,7 @@ void network(void *unused) {
     while (status == UIP_OK) {
         size_t len = mac_receive(frame, sizeof frame);    /* waits for the interrupt of the receiver, at most 20 ms */
         if (len > 0) {
-            uip_result done = uip_input_frame(&device, frame, sizeof frame, len);
+            uip_result done = uip_input_frame(&device, frame, len, sizeof frame);
             if (done.written > 0) mac_send(NULL, frame, done.written);
             status = done.status;
         }

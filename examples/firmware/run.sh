@@ -1,6 +1,6 @@
 #!/bin/sh
 # Builds the programs of this folder for this machine, with its input and output in the place of a board's (pc.c), and uses their pages
-# by Linux's own TCP: buttons, a form and a restart.
+# by Linux's own TCP: buttons, a form, a restart, and a gate whose button acts once.
 #
 #     sh examples/firmware/run.sh
 #
@@ -20,6 +20,7 @@ if [ "$1" = inside ]; then
     kind=tap; [ "$2" != datagrams ] || kind=tun
     ip link set lo up && ip tuntap add dev ${kind}0 mode $kind && ip link set ${kind}0 up && ip addr add 10.0.0.2/24 dev ${kind}0 ||
         fail "no ${kind}0 was made"
+    [ "$2" != gate ] || exec python3 "$here/gate.py" "$out/gate" "$out/gate.log"
     "$out/$2" 2>"$out/$2.log" &
     python3 "$here/client.py" "$3" || exit 1
     wait $! || fail "$2 did not end with 0: $(tail -1 "$out/$2.log")"
@@ -29,10 +30,17 @@ fi
 command -v "$cc" >/dev/null || fail "there is no C compiler $cc"
 command -v python3 >/dev/null || skip "python3"
 mkdir -p "$out"
-python3 "$top/tools/pack.py" "$here/site" "$out/site.c" || fail "the site was not packed"
+python3 "$top/tools/pack.py" "$here/site" "$out/site.c" /state.shtml=application/json || fail "the site was not packed"
 strict="-std=c11 -pedantic -Wall -Wextra -Wconversion -Werror"
 for name in serial sleep rtos_serial datagrams ether rtos pages port port_dma; do
     "$cc" $strict -fsyntax-only -I"$top/include" -I"$out" "$here/$name.c" || fail "$name.c does not compile"
+done
+"$cc" $strict -DRING=16 -I"$top/include" "$here/dma_test.c" "$here/port_dma.c" -o "$out/dma_test" && "$out/dma_test" ||
+    fail "port_dma.c takes other bytes than the DMA wrote"
+mkdir -p "$out/gate_site"
+python3 "$top/tools/pack.py" "$here/gate_site" "$out/gate_site/site.c" /state.shtml=application/json || fail "the site of the gate was not packed"
+for name in gate gate_pages gate_control; do
+    "$cc" $strict -fsyntax-only -I"$top/include" -I"$out/gate_site" "$here/$name.c" || fail "$name.c does not compile"
 done
 [ -f "$library" ] || skip "library at $library: run rt lib in crates/uip_c"
 # build NAME KIND WORDS: a program of this folder, with further files.
@@ -48,6 +56,8 @@ build rtos_serial PC_RTOS_SERIAL "$here/port.c $top/examples/step.c"
 build datagrams PC_DATAGRAMS
 build ether PC_ETHER
 build rtos PC_RTOS
+"$cc" -std=gnu11 -O2 -Wall -Wextra -Werror -DPC_RTOS -DPC_GATE -DTOKEN_MS=5000 -pthread -I"$top/include" -I"$out/gate_site" "$here/gate.c" \
+    "$here/gate_pages.c" "$here/gate_control.c" "$here/pc.c" "$library" -o "$out/gate" || fail "gate was not built"
 
 for command in ip unshare; do command -v $command >/dev/null || skip "command $command"; done
 [ -w /dev/net/tun ] || skip "/dev/net/tun that can be opened"
@@ -70,3 +80,5 @@ for name in datagrams ether rtos; do
     lamps $name
     echo "$name: $(grep -a 'pages are' "$out/$name.told")"
 done
+unshare -rn sh "$0" inside gate >"$out/gate.told" 2>&1 || fail "gate: $(cat "$out/gate.told")"
+echo "gate: $(grep -a 'acted once' "$out/gate.told")"

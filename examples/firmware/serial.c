@@ -5,7 +5,7 @@
  * Copyright 2026 The Lowunbisa authors
  */
 #include "pages.h"
-#include "site.c"                              /* python3 tools/pack.py examples/firmware/site site.c */
+#include "site.c"                              /* python3 tools/pack.py examples/firmware/site site.c /state.shtml=application/json */
 #define UIP_HEAP_SIZE UIP_MEMORY(SITE_IMAGE_FILES)
 #include "../heap.c"
 #include "../ticks.h"
@@ -15,7 +15,7 @@ uip_device device = UIP_INIT;
 
 int main(void) {
     static const unsigned char own[4] = {10, 0, 0, 1};
-    static unsigned char bytes[64], out[64];
+    static unsigned char bytes[42], out[64];      /* 42: at most one request a pass (uip.h, section 10) */
     uip_opened opened = uip_open(&device, site_image, SITE_IMAGE_LEN, own);
     unsigned status = opened.status;
     if (status != UIP_OK) fail(status, opened.entry, opened.word);

@@ -7,7 +7,7 @@
  */
 #include "pages.h"
 #include "../step.h"
-#include "site.c"                              /* python3 tools/pack.py examples/firmware/site site.c */
+#include "site.c"                              /* python3 tools/pack.py examples/firmware/site site.c /state.shtml=application/json */
 #define UIP_HEAP_SIZE UIP_MEMORY(SITE_IMAGE_FILES)
 #include "../heap.c"
 #include "drivers.h"

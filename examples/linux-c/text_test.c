@@ -37,6 +37,28 @@ static void see_tenths_in(const char *query, int found, unsigned expected) {
     see(is_found == found && tenths == (found ? expected : 7), query);
 }
 
+static void see_address_in(const char *query, int found, const char *expected) {
+    unsigned char address[4] = {1, 2, 3, 4};
+    char text[16];
+    int is_found = address_in((const unsigned char *)query, strlen(query), "own", address);
+    size_t len = address_text(text, address);
+    see(is_found == found && len == strlen(expected) && !memcmp(text, expected, len), query);
+}
+
+static void see_host(const char *own, const char *mask, int expected) {
+    unsigned char addresses[2][4] = {{0, 0, 0, 0}, {0, 0, 0, 0}};
+    char query[48];
+    int len = snprintf(query, sizeof query, "a=%s&m=%s", own, mask);
+    see(address_in((const unsigned char *)query, (size_t)len, "a", addresses[0]) && address_in((const unsigned char *)query, (size_t)len, "m", addresses[1])
+            && is_host(addresses[0], addresses[1]) == expected, query);
+}
+
+static void see_signed_tenths_in(const char *query, int found, int expected) {
+    int tenths = 7;
+    int is_found = signed_tenths_in((const unsigned char *)query, strlen(query), "dose", &tenths);
+    see(is_found == found && tenths == (found ? expected : 7), query);
+}
+
 static void see_token(const char *query, const char *token, int expected) {
     see(token_in((const unsigned char *)query, strlen(query), "n", token, strlen(token)) == expected, query);
 }
@@ -53,6 +75,20 @@ int main(void) {
     see_tenths_in("dose=1234567.8", 1, 12345678), see_tenths_in("dose=123456789", 0, 0), see_tenths_in("dose=12345678.9", 0, 0);
     see_tenths_in("dose=12.55", 0, 0), see_tenths_in("dose=", 0, 0), see_tenths_in("dose=.", 0, 0), see_tenths_in("dose=1.2.3", 0, 0);
     see_tenths_in("dose=-1", 0, 0), see_tenths_in("dose=1e2", 0, 0), see_tenths_in("", 0, 0);
+    see_host("10.0.0.1", "255.255.255.0", 1), see_host("10.0.0.0", "255.255.255.0", 0), see_host("10.0.0.255", "255.255.255.0", 0);
+    see_host("10.0.1.255", "255.255.0.0", 1), see_host("10.0.255.255", "255.255.0.0", 0), see_host("10.0.0.255", "0.0.0.0", 1);
+    see_host("192.168.7.1", "255.255.255.254", 1), see_host("192.168.7.1", "255.255.255.255", 1), see_host("192.168.7.3", "255.255.255.252", 0);
+    see_host("0.1.2.3", "255.255.255.0", 0), see_host("127.0.0.1", "255.0.0.0", 0), see_host("224.0.0.1", "255.255.255.0", 0);
+    see_host("223.255.254.1", "255.255.255.0", 1), see_host("255.255.255.255", "0.0.0.0", 0), see_host("1.0.0.1", "255.255.255.0", 1);
+    see_address_in("own=10.0.0.1", 1, "10.0.0.1"), see_address_in("n=1&own=255.255.255.255", 1, "255.255.255.255");
+    see_address_in("own=0.0.0.0", 1, "0.0.0.0"), see_address_in("own=010.0.0.1", 1, "10.0.0.1"), see_address_in("own=10.0.0.256", 0, "1.2.3.4");
+    see_address_in("own=10.0.0", 0, "1.2.3.4"), see_address_in("own=10.0.0.", 0, "1.2.3.4"), see_address_in("own=.10.0.0", 0, "1.2.3.4");
+    see_address_in("own=10.0.0.1.2", 0, "1.2.3.4"), see_address_in("own=10..0.1", 0, "1.2.3.4"), see_address_in("own=0010.0.0.1", 0, "1.2.3.4");
+    see_address_in("own=10.0.0.-1", 0, "1.2.3.4"), see_address_in("own=", 0, "1.2.3.4"), see_address_in("n=10.0.0.1", 0, "1.2.3.4");
+    see_signed_tenths_in("dose=-5.5", 1, -55), see_signed_tenths_in("n=1&dose=5.5", 1, 55), see_signed_tenths_in("dose=-0", 1, 0);
+    see_signed_tenths_in("dose=-99999999", 1, -999999990), see_signed_tenths_in("dose=99999999", 1, 999999990);
+    see_signed_tenths_in("dose=-", 0, 0), see_signed_tenths_in("dose=--1", 0, 0), see_signed_tenths_in("dose=", 0, 0);
+    see_signed_tenths_in("dose=-.", 0, 0), see_signed_tenths_in("dose=-1.25", 0, 0), see_signed_tenths_in("n=-1", 0, 0);
     see_text("name=a", 16, "a"), see_text("n=1&name=caf%C3%A9+x&b=2", 16, "caf\xC3\xA9 x"), see_text("name=", 16, "");
     see_text("name=%41%62", 2, "Ab");
     see_text("name=%4", 16, NULL), see_text("name=%", 16, NULL), see_text("name=%4g", 16, NULL), see_text("name=abc", 2, NULL);
