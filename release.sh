@@ -74,6 +74,7 @@ examples() {
     put examples/site examples/site/*
     put examples/firmware examples/firmware/*.[ch]
     put examples/firmware/site examples/firmware/site/*
+    put examples/firmware/gate_site examples/firmware/gate_site/*
     put examples/common examples/board/main.c examples/board/state.c examples/board/ether.c examples/board/app.c examples/board/both.c \
         examples/board/answer.c examples/board/answer.h examples/board/alarm.h examples/board/board.h examples/board/ring.h \
         examples/board/ring.c examples/board/runtime.c examples/board/site.S examples/board/link.ld \
@@ -86,7 +87,7 @@ examples() {
 
 documents() {
     sed "s|@VERSION@|$version|" ports/archive/README.md.in >"$made/README.md" || fail "no README.md"
-    put docs docs/FIRMWARE.md docs/FORMATS.md docs/LIMITS.md
+    put docs docs/FIRMWARE.md docs/PAGES.md docs/FORMATS.md docs/LIMITS.md
     cp ports/README.md "$made/docs/PORTS.md" || fail "no ports/README.md"
     put_if . CHANGELOG.md
     for file in LICENSE LICENSE-*; do put_if . "$file"; done

@@ -10,46 +10,28 @@
  * or frames, passes them to a call, and sends what the call has written. Each half second it makes
  * a tick, which runs the timers of TCP.
  *
- *   Sections    1 Program           2 Rules         3 Statuses     4 Constants    5 Types
- *               6 Open and close    7 Serial line   8 Datagrams    9 Ethernet
- *               10 Values, buttons, forms          11 State       12 Heap
+ *   Sections     1 Program        2 Rules          3 Statuses     4 Constants     5 Types
+ *                6 Open, close    7 Serial line    8 Datagrams    9 Ethernet
+ *               10 Pages         11 State         12 Heap        13 Bodies of inline functions
  *
- *   See also    examples/firmware/       whole programs for each link, also with sleep and an RTOS
- *               docs/FIRMWARE.md         the guide: building, flash and stack of each target, DMA,
- *                                        caches, RTOS, sleep, the other end of the line
- *               docs/FORMATS.md          what pages may contain, requests and replies, the image
- *               docs/LIMITS.md           what the node does not do
- *               uip_app.h, uip_both.h    for TCP connections that your program answers itself
+ *   See also    examples/firmware/    whole programs for each link, also with sleep and an RTOS
+ *               docs/FIRMWARE.md      "the guide": builds, targets, flash, stack, rings, DMA, RTOS
+ *               docs/PAGES.md         the guide to pages: values, buttons, forms, tokens
+ *               docs/LIMITS.md        what the node does not do
+ *               uip_app.h, uip_both.h for TCP connections that your program answers itself
  *
  *   Runs on     Cortex-M4, M7 and M33 (secure state), rv32imac (ilp32), rv64imac (lp64) and
- *               aarch64, all tried under qemu; x86-64 and WebAssembly, tried on a PC. Expected to
- *               work: Cortex-M0 and M0+ (their library ran on an emulated M4), M3 (it takes that
- *               library), M33 in its non-secure state, and rv32imc. Ethernet was tried on an
- *               emulated M4 and on x86-64, datagrams on x86-64. Not tried: a real board, and an
- *               RTOS. The header is C90 or later, or C++.
- *
- *   Costs       In bytes, for a site of six files. Flash is with start-up code and, on a serial
- *               line, a driver; RAM is heap, stack and buffers. Not included: your site, your
- *               functions, your interrupts, other drivers, and the stack of uip_close:
- *                                           Cortex-M4         Cortex-M0+        rv32imac
- *                                        flash     RAM     flash     RAM     flash     RAM
- *                   serial, section 1   24,229   7,920    29,165   8,036    37,421   7,952
- *                   serial, step.c      24,389   8,184    29,173   8,284    37,509   8,240
- *                   datagrams           21,301  10,688    26,021  10,780    33,669  10,688
- *                   Ethernet            23,909  11,232    29,845  11,352    37,765  11,296
- *               On a serial line add a ring for received bytes: 512 for a trial, 6,400 to 8,192
- *               with step.c, and up to 16,384 with a circular DMA (section 7). RAM has one stack
- *               (M4: 2,064, with datagrams 1,920, on Ethernet 5,392). Under an RTOS it is the main
- *               stack, which opens; add that of the task: on an M4 1,968 (on Ethernet 1,872), plus
- *               your own functions, plus its context (FreeRTOS: some 80 bytes, with FPU 216).
- *               "Targets" in the guide has all targets.
+ *               aarch64, tried under qemu over a serial line; x86-64 and WebAssembly, tried on a PC.
+ *               Ethernet was tried on an emulated M4 and on x86-64 alone. Expected to work:
+ *               Cortex-M0 and M0+ (their library ran on an emulated M4), M3 (it takes that library),
+ *               M33 in its non-secure state, and rv32imc. Not tried: a real board, and an RTOS.
+ *               The header is C90 or later, or C++.
  *
  *   Leaves out  UDP, IPv6, DHCP, TLS, passwords, POST, and connections that the node opens.
  *
  *   Security    Whoever reaches the node can read its pages, press its buttons, and occupy its ten
- *               connections. So can a page of another site in a browser that reaches it: against
- *               that a random token helps (ONCE, at uip_query). The sequence numbers are
- *               predictable. Use the node only on a network that you control.
+ *               connections. So can a page of another site, in a browser that reaches the node.
+ *               Sequence numbers are predictable. Use it only on a network that you control.
  *
  *   Proved      Of the source, if you keep the rules of section 2: memory safety, and the exact
  *               output of each call. The source is Rattle, which is Rust with contracts.
@@ -61,8 +43,7 @@
  *
  * Each binary contains the run-time library of Rattle, which has no stated licence. Until it has
  * one, plan no product, and pass no binary on (LICENSE). Only holders of the Rattle kit, which is
- * not public, can make the library. Without it you can compile a program with this header, and
- * cannot link it.
+ * not public, can make the library. Without it you can compile a program, and cannot link it.
  */
 
 #ifndef LOWUNBISA_UIP_H
@@ -80,12 +61,12 @@ extern "C" {
 
 /* The version. Compile your program anew for each one, since sizes such as UIP_MEMORY may change.
  * UIP_INTERFACE rises only if a program may have to change. To notice that, write
- * #if UIP_INTERFACE != 3 and #error.
+ * #if UIP_INTERFACE != 4 and #error. CHANGELOG.md has what changed.
  */
 #define UIP_VERSION_MAJOR 1
 #define UIP_VERSION_MINOR 1
 #define UIP_VERSION_PATCH 0
-#define UIP_INTERFACE 3
+#define UIP_INTERFACE 4
 
 /* ---- 1 Program ---------------------------------------------------------------------------------
  *
@@ -95,9 +76,7 @@ extern "C" {
  *   slot       one of the ten places for a TCP connection, 0 to 9
  *   tick       one periodic call for each of the ten slots
  *   sink       a function of yours that sends output
- *   pending    output is pending if it did not fit into the area `out` of the call
- *   inline     the inline functions are uip_feed_all, uip_tick_all, uip_drain_all,
- *              uip_tick_datagrams, uip_tick_frames and uip_needs_ticks
+ *   pending    output is pending if it did not fit into the area `out` of the call (serial line only)
  *
  * This program serves a site on a serial line. A link to /on.html is a button that turns a lamp on.
  * You write the six functions that it declares.
@@ -121,7 +100,7 @@ extern "C" {
  *
  *     int main(void) {
  *         static const unsigned char own[4] = {10, 0, 0, 1};          // the address 10.0.0.1
- *         static unsigned char in[64], out[32];                       // 64: at most one request a pass
+ *         static unsigned char in[42], out[32];                       // 42: see WHEN TO LOOK, section 10
  *         unsigned hits, seen = 0;
  *         uip_opened opened = uip_open(&device, site_image, SITE_IMAGE_LEN, own);
  *         unsigned status = opened.status;
@@ -134,44 +113,48 @@ extern "C" {
  *
  *             uip_set_value(&device, 3, UIP_TEXT("21.5"));            // a page shows it: section 10
  *             hits = uip_hits(&device, UIP_TEXT("/on.html")).number;
- *             if (hits != seen) lamp(1);
+ *             if (hits != seen) lamp(1);                              // the link was clicked
  *             seen = hits;
  *         }
  *         stop(status);
+ *         return 0;
  *     }
  *
- * This loop waits while it sends, and never sleeps. On a serial line we recommend that of
- * examples/step.c (section 7). examples/firmware has whole programs for each link:
+ * This loop waits while it sends, and never sleeps. It is for a trial. For a product take a loop of
+ * this table. examples/firmware has a whole program for each:
  *
- *     link                       open            what arrives     each half second    library
- *     serial line                uip_open        uip_feed_all     uip_tick_all        libuip_c.a
- *     serial line, recommended   uip_open        examples/step.c makes all calls      libuip_c.a
- *     datagrams                  uip_open        uip_input        uip_tick_datagrams  libuip_c.a
- *     Ethernet                   uip_open_ether  uip_input_frame  uip_tick_frames     libuip_c_ether.a
+ *     link                  program          open            what arrives     each half second
+ *     serial line           sleep.c          uip_open        examples/step.c makes all calls
+ *     serial line, RTOS     rtos_serial.c    uip_open        examples/step.c makes all calls
+ *     datagrams             datagrams.c      uip_open        uip_input        uip_tick_datagrams
+ *     Ethernet              ether.c          uip_open_ether  uip_input_frame  uip_tick_frames
+ *     Ethernet, RTOS        rtos.c, gate.c   uip_open_ether  uip_input_frame  uip_tick_frames
  *
- * libuip_c_ether.a has all calls. On any link uip_set_value, uip_hits and uip_query serve the pages
- * (section 10), uip_close closes the device (6), and uip_ticks, uip_is_idle, uip_needs_ticks,
- * uip_counter and uip_connection report its state (11).
+ * On Ethernet link libuip_c_ether.a, which has all calls; otherwise libuip_c.a. (The libraries that
+ * `rt lib` makes, for aarch64 and x86-64, have all calls in libuip_c.a.)
  *
  * TICKS. If one or two ticks are due, make them. If more are due, after a stall, make only one: a
  * burst of ticks would time out live connections. A late tick does no harm. Without ticks, nothing
- * is sent again and no connection times out.
+ * is sent again and no connection times out. tick_is_due_at keeps these rules.
  *
- * BUILD, for a Cortex-M4:
+ * BUILD, for a Cortex-M4. startup.c, drivers.c and board.ld are yours. main.c includes site.c and
+ * heap.c: do not compile these two by themselves. With step.c also compile examples/step.c, and
+ * from examples/firmware port.c or port_dma.c (section 7).
  *
  *     sh ports/run.sh m4 library               # makes the libraries, with the Rattle kit
- *     python3 tools/pack.py FOLDER site.c
+ *     python3 tools/pack.py FOLDER site.c      # for JSON add its type: /state.shtml=application/json
  *     arm-none-eabi-gcc -mcpu=cortex-m4 -mthumb -Os -nostartfiles -Iinclude -Iexamples -T board.ld \
  *         startup.c drivers.c main.c ports/out/m4/libuip_c.a -lc -lgcc -o firmware.elf
  *
- * TRY IT from a PC with Linux. A firmware needs --silent: else the script fills the line with
- * bytes.
+ * TRY IT from a PC with Linux. --silent is for a firmware, which has a clock of its own. If its
+ * address is not 10.0.0.1, pass it.
  *
- *     python3 examples/browse.py --line /dev/ttyUSB0 115200 --silent
+ *     python3 examples/browse.py --line /dev/ttyUSB0 115200 --silent --node 192.168.7.2
  *
- * startup.c, drivers.c and board.ld are yours. main.c includes site.c and heap.c: do not compile
- * these two by themselves. "Link the library" in the guide has the flags of each processor, also
- * with an FPU. With the kit, `sh examples/firmware/run.sh` tries the programs on a PC.
+ * On Ethernet give the PC an address of the same network, ping the node, and open its page.
+ *
+ * "Link the library" in the guide has the flags of each processor, also with an FPU. "Connect it to
+ * a PC" has the way for Windows and macOS.
  */
 
 #if defined(__BYTE_ORDER__) && defined(__ORDER_BIG_ENDIAN__) && __BYTE_ORDER__ == __ORDER_BIG_ENDIAN__
@@ -189,10 +172,10 @@ typedef char uip_needs_unsigned_of_32_bits[sizeof(unsigned) == 4 ? 1 : -1];
 
 /* ---- 2 Rules -----------------------------------------------------------------------------------
  *
- * The library cannot check these ten rules. If you break one, the behaviour is undefined. A bad
- * argument, or a call in a wrong state, is refused with a status. An unknown name of a file, a
- * wrong address and a wrong rate of ticks are not noticed, and do no harm to memory. "The ten
- * rules" in the guide explains each rule.
+ * The library cannot check these ten rules. If you break one, the behaviour is undefined. "The ten
+ * rules" in the guide explains each. All other mistakes are safe for memory: a bad argument, or a
+ * call in a wrong state, returns a status; an unknown name of a file, a wrong address and a wrong
+ * rate of ticks are not noticed.
  *
  *  1 INIT         Before its first call a device is UIP_INIT, or all 0. If your start-up code does
  *                 not initialise .data and .bss at each reset, set each device to 0 first, and
@@ -200,11 +183,12 @@ typedef char uip_needs_unsigned_of_32_bits[sizeof(unsigned) == 4 ? 1 : -1];
  *
  *  2 DEVICE       While a device is open, do not copy it, and do not write its members.
  *
- *  3 ONE CALL     Two calls with one device never overlap; this holds for calls that only read,
- *                 too. An inline function counts as one call: while it runs, only its sink may use
+ *  3 ONE CALL     Two calls with one device never overlap, also if they only read. An inline
+ *                 function (section 13) counts as one call: while it runs, only its sink may use
  *                 the device. Make no call in an interrupt. Under an RTOS let one task make all
- *                 calls, or hold a mutex over each call. Each call and each sink returns: no
- *                 longjmp out of it, no exception, and no task that is deleted in it.
+ *                 calls (and `main`, before the scheduler starts), or hold a mutex over each call.
+ *                 Each call and each sink returns: no longjmp out of it, no exception, and no task
+ *                 that is deleted in it.
  *
  *  4 POINTERS     Only `to` may be null. Each area has at least the length that you pass; `own`,
  *                 `mask` and `router` have 4 bytes, and `mac` has 6. No alignment is needed. On 32
@@ -215,6 +199,8 @@ typedef char uip_needs_unsigned_of_32_bits[sizeof(unsigned) == 4 ? 1 : -1];
  *                 write all `room` bytes, even if it reports fewer.
  *
  *  6 IMAGE        Until uip_close the image stays at its address, unchanged. It may lie in flash.
+ *                 The library reads it only during a call: between calls the flash may be off, or
+ *                 busy with an erasure.
  *
  *  7 INPUT        During a call everything else that you pass stays unchanged. After the call it is
  *                 yours again.
@@ -225,20 +211,18 @@ typedef char uip_needs_unsigned_of_32_bits[sizeof(unsigned) == 4 ? 1 : -1];
  *                 -freg-struct-return.
  *
  *  9 STACK        There is room for the stack of each call, below that of its caller. The most on
- *                 any target, in bytes, with examples/heap.c ("Targets" in the guide has each one,
- *                 and "RTOS" what a task needs besides):
- *                                         uip_open  uip_open_ether  uip_close  any other call
- *                     libuip_c.a             2,208               -      2,832           2,208
- *                     libuip_c_ether.a       6,656           5,616      3,568           2,288
- *                 Those of x86-64 and WebAssembly are not known. A sink runs after the library has
- *                 returned, so its stack does not add to that of the library. On Ethernet under an
- *                 RTOS open before the scheduler starts: then only the main stack needs 5,616
- *                 bytes, plus `main` and your interrupts (raise it in your linker script), and the
- *                 task 2,288. With libuip_c.a you may open in `main` or in the task. A task that
- *                 makes only uip_set_value, uip_hits, uip_query, uip_ticks or uip_counter needs
- *                 296.
+ *                 any target, in bytes, with examples/heap.c ("Targets" in the guide has each one):
+ *                                               uip_open  uip_open_ether  uip_close  any other call
+ *                     libuip_c.a                   2,208               -      2,832           2,208
+ *                     libuip_c_ether.a             6,656           5,616      3,568           2,288
+ *                     libuip_c.a of aarch64        1,776           2,144         96           1,856
+ *                 The stack of a sink does not add to these: it runs after the library has returned.
+ *                 On Ethernet under an RTOS open before the scheduler starts, on the main stack. A
+ *                 task that makes only uip_set_value, uip_hits, uip_query, uip_ticks or uip_counter
+ *                 needs 296. The figures of x86-64 and WebAssembly are not known.
  *
- * 10 PROCESSOR    The stack is aligned as the ABI demands. In addition:
+ * 10 PROCESSOR    The stack is aligned as the ABI demands. Besides, for each library (m0 is for
+ *                 Cortex-M0, M0+ and M3):
  *                     m4, m7, m33    CCR.UNALIGN_TRP is 0, as after reset. All memory that the
  *                                    library uses is Normal memory, not Device or Strongly ordered:
  *                                    its accesses may be unaligned.
@@ -249,32 +233,39 @@ typedef char uip_needs_unsigned_of_32_bits[sizeof(unsigned) == 4 ? 1 : -1];
  *                                    registers.
  *                     x86-64         The processor has level v2 (SSE4.2).
  *
- * TIME. No call waits, masks interrupts, needs privilege or, except opening, allocates memory. An
- * inline function waits if its sink waits. Opening reads the whole image. Each other call of the
- * library handles at most one datagram. No bound on the time of a call is known. Counted, in
- * instructions on an M4 and on an M0+ (by qemu, on a serial line; the calls for frames were not
- * counted):
+ * TIME. No call waits, masks interrupts or needs privilege. No call allocates memory, except
+ * opening. An inline function waits if its sink waits. Each call but opening handles at most one
+ * datagram. No bound on the time of a call is known. Counted, in instructions on an M4; an M0+
+ * takes 1.2 to 3 times as many ("Time" in the guide has both, and more). On Ethernet the frame
+ * began two bytes after a multiple of 4 (section 9).
  *
- *     a ping of 84 bytes, in all its calls                     4,716     8,442
- *     a file of one byte, in all its calls                    28,223    68,331
- *     a uip_feed that takes a ping of 1,500 bytes             10,522    19,814
- *     a uip_drain of 256 bytes                                 4,910     6,107
- *     a tick that sends nothing                                2,041     3,848
- *     uip_needs_ticks, at most                                12,310    14,960
- *     uip_connection                                           1,231     1,496
- *     a uip_feed of one byte                                     306       499
- *     uip_counter                                                 65       131
- *     uip_query, uip_hits, uip_set_value                   565, 532, 219    869, 827, 324
+ *                                                     serial line    datagrams    Ethernet
+ *     a ping of 84 bytes, in all its calls                  4,714        1,722       2,184
+ *     a file of one byte, in all its calls                 28,207       18,521      20,385
+ *     a tick that sends nothing                             1,830        1,070       1,254
+ *     one call that sends 1,460 bytes of a file            16,879       13,263      13,725
+ *     one call that sends 1,460 bytes of an .shtml         64,798       61,182      61,644
+ *     opening the example site, six files, 2 kB            24,955                   38,761
+ *     uip_drain of 256 bytes                                4,899
+ *     uip_needs_ticks, at most                             12,310
+ *     uip_query, uip_hits (site of six files)             565, 532
+ *     uip_set_value, uip_counter                           219, 65
  *
- * If there is a watchdog, feed it in each pass, and in a sink that waits. A task with a deadline
- * makes no call, and takes no mutex of the device: it passes its values to the task that makes the
- * calls, and gets commands from it, by queues.
+ * The dearest call that we found took 117,394 with a `room` of 256 bytes, for a page of percent
+ * signs. Opening takes some 20 more for each byte of an .shtml, and for each file 800 to 16,000
+ * more, by the length of its name.
+ *
+ * If there is a watchdog, feed it before opening, in each pass (with step.c in `work`), and in a
+ * sink that waits. The watchdog's time-out is longer than the longest sleep. A task with a deadline
+ * makes no call, and takes no mutex of the device: it exchanges values and commands with the task
+ * that makes the calls, by queues, as gate.c does. "A state in another task" in docs/PAGES.md
+ * explains it, and "A state in an interrupt" the same without an RTOS.
  */
 
 /* ---- 3 Statuses --------------------------------------------------------------------------------
  *
- * uip_set_value, uip_close and the inline functions return a status. (Only uip_needs_ticks returns
- * 0 or 1.) Each other call returns a struct with a status in it, for example:
+ * uip_set_value, uip_close and the functions that take a sink return a status. uip_needs_ticks
+ * returns 0 or 1. Each other call returns a struct with a status in it, for example:
  *
  *     uip_number ticks = uip_ticks(&device);
  *     if (ticks.status == UIP_OK) show(ticks.number);
@@ -304,7 +295,8 @@ enum uip_status {
  *
  * Nothing can be configured. A site has at most 1,024 files and 16,777,216 bytes, and a name 64
  * bytes. MSS and window are 1460 bytes. A connection has at most one segment outstanding: each 1460
- * bytes of a file cost a round trip. "Sizes and timers" in the guide has all limits and time-outs.
+ * bytes of a file cost a round trip. "Sizes and timers" in the guide has further limits, and the
+ * time-outs.
  */
 #define UIP_MAX_OUT 3002        /* bytes of the longest frame in SLIP: with this room nothing is ever pending */
 #define UIP_MIN_OUT 2           /* the least room of a call for a serial line */
@@ -357,7 +349,8 @@ typedef struct uip_device { unsigned is_open; void *at; } uip_device;
  *   status    an enum uip_status
  *   entry     if the image is bad: the number of the faulty file, from 1, or 0 for the image as a
  *             whole
- *   word      if the image is bad: a word for the fault, as a string (docs/FORMATS.md). Else empty
+ *   word      if the image is bad: a word for the fault, as a string ("The image of a site" in
+ *             docs/FORMATS.md). Else empty
  */
 typedef struct uip_opened { unsigned status; unsigned entry; char word[8]; } uip_opened;
 
@@ -372,9 +365,8 @@ typedef struct uip_result { unsigned status, pending; size_t consumed, written; 
 /* The result of a call that returns a number. */
 typedef struct uip_number { unsigned status; unsigned number; } uip_number;
 
-/* The result of uip_query.
- *   hit    what uip_hits was just after the request that brought the query: so if it equals
- *          uip_hits, the latest request of the file brought this query. 0 if there is no query
+/* The result of uip_query, where an example is.
+ *   hit    what uip_hits was just after the request that brought the query. 0 if there is no query
  *   len    the length of its text in bytes; it may be 0
  */
 typedef struct uip_query_text { unsigned status; unsigned hit; size_t len; } uip_query_text;
@@ -383,10 +375,10 @@ typedef struct uip_query_text { unsigned status; unsigned hit; size_t len; } uip
  *   state      an enum uip_state
  *   peer       the IPv4 address of the peer, first byte first
  *   port       the TCP port of the peer
+ *   tries      how often the segment that waits for an acknowledgement was sent again
+ *   count      if one waits: how many ticks pass before the tick that sends it again, or gives it up.
+ *              In FIN_WAIT_2 and TIME_WAIT: the ticks spent there, of 120. Else 0
  *   waiting    1 if a segment is sent and not yet acknowledged
- *   tries      how often that segment was sent again
- *   count      if waiting: after how many more ticks the segment is sent again or given up; 0 means
- *              by the next tick. In FIN_WAIT_2 and TIME_WAIT: the ticks spent there, of 120. Else 0
  */
 typedef struct uip_row { unsigned status, state; unsigned char peer[4]; unsigned port, tries, count, waiting; } uip_row;
 
@@ -417,29 +409,33 @@ typedef void (*uip_sink)(void *to, const unsigned char *bytes, size_t len);
 
 /* ---- 6 Open and close -------------------------------------------------------------------------- */
 
-/* Opens a device for a serial line or a link of datagrams. It allocates the memory of the device,
- * and sends nothing.
+/* Opens a device for a serial line or a link of datagrams. It allocates the memory of the device, and
+ * sends nothing. Your port may be started before or after it.
  *
  *   image, len    the image of the site (rule 6)
  *   own           the IPv4 address, first byte first: {10, 0, 0, 1}. It is copied, and not checked:
- *                 pass that of a host
+ *                 pass that of a host. Check one that a user enters: its first byte is 1 to 223 and not
+ *                 127, and it is not that of the other end
  *
  *   Status    UIP_HAS_DEVICE; UIP_BAD_IMAGE or UIP_NO_MEMORY; UIP_OK
  */
 uip_opened uip_open(uip_device *device, const unsigned char *image, size_t len, const unsigned char own[4]);
 
-/* Opens a device on Ethernet. All arguments are copied, except the image.
+/* Opens a device on Ethernet. All arguments are copied, except the image. Your controller may be started
+ * before or after it.
  *
  *   image, len, own    as for uip_open
- *   mac                the hardware address; its first byte is even
+ *   mac                the hardware address; its first byte is even (it is not checked)
  *   mask               the mask of the network: {255, 255, 255, 0}
  *   router             the address of the router. If there is none, pass {0, 0, 0, 0}
  *
  *   Status    as of uip_open
  *
- * The device sends frames for addresses outside of its network to the router. If mask or router is
- * 0.0.0.0, it takes every address for one of its network. It learns hardware addresses by ARP, and
- * remembers eight of them, each for 20 minutes.
+ * The device announces nothing. It sends frames for addresses outside of its network to the router.
+ * If mask or router is 0.0.0.0, it takes every address for one of its network. Neither is checked:
+ * pass a router that is a host of that network. The device learns eight hardware addresses by ARP,
+ * and forgets each after 20 minutes, also one in use: then an ARP request takes the place of one
+ * segment, which TCP sends again after 4 ticks.
  */
 uip_opened uip_open_ether(uip_device *device, const unsigned char *image, size_t len, const unsigned char own[4],
                           const unsigned char mac[6], const unsigned char mask[4], const unsigned char router[4]);
@@ -449,11 +445,20 @@ uip_opened uip_open_ether(uip_device *device, const unsigned char *image, size_t
  *
  *   Status    UIP_NO_DEVICE; UIP_OK
  *
- * To change the address or the site, close the device, and open it again. Then set all values
- * again, and set to 0 what your program remembers of uip_hits and uip_query; with step.c call
- * reset_step. On Ethernet under an RTOS rather store the address and reset: the task would need the
- * stack of opening (rule 9). If a click asks for that, go on with the loop until uip_needs_ticks is
- * 0, or for six ticks if it is not by then, so that the reply is delivered.
+ * To change the address or the site:
+ *
+ *   - If a page asked for it, let its reply be delivered: go on with the loop until uip_needs_ticks is
+ *     0, or for six ticks ("To restart or to close" in docs/PAGES.md; restart_if_due of pages.c).
+ *   - Call uip_close and uip_open, or uip_open_ether, between two calls of the loop, as datagrams.c
+ *     does. With step.c do it in `work`: uip_close, reset_step, uip_open.
+ *   - If opening fails, call `fail`, as section 1 does: the device is closed.
+ *   - Set all values again, and set to 0 what your program remembers of uip_hits, uip_query,
+ *     uip_ticks and uip_counter: all begin at 0 again.
+ *
+ * In a loop of your own forget a tick that is under way. The port or the controller may go on
+ * sending, and bytes may wait in the ring: either end drops the frame that was cut. The ARP table
+ * is empty again. On Ethernet under an RTOS do not close, since the task would need the stack of
+ * opening (rule 9): store the new address, and reset the processor.
  */
 unsigned uip_close(uip_device *device);
 
@@ -463,74 +468,49 @@ unsigned uip_close(uip_device *device);
  * XOFF. It is full duplex: both ends send at any time, so not two wires of RS-485. RTS and CTS are
  * not needed. If bytes are lost or damaged, clear the flag of the port and go on: TCP repairs it.
  *
- * THE OTHER END is a host, or a gateway to other networks: the node answers every address. For a
- * trial examples/browse.py connects Linux; Linux's own SLIP (slattach) was not tried. The other end
- * has an MTU of at most 1,500. A gateway with a smaller one clamps the MSS of TCP to its MTU less
- * 40, both ways. Do not connect two nodes to each other, nor put two on one line. "Connect it to a
- * PC" in the guide has more.
+ * THE OTHER END is a host, or a gateway to other networks, with an MTU of at most 1,500. A gateway
+ * with a smaller MTU clamps the MSS of TCP to its MTU less 40, both ways. The node has no routes:
+ * it replies by this line to any host. Do not connect two nodes to each other, nor put two on one
+ * line.
  *
- * SLOW LINES. Any rate will do. The node sends a segment again if it is not acknowledged after 4
- * ticks, and all connections share the line. A datagram of 1,500 bytes takes 0.8 s at 19,200 bits a
- * second, and 1.6 s at 9,600; up to twice that if its bytes are escaped. What takes longer than the
- * 4 ticks goes out twice. So on a slow line keep pages short, let a page make one request at a
- * time, or give the host a smaller MTU, such as 576: the node sends no segment that is longer than
- * the MSS which the host announces.
+ * WHICH LOOP. uip_feed_all and uip_tick_all wait while their sink waits. examples/step.c never
+ * waits: it sends by DMA or interrupt, feeds bytes between the frames of a tick, and sleeps if
+ * there is nothing to do. It makes all calls of this section for you.
  *
- * RECEIVE WHILE YOU SEND. No call reads the port. While write_serial waits, an interrupt or a DMA
- * stores in a ring what arrives. The program of section 1 may send twelve of the longest frames in
- * one pass, ten of them of a tick: 36,024 bytes, or 3.1 s at 115,200 bits a second. If the ring
- * overflows, bytes are lost, and TCP sends their data again, after seconds. For a trial a ring of
- * 512 bytes will do.
+ *     compile      examples/step.c, and from examples/firmware port.c (an interrupt for each byte) or
+ *                  port_dma.c (a circular DMA): they replace read_serial and write_serial above
+ *     include      step.h and firmware/port.h, and for a DMA firmware/port_dma.h (with -Iexamples)
+ *     you write    `device`, a global variable; work, half_a_second_passed, interrupts_off,
+ *                  interrupts_on and wfi (step.h); port_start, and port_read (port.h) or dma_place
+ *                  (port_dma.h). The DMA writes dma_ring
+ *     you call     serve, in place of a loop of your own. Your interrupts call on_received or on_dma,
+ *                  and on_sent; that of a timer, and others that give `work` something to do, add 1
+ *                  to `events`
  *
- * NEVER WAIT. We recommend the loop of examples/step.c. It sends by DMA or interrupt, feeds bytes
- * between the frames of a tick, and sleeps if there is nothing to do. Call serve() in place of a
- * loop of your own. `device` is a global variable of this name. Compile beside your program
- * examples/step.c, and from examples/firmware port.c (an interrupt for each byte) or port_dma.c (a
- * circular DMA), which have the ring and the sender. -DRING=6400 for all files sets the size of the
- * ring; with port_dma.c it is a power of two.
+ * serve runs `work` in each pass: before each piece that it sends, and after each interrupt that
+ * adds to `events`, so with port.c after each byte. `work` may make any call but those that send.
  *
- *     // Yours (step.h)
- *     void work(void);                      // in each pass: sets values, reads hits and queries
- *     int half_a_second_passed(void);       // 1 if a tick is due, once for each tick
- *     void interrupts_off(void), interrupts_on(void);
- *     void wfi(void);     // sleeps until an interrupt, also one that is pending while they are off
- *     // Yours (firmware/drivers.h and port_dma.h)
- *     unsigned char port_read(void);        // port.c: the byte that has arrived
- *     unsigned dma_place(void);             // port_dma.c: where the DMA writes next, 0 to RING - 1
- *     void port_start(const unsigned char *bytes, size_t len);    // begins to send
- *     // Theirs, for your interrupts (firmware/port.h and port_dma.h)
- *     void on_received(void);               // port.c: a byte has arrived
- *     void on_dma(int is_end);              // port_dma.c: 1 at the end of the ring; 0 at its half, and
- *                                           // if the line falls idle
- *     void on_sent(void);                   // what port_start began is sent
- *     extern volatile unsigned events;      // a timer of half a second, and others of yours, add 1
+ * RECEIVE WHILE YOU SEND. No call reads the port. While your program sends, an interrupt or a DMA
+ * stores in a ring what arrives. If the ring overflows, bytes are lost, and a page comes some
+ * seconds later. For a trial take 512 bytes. Between two feeds step.c sends at most 24 pieces.
+ * Before each of them `work`, half_a_second_passed and one call run: that is a gap. If the ring is
+ * empty before the first gap, no byte is lost with
  *
- * If a clock of milliseconds ends the sleep anyway, half_a_second_passed may be
- * tick_is_due_at(milliseconds()). Under an RTOS interrupts_off and interrupts_on are empty, and wfi
- * waits for a semaphore, which each interrupt gives, but at most some 100 ms: rtos_serial.c. Make
- * the semaphore before those interrupts are on. sleep.c is a program for a battery. It stops its
- * timer while the node needs no ticks, so it suits a device that has nothing else to do then: take
- * all of it but `work` and main. step.h has more.
+ *     ring = 6,005 + (bytes that arrive in all 24 gaps) + (with port_dma.c: in the longest sleep)
  *
- * THE RING. Between two feeds step.c sends at most two frames of 3,002 bytes, in 24 pieces. A gap
- * is the time between two pieces: `work` runs, half_a_second_passed, and one call; under an RTOS
- * other tasks may preempt them. One byte of the ring stays free. So if the ring is empty when a
- * feed is due, this size suffices:
+ *     at 115,200 bits a second                                   all 24 gaps together
+ *     6,400 bytes, port.c                                                 34 ms
+ *     8,192, port.c (the default)                                        189 ms
+ *     8,192, port_dma.c, if a clock wakes the loop within 100 ms          89 ms
+ *     16,384, port_dma.c (the default), woken within half a second       400 ms
  *
- *     ring = 6,005 + 24 * (bytes that arrive in one gap)
- *
- *     the longest gap          at 19,200    at 38,400    at 57,600    at 115,200 bits a second
- *     with 6,400 bytes              8 ms         4 ms       2.8 ms        1.4 ms
- *     with 8,192 bytes             47 ms        23 ms        15 ms          7 ms
- *
- * A circular DMA also needs room for what waits until the loop wakes: at most half the ring, or
- * what arrives in the longest sleep. At 115,200 bits a second that is 5,760 bytes if the loop may
- * sleep for half a second (take 16,384), and 1,152 if it sleeps for 100 ms at most (8,192, with
- * gaps of at most 3 ms).
- *
- * The ring is not empty if the peers go on sending faster than the line carries the replies. Then,
- * and with a smaller ring, bytes are lost, and a page comes some seconds later. Measured: 512 bytes
- * were enough for two clients at 19,200 bits a second.
+ * A pass takes at most 64 bytes from the ring, so on average let a gap last at most 5.5 ms, in
+ * which 64 bytes arrive. With 8,192 bytes one gap may last 40 ms, to erase flash, if the others are
+ * short. With port.c that needs an interrupt that runs meanwhile: code and vectors in RAM, or in
+ * another bank. Peers that go on sending faster than the line carries the replies overflow any
+ * ring. Measure your gaps, with your longest page. -DRING=8192, for all files, sets the size; for
+ * port_dma.c it is a power of two. "The ring" in the guide has slower rates. Below 38,400 bits a
+ * second read "Slow lines", too.
  */
 
 /* Feeds all bytes to the device, and passes all output to `sink`.
@@ -553,7 +533,7 @@ UIP_INLINE unsigned uip_feed_all(uip_device *device, const unsigned char *bytes,
  */
 UIP_INLINE unsigned uip_tick_all(uip_device *device, unsigned char *out, size_t room, uip_sink sink, void *to);
 
-/* The next three calls are for a loop of your own, as that of examples/step.c: the two functions above make them. */
+/* The next four calls are for a loop of your own. uip_feed_all, uip_tick_all and step.c make them. */
 
 /* Feeds bytes up to the end of the first complete frame, handles that frame, and writes the start
  * of the reply.
@@ -600,7 +580,7 @@ UIP_INLINE unsigned uip_drain_all(uip_device *device, uip_result done, unsigned 
 /* ---- 8 Datagrams -------------------------------------------------------------------------------
  *
  * For a link that carries IPv4 datagrams, such as a tunnel, or a PPP of yours (none is included).
- * Input and output are two areas:
+ * Input and output are two areas. examples/firmware/datagrams.c is the whole program:
  *
  *     size_t datagram_receive(unsigned char *bytes, size_t room);      // its length, or 0 if there is none
  *     void datagram_send(void *to, const unsigned char *bytes, size_t len);
@@ -618,8 +598,7 @@ UIP_INLINE unsigned uip_drain_all(uip_device *device, uip_result done, unsigned 
  *         ..                                  // values, buttons and forms
  *     }
  *
- * examples/firmware/datagrams.c is the whole program, with a link that goes down, and comes up with
- * another address. Your driver
+ * Your driver
  *
  *   - passes each datagram whole, and without compressed headers (VJ)
  *   - drops one of 0 bytes, or of more than UIP_MAX_DATAGRAM: the call would refuse it
@@ -629,9 +608,6 @@ UIP_INLINE unsigned uip_drain_all(uip_device *device, uip_result done, unsigned 
  * THE MTU is 1,500. If that of the link is smaller, the MSS in the SYNs of both directions must be
  * at most the MTU less 40. The other end of the link can set it; or your driver does, and corrects
  * the checksum of TCP. The node drops fragments, and does not set DF.
- *
- * "SLOW LINES" in section 7 holds here too. One device may have such a link and a serial line ("Two
- * links of one device" in the guide).
  */
 
 /* Receives one datagram, and writes the datagram of the reply, if there is one.
@@ -665,11 +641,11 @@ UIP_INLINE unsigned uip_tick_datagrams(uip_device *device, unsigned char *out, s
 
 /* ---- 9 Ethernet --------------------------------------------------------------------------------
  *
- * The loop has one area for the received frame and the reply. examples/firmware/ether.c is the
- * whole program, and rtos.c that under an RTOS.
+ * One area has the received frame, and in its place the reply. examples/firmware/ether.c is the
+ * whole program, and rtos.c that under an RTOS:
  *
  *     // Copies a received frame. Returns its length, or 0 if there is none. It may wait for
- *     // one, for example 20 ms: ticks and values are then late by as much.
+ *     // one, at most some 20 ms: ticks and values are then late by as much.
  *     size_t mac_receive(unsigned char *frame, size_t room);
  *     // Sends a frame. When it returns, no DMA uses `frame`.
  *     void mac_send(void *to, const unsigned char *frame, size_t len);
@@ -678,7 +654,7 @@ UIP_INLINE unsigned uip_tick_datagrams(uip_device *device, unsigned char *out, s
  *     while (status == UIP_OK) {
  *         size_t len = mac_receive(frame, sizeof frame);
  *         if (len > 0) {
- *             uip_result done = uip_input_frame(&device, frame, sizeof frame, len);
+ *             uip_result done = uip_input_frame(&device, frame, len, sizeof frame);
  *             if (done.written > 0) mac_send(NULL, frame, done.written);
  *             status = done.status;
  *         }
@@ -692,32 +668,39 @@ UIP_INLINE unsigned uip_tick_datagrams(uip_device *device, unsigned char *out, s
  *
  *   - passes on the frames for `mac` and the broadcasts; it may pass on others, which the node
  *     drops
- *   - drops frames that are damaged, or longer than `room`
+ *   - drops frames that are damaged, or longer than `room` (the node drops those of more than
+ *     UIP_MAX_FRAME)
  *   - takes the check sequence off what it receives, and adds it to what it sends
  *   - pads what it sends to 60 bytes
  *   - does not insert checksums of IP, ICMP or TCP: the library has written them. Turn that
- *     function of the controller off
+ *     function of the controller off; it may check those of what it receives
  *   - may lose frames; it informs the library neither of that, nor of a link that goes down or
  *     comes up.
  *
- * "The Ethernet controller" in the guide has buffers that a DMA uses, caches, barriers, and
- * hints for the controllers of STM32 (F4, F7, H7), NXP (ENET) and SAM (GMAC).
+ * The library needs no alignment of `frame`; a DMA and a cache may. If your driver copies frames,
+ * let `frame` be two bytes after a multiple of 4: then the library copies by words. In C11 that is
+ *
+ *     static _Alignas(4) unsigned char area[2 + UIP_MAX_FRAME];
+ *     static unsigned char *const frame = area + 2;           // write UIP_MAX_FRAME for `sizeof frame`
+ *
+ * "The Ethernet controller" in the guide has buffers that a DMA uses, a loop that never waits,
+ * caches, barriers, and hints for the controllers of STM32 (F4, F7, H7), NXP (ENET) and SAM (GMAC).
  */
 
 /* Receives one frame, and writes the frame to send in its place, if there is one.
  *
- *   frame, room    the area with the received frame at its start; `room` is UIP_MAX_FRAME or more
- *   len            the length of the received frame, 0 to `room`; it may have padding. NOTE the
- *                  order: `room` comes before `len`
+ *   frame, len    an area with the received frame at its start, and the length of that frame, 0 to
+ *                 `room`; it may have padding
+ *   room          the size of the area, UIP_MAX_FRAME or more
  *
  *   Result    `consumed` is `len`; `pending` is 0
  *   Status    UIP_BAD_ARGUMENT; UIP_NO_DEVICE; UIP_WRONG_LINK; UIP_OK
  *
  * If the hardware address for the reply is not known, the call writes an ARP request in place of
- * the reply. TCP sends its data again; a ping gets no reply. The node drops all but ARP and IPv4,
- * such as frames with VLAN tags.
+ * the reply, and so does uip_periodic_frame. TCP sends its data again, after 4 ticks; a ping gets
+ * no reply. The node drops all but ARP and IPv4, such as frames with VLAN tags.
  */
-uip_result uip_input_frame(uip_device *device, unsigned char *frame, size_t room, size_t len);
+UIP_INLINE uip_result uip_input_frame(uip_device *device, unsigned char *frame, size_t len, size_t room);
 
 /* Runs the timers of one slot, and may write a frame. A tick is one call for each slot, in any
  * order. Other calls may come between them.
@@ -736,84 +719,60 @@ uip_result uip_periodic_frame(uip_device *device, size_t slot, unsigned char *fr
  */
 UIP_INLINE unsigned uip_tick_frames(uip_device *device, unsigned char *frame, size_t room, uip_sink sink, void *to);
 
-/* ---- 10 Values, buttons, forms -----------------------------------------------------------------
+/* ---- 10 Pages ----------------------------------------------------------------------------------
  *
- * examples/firmware/pages.c and its folder site have most of this section in one place: values,
- * buttons, a form, a token, a live page.
+ * This is the short form. docs/PAGES.md is the guide, with the HTML and C of each case, also for
+ * JSON and live pages. examples/firmware/pages.c and its folder `site` have most of it in one
+ * place.
  *
- * A file whose name ends in .shtml may contain directives. A directive reaches from %! to the end
- * of its line, the newline included. Its output replaces all of that:
+ * VALUES. A file whose name ends in .shtml may contain directives. A directive reaches from %! to
+ * the end of its line, the newline included. Its output replaces all of that:
  *
  *     It is %! value-html 3
  *     &deg;C.
  *
- *     %! value-html 3    value 3, escaped for HTML
- *     %! value-json 3    value 3, escaped for a string of JSON
+ *     %! value-html 3    value 3 for HTML, also within quotes: & < > " ' are escaped
+ *     %! value-json 3    value 3 for a string of JSON: " \ and bytes below 32 are escaped, not <.
+ *                        Pack this file as JSON: /NAME=application/json after FOLDER site.c
  *     %! value 3         value 3 as it is: only if nobody else influences its text
- *     %!: /footer.html   the file /footer.html
+ *     %!: /footer.html   the file /footer.html as it is: its directives are not executed
  *
- * Each value costs a round trip, often 40 to 200 ms (uip_set_value): take few for a page. A request
- * of / gets /index.html, which is no .shtml: let it lead to one, as
- * <script>location.replace("/now.shtml?" + Date.now())</script> does. Write into each page <meta
- * charset="utf-8">, as no reply names a character set, and <link rel="icon" href="data:,">, which
- * spares a request. "Values and clicks" in the guide has the other directives: counters, ticks,
- * hits and connections.
+ * %! ticks, %! net-stats, %! tcp-connections and %! file-stats /x show ticks, counters, connections
+ * and hits.
  *
- * JSON. An .shtml may be JSON. Here value 2 is 21.5,45.0: two numbers of one moment
- * (uip_set_value). Set it before the first request.
+ * A request of / gets /index.html, which is no .shtml: let it lead to one.
  *
- *     {"measured": [%! value 2
- *     ], "place": "%! value-json 3
- *     "}
+ * BUTTONS AND FORMS are files that a browser requests. But it also requests files that nobody
+ * clicked: it may follow a link in advance, load a page again, or restore one after days. So take
  *
- * For its content type pack it by: python3 tools/pack.py FOLDER site.c /j.shtml=application/json.
- * In JavaScript read it by await (await fetch("/j.shtml", {cache: "no-store"})).json().
+ *     for an action that                                    take
+ *     is harmless at any time (lamp on)                     a link to a file of its own, and uip_hits
+ *     needs a click; may come again, even late (level 5)    a query of a link or a form, and uip_query
+ *     must happen once, or not late (open the gate)         the same with a token: "Once" in PAGES.md,
+ *                                                           pages.c, gate_pages.c
  *
- * BUTTONS. A link or a form sends a request, and your program looks for it. But a browser may
- * follow a link before it is clicked. A page that is loaded again, or restored after days, sends
- * its request again. So take for an action that
+ * A browser that follows a link in advance does not run onclick, so it brings no query. A token is
+ * a text that your program makes, shows as a value, and compares with the query. It accepts a token
+ * once, and only while the state that the page showed is unchanged. In the file the directive of
+ * the token is above those of the state. If a late request must not act, the token also expires,
+ * after a minute for example. Then each page with that form asks for the present token by a script:
+ * else a user who takes longer is refused. gate_pages.c and gate_site do both; pages.c does
+ * neither.
  *
- *     is harmless at any time (lamp on)                 a link to a file of its own, and uip_hits
- *     needs a click (set the level to 5)                a link or a form with a query, and uip_query
- *     must happen once, or not late (open the gate)     the same with a token: ONCE at uip_query
- *
- * A restored page also sets an old level again: if that matters, take a token there, too.
- *
- * CACHES. A browser may show a stored copy of a page, and send no request. So give each link to a
- * button or to a page with values, and each form, a query that is new each time:
+ * A browser may also show a stored copy, and send no request. So give each link to a button or to a
+ * page with values, and each form, a query that is new each time, here `d`. (A form with a token
+ * may leave it out: at most an old page then shows an old reply.)
  *
  *     <a href="/on.html" onclick="this.search = Date.now()">on</a>
- *     <a href="/set.html" onclick="this.search = 'level=5&d=' + Date.now()">5</a>
  *     <form action="/set.html" onsubmit="this.d.value = Date.now()">
  *     <input name="level"> <input type="hidden" name="d"> <button>Set</button></form>
  *
- * uip_hits counts the first link, also if the request has no query; uip_query reads the others. A
- * browser that follows a link before it is clicked does not run onclick, so it brings no query: it
- * presses /on.html, but not /set.html.
- *
- * POLLING. This page shows value 3, and asks for it again a second after each reply. The file
- * v.shtml has one line, %! value-html 3. By no-store the request needs no new query.
- *
- *     <p id="v"></p><script>(async function look() {
- *         const soon = {cache: "no-store", signal: AbortSignal.timeout(5000)}
- *         try { v.innerHTML = await (await fetch("/v.shtml", soon)).text() }
- *         catch { v.textContent = "no reply" }
- *         setTimeout(look, 1000) })()</script>
- *
- * Each request takes one of the ten connections, which is then in TIME_WAIT for 60 s. But polling
- * does not use them up: if none is CLOSED, a new connection takes the one that was in TIME_WAIT
- * longest.
- *
- * WHEN TO LOOK at hits and queries: after each request. A later query replaces the one before, and
- * if the counts of two buttons rose since you looked, you do not know which was pressed last. With
- * step.c `work` runs between any two requests. In the loops of sections 1, 8 and 9 look once in
- * each pass: a frame or a datagram brings at most one request, and 64 bytes of a serial line bring
- * the end of at most one, as the request of a browser is longer. If your loop passes more at a
- * time, look after each uip_feed, uip_input or uip_input_frame, or in the sink of uip_feed_all.
- * While uip_counter(&device, UIP_TCP_IN) does not rise, no request has come, and you need not look.
- *
- * The file of a button or a form may be an .shtml that shows the new state, if your program sets
- * the value as soon as it sees the request (uip_set_value).
+ * WHEN TO LOOK at hits and queries: after each request, as a later query replaces the one before.
+ * With step.c `work` runs between any two requests. If a pass of your loop takes one datagram, one
+ * frame, or at most 42 bytes of a serial line, look once in each pass: it takes at most one
+ * request, since the shortest frame with data has 41 bytes and an END. If a pass may take more,
+ * look after each uip_feed, uip_input or uip_input_frame, or in the sink of uip_feed_all. While
+ * uip_counter(&device, UIP_TCP_IN) does not rise, no request has come, and you need not look.
  *
  * If a segment of a request is lost, the click comes later, by a second or more: a link is no
  * emergency stop.
@@ -822,26 +781,26 @@ UIP_INLINE unsigned uip_tick_frames(uip_device *device, unsigned char *frame, si
 /* A string literal as two arguments: its text and its length, without the 0 at its end. */
 #define UIP_TEXT(literal) ("" literal), sizeof("" literal) - 1
 
-/* Sets a value that pages show. Before it is set, a value is empty.
+/* Sets a value that pages show. Before it is set, a value is empty, and also if `len` is 0. If several empty values of a page have
+ * no text between them, each but the first waits for a tick: give each a byte, such as a space.
  *
  *   number       0 to 15
  *   text, len    any bytes; `len` is 0 to UIP_MAX_VALUE. They are copied
  *
  *   Status    UIP_BAD_ARGUMENT (the old value stays); UIP_NO_DEVICE; UIP_OK
  *
- * WHEN IT IS READ. The node reads a value when the peer has acknowledged all of the reply before
- * it, the HTTP header included. So the call that takes the request writes at most what comes before
- * the first value, and what you set right after that call is in this reply. (A value belongs to the
- * device: if a second browser makes the program set it again before it is read, both see the same.)
- * If uip_hits of the page has risen, make a short measurement at once. Begin a longer one, and let
- * the page ask again (POLLING). If the node sends a segment again, it has the same bytes, also if
- * the value has changed.
+ * The node reads a value of a page when the peer has acknowledged all bytes of the reply that come
+ * before the value, the HTTP header included. So if you set a value right after the call that took
+ * the request, this reply has it. Exception: a request of another browser comes before that
+ * acknowledgement, and you set the value for that one. Then both replies have the newer value. So
+ * begin a value that answers a request with a tag that the request brought: "Once" in
+ * docs/PAGES.md.
  *
  * Each value of a page costs one round trip, often 40 to 200 ms, and two values may be of two
- * moments. So make one value of what belongs together, as "21.5,45.0". If that is longer than a
- * value, take two, and begin each with the same number: "7,21.5,22.0" and "7,45.0,46.1". Then a
- * script sees whether they are of one moment; change them less often than a page takes.
- * examples/text.h writes numbers as text, without the C library.
+ * moments: make one value of what belongs together, as "21.5,45.0". If the node sends a segment
+ * again, it has the same bytes, also if the value has changed.
+ *
+ * examples/text.h writes whole numbers and tenths as text, without the C library.
  */
 unsigned uip_set_value(uip_device *device, size_t number, const void *text, size_t len);
 
@@ -852,9 +811,8 @@ unsigned uip_set_value(uip_device *device, size_t number, const void *text, size
  *
  *   Status    UIP_NO_DEVICE; UIP_OK
  *
- * A request for / counts for /index.html. A segment that is sent again counts once. But a browser
- * may follow a link by itself or twice, and a user may load a page again (BUTTONS). So let a link
- * set a state ("on"), and not change it ("toggle").
+ * A request for / counts for /index.html. An include counts none. A segment that is sent again
+ * counts once.
  */
 uip_number uip_hits(uip_device *device, const void *name, size_t len);
 
@@ -864,12 +822,10 @@ uip_number uip_hits(uip_device *device, const void *name, size_t len);
  *   out, room    where the text goes, without a 0 at its end; `room` is UIP_MAX_QUERY or more
  *
  *   Result    `hit` and `len` (section 5); both are 0 if the last query that was kept is of another
- *             file, or none was kept. A request without a query leaves the one before it: so
- *             compare `hit`, not `len`
+ *             file, or none was kept
  *   Status    UIP_BAD_ARGUMENT; UIP_NO_DEVICE; UIP_OK
  *
- * If the count of the file has risen, and `hit` is equal to it, that request brought the query. For
- * a mere button this is all; else read the text:
+ * If `hit` is equal to uip_hits of the file, its latest request brought this query:
  *
  *     static unsigned seen;                    // set it to 0 if you open again
  *     unsigned char text[UIP_MAX_QUERY];
@@ -877,85 +833,30 @@ uip_number uip_hits(uip_device *device, const void *name, size_t len);
  *     if (hits != seen) {                      // the file was requested
  *         uip_query_text query = uip_query(&device, UIP_TEXT("/set.html"), text, sizeof text);
  *         seen = hits;
- *         // number_in, tenths_in and text_in are in examples/text.h
+ *         // examples/text.h has number_in, tenths_in, signed_tenths_in, address_in, text_in, token_in
  *         if (query.hit == hits && number_in(text, query.len, "level", &level) && level <= 100)
  *             set_level(level);
- *         else ..                              // no query, one that was ignored, or no such level
+ *         else ..                              // no query, one that was not kept, or no such level
  *     }
  *
- * WHAT IS KEPT. The device keeps one query in all, of whatever file. It keeps a query if the site
- * has that file, if the query has at most 64 bytes, each a letter, a digit or one of -_.~%&=+, and
- * if it arrives in the first segment of the request. It ignores any other one, and the one before
- * it stays. The request is served and counted all the same.
- *
- * LONG TEXTS. The names of fields count, too: level=, &d= and 13 digits leave 42 bytes for the
- * text. Nothing is decoded. A browser sends most bytes but letters and digits as %XX, so a letter
- * beyond ASCII takes six or more, and it sends * as it is, which is not kept. So give the field a
- * pattern of what you accept: pattern="[A-Za-z0-9 ]{1,20}". Anyone who reaches the node can send a
- * query: check it.
- *
- * ONCE. A page that is loaded again sends its query again, with another `hit`. What must not come
- * again takes a token, here value 6, in a form or in a link of an .shtml:
- *
- *     <form action="/restart.shtml" onsubmit="this.d.value = Date.now()">
- *     <input type="hidden" name="n" value="%! value-html 6
- *     "><input type="hidden" name="d"><button>Restart</button></form>
- *     <a href="/restart.shtml" onclick="this.search = 'd=' + Date.now() + '&n=%! value-html 6
- *     '">Restart</a>
- *
- * With a token of 16 digits `n` and `d` take 34 of the 64 bytes. You may leave `d` out where a
- * token is: then a browser may show the stored reply to an old page, and not ask the device.
- *
- * In the file, write the directive of the token above those of the state on which the action
- * depends, such as the alarm or the step. They are read in this order: if the state changes in
- * between, the page has an old token, which is refused. In each pass your program does this:
- *
- *     set_measured_values();                   // these change no token
- *     if (changes != shown || is_new) {        // `changes` counts the changes of the state; `is_new` is 1
- *         shown = changes;                     // once after opening
- *         set_state_values();
- *         new_token();
- *     }
- *     hits = uip_hits(&device, UIP_TEXT("/restart.shtml")).number;
- *     if (hits != seen) {                      // after that block: so an older token is refused
- *         query = uip_query(&device, UIP_TEXT("/restart.shtml"), text, sizeof text);
- *         seen = hits;
- *         if (query.hit == hits && token_in(text, query.len, "n", token, token_len)) {
- *             act();                           // only on the state that was shown. To reset: see uip_close
- *             new_token();
- *         }
- *     }
- *
- * If another task keeps the state, that task counts the changes in `own_changes`, and sends {state,
- * own_changes} by a queue: `changes` is what came last. act() sends {command, shown} by another
- * queue, as the right token proves that the page showed this state. The reply can show only "sent".
- * The task does:
- *
- *     if (command.shown == own_changes) {      // else the state is another by now: refuse
- *         do_it(command);
- *         own_changes++;
- *     }
- *
- * A page that polls gets the token with the state, and a script puts it into the form: live.html in
- * examples/firmware/site. Or the script sends the command by fetch with no-store, without `d`, to
- * an .shtml of JSON that has the result and the next token.
- *
- * Never use a token twice, also not after a reset: a number of the start and a count will do.
- * Against a page of another site, which can guess, take a random number of 64 bits or more in its
- * place. (The node does not look at Host, so this does not help against DNS rebinding.)
- * examples/firmware/pages.c has new_token; token_in is in examples/text.h.
+ * The device keeps one query in all, of whatever file. It keeps a query if the site has that file,
+ * if the query has at most 64 bytes, names of fields included, each a letter, a digit or one of
+ * -_.~%&=+, and if it arrives in the first segment of the request. It ignores any other one: then
+ * the query before it stays. Nothing is decoded: text_in does that. Anyone who reaches the node can
+ * send a query: check it.
  */
 uip_query_text uip_query(uip_device *device, const void *name, size_t len, void *out, size_t room);
 
 /* ---- 11 State ---------------------------------------------------------------------------------- */
 
-/* Returns the number of ticks since opening, modulo 2^32: the periodic calls of slot 0.
+/* Returns the number of ticks since opening, modulo 2^32: the periodic calls of slot 0. It does not
+ * rise while you leave ticks out (uip_needs_ticks), so it is no clock.
  *
  *   Status    UIP_NO_DEVICE; UIP_OK
  */
 uip_number uip_ticks(uip_device *device);
 
-/* Returns whether each connection is CLOSED: `number` is 1 if so, else 0.
+/* Returns whether every connection is CLOSED: `number` is 1 if so, else 0.
  *
  *   Status    UIP_NO_DEVICE; UIP_OK
  *
@@ -967,10 +868,13 @@ uip_number uip_is_idle(uip_device *device);
  * returns 0, also if the device is not open.
  *
  * While it returns 0 and no output is pending, you may leave out ticks, and sleep until something
- * arrives. That prolongs TIME_WAIT, and new connections have the same initial sequence number,
- * until the next tick. With step.c no output is pending in your `wfi` if dma_is_busy() is 0.
- * "Sleep" in the guide has more: a receiver that is off, and what Linux sends unasked.
- * examples/firmware/sleep.c stops its timer so.
+ * arrives. That prolongs TIME_WAIT. All new connections have one and the same initial sequence
+ * number until the next tick. uip_ticks does not rise, and on Ethernet ARP entries do not age. With
+ * step.c call it in `wfi`, with interrupts on meanwhile, since it takes longer than a byte; then
+ * return, so that the loop makes another pass. If it was 0, and nothing was received since, a later
+ * `wfi` may stop the timer if dma_is_busy() is 0: then nothing is pending. sleep.c does so. Under
+ * an RTOS this does not hold. "Sleep" in the guide has more: a receiver that is off, and what Linux
+ * sends unasked. examples/firmware/sleep.c stops its timer so.
  */
 UIP_INLINE int uip_needs_ticks(uip_device *device);
 
@@ -1012,16 +916,16 @@ uip_block rattle_alloc(size_t len, size_t align);
 uip_block rattle_realloc(void *block, size_t kept, size_t len, size_t align);
 void rattle_dealloc(void *block);
 
-/* The bytes of heap that one device needs, for an image of `files` files, on every target: 5,728
- * and 4,304 for six files. Add what your allocator needs for each block (heap.c: nothing). Do not
- * use them in #if.
+/* The bytes of heap that one device needs, for an image of `files` files, on every target. For six
+ * files UIP_MEMORY is 5,728, and UIP_MEMORY_ETHER 4,304. Add what your allocator needs for each
+ * block (heap.c: nothing). Do not use them in #if.
  */
 #define UIP_ROUNDED(len) (((size_t)(len) + 15) / 16 * 16)
 #define UIP_MEMORY(files) \
     (UIP_ROUNDED(28 * (size_t)(files)) + UIP_ROUNDED(2 * (size_t)(files)) + UIP_ROUNDED(4 * (size_t)(files)) + 5504)
 #define UIP_MEMORY_ETHER(files) (UIP_MEMORY(files) - 1424)
 
-/* ---- The bodies of the inline functions -------------------------------------------------------- */
+/* ---- 13 Bodies of the inline functions -------------------------------------------------------- */
 
 UIP_INLINE unsigned uip_feed_all(uip_device *device, const unsigned char *bytes, size_t len,
                                  unsigned char *out, size_t room, uip_sink sink, void *to) {
@@ -1063,6 +967,13 @@ UIP_INLINE unsigned uip_tick_datagrams(uip_device *device, unsigned char *out, s
         if (done.written) sink(to, out, done.written);
     }
     return done.status;
+}
+
+/* Of the library, for uip_input_frame alone: its language passes the size of an area after its address. */
+uip_result uip_input_frame_area(uip_device *device, unsigned char *frame, size_t room, size_t len);
+
+UIP_INLINE uip_result uip_input_frame(uip_device *device, unsigned char *frame, size_t len, size_t room) {
+    return uip_input_frame_area(device, frame, room, len);
 }
 
 UIP_INLINE unsigned uip_tick_frames(uip_device *device, unsigned char *frame, size_t room, uip_sink sink, void *to) {
