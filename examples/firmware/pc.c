@@ -173,8 +173,10 @@ static void on_idle(void) {
 }
 
 static void *receiver(void *unused) {
-    ssize_t count;
-    while ((count = read(0, dma_ring + place, RING - place)) > 0) {
+    static unsigned char bytes[RING];
+    ssize_t count, k;
+    while ((count = read(0, bytes, RING - place)) > 0) {
+        for (k = 0; k < count; k++) dma_ring[place + (unsigned)k] = bytes[k];
         if (place + (unsigned)count == RING) {
             interrupt_by(on_end);
         } else {
