@@ -46,15 +46,19 @@ extern volatile unsigned events;                          /* not static. An inte
                                                              full), the port has sent, half a second passed, or one of yours.
                                                              Interrupts that add may preempt one another: a lost count does
                                                              no harm.
-                                                             A clock that only ends the sleep adds 1, too. A task of an RTOS
-                                                             need not add: it ends wfi */
+                                                             A clock that only ends the sleep need not: then the loop is late
+                                                             by one period at most. Nor need a task of an RTOS: it ends wfi */
 int dma_is_busy(void);                                    /* 1 while the port sends: a variable that dma_send sets, and that the
-                                                             interrupt clears which adds to `events`. If you stop the port's
+                                                             interrupt clears which adds to `events`. If a piece may never end,
+                                                             time it in `work`, and then clear the variable: TCP sends the data
+                                                             again. If you stop the port's
                                                              clock, take the interrupt of the last bit, not of the DMA */
 void dma_send(const unsigned char *bytes, size_t len);    /* begins to send by DMA or interrupt; `bytes` stay meanwhile. For a
                                                              polled port it waits, and dma_is_busy returns 0 */
 void interrupts_off(void);
 void interrupts_on(void);
-void wfi(void);                                           /* sleeps until an interrupt, also one that is held back */
+void wfi(void);                                           /* sleeps until an interrupt, also one that is held back. It is called with
+                                                             interrupts off, all others with interrupts on; if it calls dma_is_busy,
+                                                             that leaves them as they are */
 
 #endif

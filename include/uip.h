@@ -130,8 +130,8 @@ extern "C" {
  *     Ethernet              ether.c          uip_open_ether  uip_input_frame  uip_tick_frames
  *     Ethernet, RTOS        rtos.c, gate.c   uip_open_ether  uip_input_frame  uip_tick_frames
  *
- * On Ethernet link libuip_c_ether.a, which has all calls; otherwise libuip_c.a. (The libraries that
- * `rt lib` makes, for aarch64 and x86-64, have all calls in libuip_c.a.)
+ * On Ethernet link libuip_c_ether.a, which has all calls; otherwise libuip_c.a. (The libraries of
+ * `rt lib`, the kit's command for aarch64 and x86-64, have all calls in libuip_c.a.)
  *
  * TICKS. If one or two ticks are due, make them. If more are due, after a stall, make only one: a
  * burst of ticks would time out live connections. A late tick does no harm. Without ticks, nothing
@@ -236,8 +236,8 @@ typedef char uip_needs_unsigned_of_32_bits[sizeof(unsigned) == 4 ? 1 : -1];
  * TIME. No call waits, masks interrupts or needs privilege. No call allocates memory, except
  * opening. An inline function waits if its sink waits. Each call but opening handles at most one
  * datagram. No bound on the time of a call is known. Counted, in instructions on an M4; an M0+
- * takes 1.2 to 3 times as many ("Time" in the guide has both, and more). On Ethernet the frame
- * began two bytes after a multiple of 4 (section 9).
+ * takes 1.2 to 3 times as many for these ("Time" in the guide has both, and more). On Ethernet the
+ * frame began two bytes after a multiple of 4 (section 9).
  *
  *                                                     serial line    datagrams    Ethernet
  *     a ping of 84 bytes, in all its calls                  4,714        1,722       2,184
@@ -414,8 +414,8 @@ typedef void (*uip_sink)(void *to, const unsigned char *bytes, size_t len);
  *
  *   image, len    the image of the site (rule 6)
  *   own           the IPv4 address, first byte first: {10, 0, 0, 1}. It is copied, and not checked:
- *                 pass that of a host. Check one that a user enters: its first byte is 1 to 223 and not
- *                 127, and it is not that of the other end
+ *                 pass that of a host. Check one that a user enters by is_host of examples/text.h,
+ *                 with the mask {0, 0, 0, 0} on a serial line; nor may it be that of the other end
  *
  *   Status    UIP_HAS_DEVICE; UIP_BAD_IMAGE or UIP_NO_MEMORY; UIP_OK
  */
@@ -448,17 +448,19 @@ uip_opened uip_open_ether(uip_device *device, const unsigned char *image, size_t
  * To change the address or the site:
  *
  *   - If a page asked for it, let its reply be delivered: go on with the loop until uip_needs_ticks is
- *     0, or for six ticks ("To restart or to close" in docs/PAGES.md; restart_if_due of pages.c).
+ *     0, or for six ticks ("To restart or to close" in docs/PAGES.md; restart_if_due of
+ *     examples/firmware/pages.c).
  *   - Call uip_close and uip_open, or uip_open_ether, between two calls of the loop, as datagrams.c
  *     does. With step.c do it in `work`: uip_close, reset_step, uip_open.
  *   - If opening fails, call `fail`, as section 1 does: the device is closed.
  *   - Set all values again, and set to 0 what your program remembers of uip_hits, uip_query,
  *     uip_ticks and uip_counter: all begin at 0 again.
  *
- * In a loop of your own forget a tick that is under way. The port or the controller may go on
- * sending, and bytes may wait in the ring: either end drops the frame that was cut. The ARP table
- * is empty again. On Ethernet under an RTOS do not close, since the task would need the stack of
- * opening (rule 9): store the new address, and reset the processor.
+ * On a serial line the other end needs a route to a new address. In a loop of your own forget a
+ * tick that is under way. The port or the controller may go on sending, and bytes may wait in the
+ * ring: either end drops the frame that was cut. The ARP table is empty again. On Ethernet under an
+ * RTOS do not close, since the task would need the stack of opening (rule 9): store the new
+ * address, and reset the processor.
  */
 unsigned uip_close(uip_device *device);
 
@@ -467,6 +469,8 @@ unsigned uip_close(uip_device *device);
  * The line carries SLIP (RFC 1055, not CSLIP): 8 data bits, no parity, one stop bit, no XON and
  * XOFF. It is full duplex: both ends send at any time, so not two wires of RS-485. RTS and CTS are
  * not needed. If bytes are lost or damaged, clear the flag of the port and go on: TCP repairs it.
+ * If nobody takes the output (a cable is out, a USB host does not read), drop it, so that the loop
+ * continues: a sink returns, and dma_is_busy returns 0.
  *
  * THE OTHER END is a host, or a gateway to other networks, with an MTU of at most 1,500. A gateway
  * with a smaller MTU clamps the MSS of TCP to its MTU less 40, both ways. The node has no routes:
@@ -487,8 +491,10 @@ unsigned uip_close(uip_device *device);
  *                  and on_sent; that of a timer, and others that give `work` something to do, add 1
  *                  to `events`
  *
- * serve runs `work` in each pass: before each piece that it sends, and after each interrupt that
- * adds to `events`, so with port.c after each byte. `work` may make any call but those that send.
+ * For another port, such as USB CDC or a polled one, write read_serial, dma_send, dma_is_busy and
+ * `events` yourself (step.h), in place of port.c. serve runs `work` in each pass: before each piece
+ * that it sends, and after each interrupt that adds to `events`, so with port.c after each byte.
+ * `work` may make any call but those that send.
  *
  * RECEIVE WHILE YOU SEND. No call reads the port. While your program sends, an interrupt or a DMA
  * stores in a ring what arrives. If the ring overflows, bytes are lost, and a page comes some
@@ -506,9 +512,11 @@ unsigned uip_close(uip_device *device);
  *
  * A pass takes at most 64 bytes from the ring, so on average let a gap last at most 5.5 ms, in
  * which 64 bytes arrive. With 8,192 bytes one gap may last 40 ms, to erase flash, if the others are
- * short. With port.c that needs an interrupt that runs meanwhile: code and vectors in RAM, or in
- * another bank. Peers that go on sending faster than the line carries the replies overflow any
- * ring. Measure your gaps, with your longest page. -DRING=8192, for all files, sets the size; for
+ * short. (The longest sleep is the longest time between two interrupts that add to `events`.) With
+ * port.c that needs an interrupt that runs meanwhile: code and vectors in RAM, or in another bank.
+ * Peers that go on sending faster than the line carries the replies overflow any ring. If the port
+ * stops its sender while the ring is full (RTS by the ring, the NAK of USB), any size will do.
+ * Measure your gaps, with your longest page. -DRING=8192, for all files, sets the size; for
  * port_dma.c it is a power of two. "The ring" in the guide has slower rates. Below 38,400 bits a
  * second read "Slow lines", too.
  */
@@ -761,7 +769,7 @@ UIP_INLINE unsigned uip_tick_frames(uip_device *device, unsigned char *frame, si
  *
  * A browser may also show a stored copy, and send no request. So give each link to a button or to a
  * page with values, and each form, a query that is new each time, here `d`. (A form with a token
- * may leave it out: at most an old page then shows an old reply.)
+ * may leave `d` out: at most an old page then shows an old reply.)
  *
  *     <a href="/on.html" onclick="this.search = Date.now()">on</a>
  *     <form action="/set.html" onsubmit="this.d.value = Date.now()">
@@ -781,8 +789,8 @@ UIP_INLINE unsigned uip_tick_frames(uip_device *device, unsigned char *frame, si
 /* A string literal as two arguments: its text and its length, without the 0 at its end. */
 #define UIP_TEXT(literal) ("" literal), sizeof("" literal) - 1
 
-/* Sets a value that pages show. Before it is set, a value is empty, and also if `len` is 0. If several empty values of a page have
- * no text between them, each but the first waits for a tick: give each a byte, such as a space.
+/* Sets a value that pages show. Before it is set, a value is empty, and also if `len` is 0. Between empty values without text between them the reply pauses until the next tick: give each a
+ * byte, such as a space.
  *
  *   number       0 to 15
  *   text, len    any bytes; `len` is 0 to UIP_MAX_VALUE. They are copied
@@ -833,7 +841,8 @@ uip_number uip_hits(uip_device *device, const void *name, size_t len);
  *     if (hits != seen) {                      // the file was requested
  *         uip_query_text query = uip_query(&device, UIP_TEXT("/set.html"), text, sizeof text);
  *         seen = hits;
- *         // examples/text.h has number_in, tenths_in, signed_tenths_in, address_in, text_in, token_in
+ *         // examples/text.h: number_in, tenths_in, signed_tenths_in, address_in, is_host, text_in,
+ *         // token_in
  *         if (query.hit == hits && number_in(text, query.len, "level", &level) && level <= 100)
  *             set_level(level);
  *         else ..                              // no query, one that was not kept, or no such level
@@ -869,12 +878,17 @@ uip_number uip_is_idle(uip_device *device);
  *
  * While it returns 0 and no output is pending, you may leave out ticks, and sleep until something
  * arrives. That prolongs TIME_WAIT. All new connections have one and the same initial sequence
- * number until the next tick. uip_ticks does not rise, and on Ethernet ARP entries do not age. With
- * step.c call it in `wfi`, with interrupts on meanwhile, since it takes longer than a byte; then
- * return, so that the loop makes another pass. If it was 0, and nothing was received since, a later
- * `wfi` may stop the timer if dma_is_busy() is 0: then nothing is pending. sleep.c does so. Under
- * an RTOS this does not hold. "Sleep" in the guide has more: a receiver that is off, and what Linux
- * sends unasked. examples/firmware/sleep.c stops its timer so.
+ * number until the next tick. uip_ticks does not rise, and on Ethernet ARP entries do not age.
+ *
+ * With step.c, not under an RTOS, do it as sleep.c:
+ *
+ *   1 In `wfi`, at most each half second, turn interrupts on, call uip_needs_ticks, turn them off, and
+ *     return: the loop makes another pass. (The call takes longer than a byte.)
+ *   2 In a later `wfi`, if it was 0, nothing was received since, and dma_is_busy() is 0, then nothing
+ *     is pending: stop the timer and sleep.
+ *   3 After the sleep start the timer again.
+ *
+ * "Sleep" in the guide has more: a receiver that is off, and what Linux sends unasked.
  */
 UIP_INLINE int uip_needs_ticks(uip_device *device);
 

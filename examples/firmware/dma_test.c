@@ -56,5 +56,15 @@ int main(void) {
     expected = written;
     arrive(2);
     is_right &= takes("after that", 64, 2);
+    arrive(5);
+    written = (written / RING + 1) * RING;     /* an error: the DMA begins anew at the start of the ring */
+    on_dma_restarted();
+    is_right &= takes("after a new start", 64, 0);
+    expected = written;
+    arrive(3);
+    is_right &= takes("in the new lap", 64, 3);
+    arrive(13);
+    on_dma(1);
+    is_right &= takes("to the end of it", 64, 13);
     return !is_right;
 }

@@ -15,6 +15,7 @@ volatile unsigned bytes_received;              /* at the last interrupt of the r
 volatile unsigned char dma_ring[RING];
 static volatile unsigned laps;                 /* how often the DMA reached the end of the ring */
 static unsigned taken;                         /* how many bytes were taken, modulo 2^32 */
+static volatile int is_restarted;              /* whether the DMA began anew, and read_serial has not seen it */
 static volatile int is_sending;
 
 /* How many bytes the DMA has written since the start, modulo 2^32; it is known to be `at_least` or more. If the DMA has just reached the
@@ -36,6 +37,12 @@ void on_dma(int is_end) {
     events++;
 }
 
+void on_dma_restarted(void) {
+    laps++;                                    /* so the count only rises */
+    is_restarted = 1;
+    events++;
+}
+
 void on_sent(void) {
     is_sending = 0;
     events++;
@@ -43,7 +50,12 @@ void on_sent(void) {
 
 size_t read_serial(unsigned char *bytes, size_t room) {
     size_t len = 0;
-    unsigned end = written(taken);
+    unsigned end;
+    if (is_restarted) {                        /* what waited is lost: TCP sends it again */
+        is_restarted = 0;
+        taken = laps * RING;
+    }
+    end = written(taken);
     if (end - taken > RING) taken = end;       /* the DMA has overtaken: all is lost, and TCP sends it again */
     for (; len < room && taken != end; taken++) bytes[len++] = dma_ring[taken % RING];
     return len;

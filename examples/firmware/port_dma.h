@@ -18,6 +18,9 @@ extern volatile unsigned char dma_ring[RING];  /* the DMA writes it. On a core w
 void on_dma(int is_end);                       /* the interrupts of the receiver. 1 at the end of the ring: leave none out.
                                                   0 at its half, and if the line falls idle. They and
                                                   on_sent may preempt one another: a lost count of `events` does no harm */
+void on_dma_restarted(void);                   /* the DMA has begun anew at the start of the ring, after an error stopped it (ST's HAL does
+                                                  that; with DDRE 0 an STM32 does not). Call it with interrupts held back, before the next
+                                                  byte: else old bytes are read again */
 unsigned dma_place(void);                      /* yours: where the DMA writes next, 0 to RING - 1 (on an STM32
                                                   (RING - NDTR) % RING) */
 
