@@ -158,6 +158,24 @@ UIP_INLINE int is_host(const unsigned char address[4], const unsigned char mask[
     return all < 3 || (host != 0 && host != all);
 }
 
+/* The mask of a prefix length of 0 to 32: that of 24 is 255.255.255.0. Returns 0, and changes nothing, if it is greater. */
+UIP_INLINE int mask_of(unsigned prefix, unsigned char mask[4]) {
+    unsigned k, left;
+    if (prefix > 32) return 0;
+    for (k = 0; k < 4; k++) {
+        left = prefix > 8 * k ? prefix - 8 * k : 0;
+        mask[k] = (unsigned char)(left >= 8 ? 255u : 255u - (255u >> left));
+    }
+    return 1;
+}
+
+/* Whether two addresses are of one network. */
+UIP_INLINE int is_same_network(const unsigned char one[4], const unsigned char other[4], const unsigned char mask[4]) {
+    size_t k;
+    for (k = 0; k < 4 && ((one[k] ^ other[k]) & mask[k]) == 0; k++) continue;
+    return k == 4;
+}
+
 /* Writes an address: 10.0.0.1. 15 bytes at most, without a 0 at their end. Returns their number. */
 UIP_INLINE size_t address_text(char *to, const unsigned char address[4]) {
     size_t k, len = 0;

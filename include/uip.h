@@ -121,7 +121,8 @@ extern "C" {
  *     }
  *
  * This loop waits while it sends, and never sleeps. It is for a trial. For a product take a loop of
- * this table. examples/firmware has a whole program for each:
+ * this table. examples/firmware has a whole program for each. (Those of Ethernet wait until a frame
+ * is sent, some 0.1 ms; "The Ethernet controller" in the guide has a loop that never waits.)
  *
  *     link                  program          open            what arrives     each half second
  *     serial line           sleep.c          uip_open        examples/step.c makes all calls
@@ -236,8 +237,8 @@ typedef char uip_needs_unsigned_of_32_bits[sizeof(unsigned) == 4 ? 1 : -1];
  * TIME. No call waits, masks interrupts or needs privilege. No call allocates memory, except
  * opening. An inline function waits if its sink waits. Each call but opening handles at most one
  * datagram. No bound on the time of a call is known. Counted, in instructions on an M4; an M0+
- * takes 1.2 to 3 times as many for these ("Time" in the guide has both, and more). On Ethernet the
- * frame began two bytes after a multiple of 4 (section 9).
+ * takes 1.2 to 3 times as many for these rows ("Time" in the guide has both, and more). On Ethernet
+ * the frame began two bytes after a multiple of 4 (section 9).
  *
  *                                                     serial line    datagrams    Ethernet
  *     a ping of 84 bytes, in all its calls                  4,714        1,722       2,184
@@ -252,8 +253,8 @@ typedef char uip_needs_unsigned_of_32_bits[sizeof(unsigned) == 4 ? 1 : -1];
  *     uip_set_value, uip_counter                           219, 65
  *
  * The dearest call that we found took 117,394 with a `room` of 256 bytes, for a page of percent
- * signs. Opening takes some 20 more for each byte of an .shtml, and for each file 800 to 16,000
- * more, by the length of its name.
+ * signs, and 152,421 with 3,002. Opening takes some 20 more for each byte of an .shtml, and for
+ * each file 800 to 16,000 more, by the length of its name.
  *
  * If there is a watchdog, feed it before opening, in each pass (with step.c in `work`), and in a
  * sink that waits. The watchdog's time-out is longer than the longest sleep. A task with a deadline
@@ -755,7 +756,7 @@ UIP_INLINE unsigned uip_tick_frames(uip_device *device, unsigned char *frame, si
  *
  *     for an action that                                    take
  *     is harmless at any time (lamp on)                     a link to a file of its own, and uip_hits
- *     needs a click; may come again, even late (level 5)    a query of a link or a form, and uip_query
+ *     needs a click; may come again, even late (set to 5)   a query of a link or a form, and uip_query
  *     must happen once, or not late (open the gate)         the same with a token: "Once" in PAGES.md,
  *                                                           pages.c, gate_pages.c
  *
@@ -769,7 +770,8 @@ UIP_INLINE unsigned uip_tick_frames(uip_device *device, unsigned char *frame, si
  *
  * A browser may also show a stored copy, and send no request. So give each link to a button or to a
  * page with values, and each form, a query that is new each time, here `d`. (A form with a token
- * may leave `d` out: at most an old page then shows an old reply.)
+ * may leave `d` out, as its token is new. Only an old page, sent again, may then show a stored
+ * reply.)
  *
  *     <a href="/on.html" onclick="this.search = Date.now()">on</a>
  *     <form action="/set.html" onsubmit="this.d.value = Date.now()">
@@ -842,7 +844,7 @@ uip_number uip_hits(uip_device *device, const void *name, size_t len);
  *         uip_query_text query = uip_query(&device, UIP_TEXT("/set.html"), text, sizeof text);
  *         seen = hits;
  *         // examples/text.h: number_in, tenths_in, signed_tenths_in, address_in, is_host, text_in,
- *         // token_in
+ *         // token_in, address_text, mask_of
  *         if (query.hit == hits && number_in(text, query.len, "level", &level) && level <= 100)
  *             set_level(level);
  *         else ..                              // no query, one that was not kept, or no such level

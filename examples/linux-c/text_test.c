@@ -53,6 +53,19 @@ static void see_host(const char *own, const char *mask, int expected) {
             && is_host(addresses[0], addresses[1]) == expected, query);
 }
 
+static void see_mask(unsigned prefix, int found, const char *expected) {
+    unsigned char mask[4] = {1, 2, 3, 4};
+    char text[16];
+    int is_found = mask_of(prefix, mask);
+    size_t len = address_text(text, mask);
+    see(is_found == found && len == strlen(expected) && !memcmp(text, expected, len), expected);
+}
+
+static void see_networks(void) {
+    static const unsigned char one[4] = {10, 0, 0, 1}, other[4] = {10, 0, 1, 1}, wide[4] = {255, 255, 0, 0}, narrow[4] = {255, 255, 255, 0};
+    see(is_same_network(one, other, wide) && !is_same_network(one, other, narrow) && is_same_network(one, one, narrow), "networks");
+}
+
 static void see_signed_tenths_in(const char *query, int found, int expected) {
     int tenths = 7;
     int is_found = signed_tenths_in((const unsigned char *)query, strlen(query), "dose", &tenths);
@@ -75,6 +88,9 @@ int main(void) {
     see_tenths_in("dose=1234567.8", 1, 12345678), see_tenths_in("dose=123456789", 0, 0), see_tenths_in("dose=12345678.9", 0, 0);
     see_tenths_in("dose=12.55", 0, 0), see_tenths_in("dose=", 0, 0), see_tenths_in("dose=.", 0, 0), see_tenths_in("dose=1.2.3", 0, 0);
     see_tenths_in("dose=-1", 0, 0), see_tenths_in("dose=1e2", 0, 0), see_tenths_in("", 0, 0);
+    see_networks();
+    see_mask(24, 1, "255.255.255.0"), see_mask(0, 1, "0.0.0.0"), see_mask(32, 1, "255.255.255.255"), see_mask(33, 0, "1.2.3.4");
+    see_mask(1, 1, "128.0.0.0"), see_mask(15, 1, "255.254.0.0"), see_mask(16, 1, "255.255.0.0"), see_mask(30, 1, "255.255.255.252");
     see_host("10.0.0.1", "255.255.255.0", 1), see_host("10.0.0.0", "255.255.255.0", 0), see_host("10.0.0.255", "255.255.255.0", 0);
     see_host("10.0.1.255", "255.255.0.0", 1), see_host("10.0.255.255", "255.255.0.0", 0), see_host("10.0.0.255", "0.0.0.0", 1);
     see_host("192.168.7.1", "255.255.255.254", 1), see_host("192.168.7.1", "255.255.255.255", 1), see_host("192.168.7.3", "255.255.255.252", 0);
