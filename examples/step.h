@@ -49,10 +49,11 @@ extern volatile unsigned events;                          /* not static. An inte
                                                              A clock that only ends the sleep need not: then the loop is late
                                                              by one period at most. Nor need a task of an RTOS: it ends wfi */
 int dma_is_busy(void);                                    /* 1 while the port sends: a variable that dma_send sets, and that the
-                                                             interrupt clears which adds to `events`. If a piece may never end,
-                                                             time it in `work`, and then clear the variable: TCP sends the data
-                                                             again. If you stop the port's
-                                                             clock, take the interrupt of the last bit, not of the DMA */
+                                                             interrupt clears which adds to `events`. If you stop the port's
+                                                             clock, take the interrupt of the last bit, not of the DMA. If a
+                                                             piece may never end, time it in `work`: stop the transfer, so that
+                                                             it no longer reads `out`, and then clear the variable, with port.c
+                                                             by on_sent. TCP sends the data again */
 void dma_send(const unsigned char *bytes, size_t len);    /* begins to send by DMA or interrupt; `bytes` stay meanwhile. For a
                                                              polled port it waits, and dma_is_busy returns 0 */
 void interrupts_off(void);

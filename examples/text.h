@@ -121,7 +121,7 @@ UIP_INLINE int signed_tenths_in(const unsigned char *query, size_t len, const ch
 }
 
 /* Reads the field NAME=ADDRESS, such as 10.0.0.1: four numbers of at most 255, each of one to three digits. Returns 0, and changes
- * nothing, if there is none such. Not tested: whether it is the address of a host.
+ * nothing, if there is none such; an empty field is none. Not tested: whether it is the address of a host.
  */
 UIP_INLINE int address_in(const unsigned char *query, size_t len, const char *name, unsigned char address[4]) {
     size_t size, k, part = 0, digits = 0;

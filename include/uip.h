@@ -122,7 +122,8 @@ extern "C" {
  *
  * This loop waits while it sends, and never sleeps. It is for a trial. For a product take a loop of
  * this table. examples/firmware has a whole program for each. (Those of Ethernet wait until a frame
- * is sent, some 0.1 ms; "The Ethernet controller" in the guide has a loop that never waits.)
+ * is sent, some 0.1 ms at 100 Mbit/s; "The Ethernet controller" in the guide has a loop that never
+ * waits.)
  *
  *     link                  program          open            what arrives     each half second
  *     serial line           sleep.c          uip_open        examples/step.c makes all calls
@@ -179,8 +180,9 @@ typedef char uip_needs_unsigned_of_32_bits[sizeof(unsigned) == 4 ? 1 : -1];
  * rate of ticks are not noticed.
  *
  *  1 INIT         Before its first call a device is UIP_INIT, or all 0. If your start-up code does
- *                 not initialise .data and .bss at each reset, set each device to 0 first, and
- *                 heap_used and heap_blocks of heap.c.
+ *                 not initialise .data and .bss at each reset, set to 0 first: each device,
+ *                 heap_used and heap_blocks of heap.c, and the variables of step.c and of port.c or
+ *                 port_dma.c. (`slot` of step.c is UIP_SLOTS: call reset_step.)
  *
  *  2 DEVICE       While a device is open, do not copy it, and do not write its members.
  *
@@ -416,7 +418,8 @@ typedef void (*uip_sink)(void *to, const unsigned char *bytes, size_t len);
  *   image, len    the image of the site (rule 6)
  *   own           the IPv4 address, first byte first: {10, 0, 0, 1}. It is copied, and not checked:
  *                 pass that of a host. Check one that a user enters by is_host of examples/text.h,
- *                 with the mask {0, 0, 0, 0} on a serial line; nor may it be that of the other end
+ *                 with the mask {0, 0, 0, 0} on a serial line; nor may it be that of the other end,
+ *                 which your program has to know. A wrong one locks the user out: keep a way back
  *
  *   Status    UIP_HAS_DEVICE; UIP_BAD_IMAGE or UIP_NO_MEMORY; UIP_OK
  */
@@ -433,10 +436,11 @@ uip_opened uip_open(uip_device *device, const unsigned char *image, size_t len, 
  *   Status    as of uip_open
  *
  * The device announces nothing. It sends frames for addresses outside of its network to the router.
- * If mask or router is 0.0.0.0, it takes every address for one of its network. Neither is checked:
- * pass a router that is a host of that network. The device learns eight hardware addresses by ARP,
- * and forgets each after 20 minutes, also one in use: then an ARP request takes the place of one
- * segment, which TCP sends again after 4 ticks.
+ * If mask or router is 0.0.0.0, it takes every address for one of its network. Neither is checked.
+ * Check a router that a user enters by is_host and is_same_network of examples/text.h; it is not
+ * `own`. The device learns eight hardware addresses by ARP, and forgets each after 20 minutes, also
+ * one in use: then an ARP request takes the place of one segment, which TCP sends again after 4
+ * ticks.
  */
 uip_opened uip_open_ether(uip_device *device, const unsigned char *image, size_t len, const unsigned char own[4],
                           const unsigned char mac[6], const unsigned char mask[4], const unsigned char router[4]);
@@ -448,9 +452,9 @@ uip_opened uip_open_ether(uip_device *device, const unsigned char *image, size_t
  *
  * To change the address or the site:
  *
- *   - If a page asked for it, let its reply be delivered: go on with the loop until uip_needs_ticks is
- *     0, or for six ticks ("To restart or to close" in docs/PAGES.md; restart_if_due of
- *     examples/firmware/pages.c).
+ *   - If a page asked for it, let its reply be delivered: go on with the loop until uip_needs_ticks
+ *     is 0, but for at most six ticks ("To restart or to close" in docs/PAGES.md). Requests still
+ *     arrive: refuse further changes meanwhile.
  *   - Call uip_close and uip_open, or uip_open_ether, between two calls of the loop, as datagrams.c
  *     does. With step.c do it in `work`: uip_close, reset_step, uip_open.
  *   - If opening fails, call `fail`, as section 1 does: the device is closed.
@@ -471,7 +475,9 @@ unsigned uip_close(uip_device *device);
  * XOFF. It is full duplex: both ends send at any time, so not two wires of RS-485. RTS and CTS are
  * not needed. If bytes are lost or damaged, clear the flag of the port and go on: TCP repairs it.
  * If nobody takes the output (a cable is out, a USB host does not read), drop it, so that the loop
- * continues: a sink returns, and dma_is_busy returns 0.
+ * continues: a sink returns; with step.c stop the transfer, and then call on_sent. Each frame of
+ * the output begins and ends with END (0xC0), so a dropped piece costs one frame. If reception may
+ * begin within a frame, after a sleep or when a USB port opens, feed one END first.
  *
  * THE OTHER END is a host, or a gateway to other networks, with an MTU of at most 1,500. A gateway
  * with a smaller MTU clamps the MSS of TCP to its MTU less 40, both ways. The node has no routes:
@@ -494,14 +500,16 @@ unsigned uip_close(uip_device *device);
  *
  * For another port, such as USB CDC or a polled one, write read_serial, dma_send, dma_is_busy and
  * `events` yourself (step.h), in place of port.c. serve runs `work` in each pass: before each piece
- * that it sends, and after each interrupt that adds to `events`, so with port.c after each byte.
- * `work` may make any call but those that send.
+ * that it sends, and whenever `wfi` returns, so with port.c after each byte. `work` may make any
+ * call but those that send. If it has more to do, it adds 1 to `events`: then another pass comes
+ * before the loop sleeps. (A count that is lost to an interrupt does no harm.)
  *
  * RECEIVE WHILE YOU SEND. No call reads the port. While your program sends, an interrupt or a DMA
  * stores in a ring what arrives. If the ring overflows, bytes are lost, and a page comes some
- * seconds later. For a trial take 512 bytes. Between two feeds step.c sends at most 24 pieces.
- * Before each of them `work`, half_a_second_passed and one call run: that is a gap. If the ring is
- * empty before the first gap, no byte is lost with
+ * seconds later. If the port stops its sender while the ring is full (RTS by the ring, the NAK of
+ * USB), any size will do, and for a trial take 512 bytes. Else compute it. Between two feeds step.c
+ * sends at most 24 pieces. Before each of them `work`, half_a_second_passed and one call run: that
+ * is a gap. If the ring is empty before the first gap, no byte is lost with
  *
  *     ring = 6,005 + (bytes that arrive in all 24 gaps) + (with port_dma.c: in the longest sleep)
  *
@@ -511,15 +519,13 @@ unsigned uip_close(uip_device *device);
  *     8,192, port_dma.c, if a clock wakes the loop within 100 ms          89 ms
  *     16,384, port_dma.c (the default), woken within half a second       400 ms
  *
- * A pass takes at most 64 bytes from the ring, so on average let a gap last at most 5.5 ms, in
- * which 64 bytes arrive. With 8,192 bytes one gap may last 40 ms, to erase flash, if the others are
- * short. (The longest sleep is the longest time between two interrupts that add to `events`.) With
- * port.c that needs an interrupt that runs meanwhile: code and vectors in RAM, or in another bank.
- * Peers that go on sending faster than the line carries the replies overflow any ring. If the port
- * stops its sender while the ring is full (RTS by the ring, the NAK of USB), any size will do.
- * Measure your gaps, with your longest page. -DRING=8192, for all files, sets the size; for
- * port_dma.c it is a power of two. "The ring" in the guide has slower rates. Below 38,400 bits a
- * second read "Slow lines", too.
+ * The longest sleep is the longest time between two interrupts that end `wfi`. On average a gap
+ * lasts at most 5.5 ms, in which 64 bytes arrive: step.c takes no more at a time. With 8,192 bytes
+ * one gap may last 40 ms, to erase flash, if the others are short; with port.c the interrupt has to
+ * run meanwhile, so its code and vectors are in RAM or in another bank. Peers that go on sending
+ * faster than the line carries the replies overflow any ring. Measure your gaps, with your longest
+ * page. -DRING=8192, for all files, sets the size; for port_dma.c it is a power of two. "The ring"
+ * in the guide has slower rates. Below 38,400 bits a second read "Slow lines", too.
  */
 
 /* Feeds all bytes to the device, and passes all output to `sink`.
@@ -761,12 +767,13 @@ UIP_INLINE unsigned uip_tick_frames(uip_device *device, unsigned char *frame, si
  *                                                           pages.c, gate_pages.c
  *
  * A browser that follows a link in advance does not run onclick, so it brings no query. A token is
- * a text that your program makes, shows as a value, and compares with the query. It accepts a token
- * once, and only while the state that the page showed is unchanged. In the file the directive of
- * the token is above those of the state. If a late request must not act, the token also expires,
- * after a minute for example. Then each page with that form asks for the present token by a script:
- * else a user who takes longer is refused. gate_pages.c and gate_site do both; pages.c does
- * neither.
+ * a text that your program makes, shows as a value, and compares with the query:
+ *
+ *   - It accepts a token once, and only while the state that the page showed is unchanged.
+ *   - In the file the directive of the token is above those of the state.
+ *   - If a late request must not act, the token also expires, after a minute for example. Then each
+ *     page with that form asks for the present token by a script: else a user who takes longer is
+ *     refused. gate_pages.c and gate_site do both; the token of pages.c does not expire.
  *
  * A browser may also show a stored copy, and send no request. So give each link to a button or to a
  * page with values, and each form, a query that is new each time, here `d`. (A form with a token
@@ -791,8 +798,9 @@ UIP_INLINE unsigned uip_tick_frames(uip_device *device, unsigned char *frame, si
 /* A string literal as two arguments: its text and its length, without the 0 at its end. */
 #define UIP_TEXT(literal) ("" literal), sizeof("" literal) - 1
 
-/* Sets a value that pages show. Before it is set, a value is empty, and also if `len` is 0. Between empty values without text between them the reply pauses until the next tick: give each a
- * byte, such as a space.
+/* Sets a value that pages show. A value is empty before it is set, and if `len` is 0. If several empty
+ * values of a page have no text between them, the reply pauses before each but the first until the
+ * next tick: give each a byte, such as a space.
  *
  *   number       0 to 15
  *   text, len    any bytes; `len` is 0 to UIP_MAX_VALUE. They are copied
@@ -801,8 +809,8 @@ UIP_INLINE unsigned uip_tick_frames(uip_device *device, unsigned char *frame, si
  *
  * The node reads a value of a page when the peer has acknowledged all bytes of the reply that come
  * before the value, the HTTP header included. So if you set a value right after the call that took
- * the request, this reply has it. Exception: a request of another browser comes before that
- * acknowledgement, and you set the value for that one. Then both replies have the newer value. So
+ * the request, this reply has it. Exception: if another browser's request comes before that
+ * acknowledgement, and you set the value for it, both replies show the newer value. So
  * begin a value that answers a request with a tag that the request brought: "Once" in
  * docs/PAGES.md.
  *
@@ -844,7 +852,7 @@ uip_number uip_hits(uip_device *device, const void *name, size_t len);
  *         uip_query_text query = uip_query(&device, UIP_TEXT("/set.html"), text, sizeof text);
  *         seen = hits;
  *         // examples/text.h: number_in, tenths_in, signed_tenths_in, address_in, is_host, text_in,
- *         // token_in, address_text, mask_of
+ *         // token_in, field_in (a tag), is_same_network, mask_of, decimal, tenths_text, address_text
  *         if (query.hit == hits && number_in(text, query.len, "level", &level) && level <= 100)
  *             set_level(level);
  *         else ..                              // no query, one that was not kept, or no such level
@@ -884,12 +892,13 @@ uip_number uip_is_idle(uip_device *device);
  *
  * With step.c, not under an RTOS, do it as sleep.c:
  *
- *   1 In `wfi`, at most each half second, turn interrupts on, call uip_needs_ticks, turn them off, and
- *     return: the loop makes another pass. (The call takes longer than a byte.)
- *   2 In a later `wfi`, if it was 0, nothing was received since, and dma_is_busy() is 0, then nothing
- *     is pending: stop the timer and sleep.
- *   3 After the sleep start the timer again.
+ *   1 In `wfi`, at most each half second, turn interrupts on, call uip_needs_ticks, turn them off,
+ *     and return: the loop makes another pass. (The call takes longer than a byte.)
+ *   2 In a later `wfi`, if it was 0, bytes_received (port.h) has not changed since, and dma_is_busy()
+ *     is 0, then nothing is pending: stop the timer and sleep.
+ *   3 After the sleep start the timer again. Ticks that are made do no harm.
  *
+ * With datagrams or on Ethernet the function that receives may then wait until something arrives.
  * "Sleep" in the guide has more: a receiver that is off, and what Linux sends unasked.
  */
 UIP_INLINE int uip_needs_ticks(uip_device *device);

@@ -159,9 +159,11 @@ void pages_start(void) {
 
 /* The report comes first: a command that was sent by an older page is then refused here. */
 void pages_work(void) {
-    unsigned segments = uip_counter(&device, UIP_TCP_IN).number;
+    unsigned segments = uip_counter(&device, UIP_TCP_IN).number, age;
     look_at_report();
-    if (valid && milliseconds() - token_at >= TOKEN_MS) next_token();
+    age = milliseconds() - token_at;
+    if (valid && age >= 2 * TOKEN_MS) only_new_token();    /* after a sleep: the request that ended it may have this old token */
+    else if (valid && age >= TOKEN_MS) next_token();
     if (segments == segments_seen) return;         /* no request has come */
     segments_seen = segments;
     look_at_command();
