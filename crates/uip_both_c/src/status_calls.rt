@@ -86,8 +86,8 @@ pub extern "C" fn uip_query(
     out: &mut [u8],
 ) -> UipQuery
     ensures known { (result.status ≡ OK) ⊎ (result.status ≡ NO_DEVICE) ⊎ (result.status ≡ BAD_ARGUMENT) }
-    ensures fine { result.status ≡ OK → HasOne BothEther (λ d. let pages = d.node.shared.first in
-        ReadsQuery (query_of (files_of pages.web.site) pages.query name.now) result.hit result.len out.old out.new)
+    ensures fine { result.status ≡ OK → HasOne BothEther (λ d. let it = d.node.shared.first in
+        ReadsQuery (query_of (files_of it.web.site) it.query name.now) result.hit result.len out.old out.new)
         device.old.held.device }
     ensures no_device { result.status ≡ NO_DEVICE → device.old.held.device ≡ None }
     ensures unread { (result.status ≡ OK → ⊥) → (result.hit ≡ 0) × (result.len ≡ 0) × (out.new ≡ out.old) }

@@ -28,11 +28,11 @@ pub struct ValuePages {
 /// Delivers the next bytes from the peer, and counts a hit of the file that they request.
 fn take_piece(pages: &mut CompactPages<ValueCapture>, web: &mut FlashWeb, piece: &[u8])
     ensures site { web.new.site ≡ web.old.site }
-    ensures part { let represented = CompactRepresent words record_text in
-        (p : AppState) → represented pages.old web.old.site p
-        → represented pages.new web.old.site (record p { input = p.input ++ piece.now; polls = 0 }) }
-    ensures hits { let represented = CompactRepresent words record_text in
-        (p : AppState) → represented pages.old web.old.site p
+    ensures part { let shows = CompactRepresent words record_text in
+        (p : AppState) → shows pages.old web.old.site p
+        → shows pages.new web.old.site (record p { input = p.input ++ piece.now; polls = 0 }) }
+    ensures hits { let shows = CompactRepresent words record_text in
+        (p : AppState) → shows pages.old web.old.site p
         → web.new.hits ≡ hits_by (files_of web.old.site) web.old.hits (wanted p.input) (wanted (p.input ++ piece.now)) }
 {
     pages.take_piece(&web.site, &mut web.hits, piece);
@@ -107,14 +107,14 @@ fn keep(query: &mut Query, pages: &CompactPages<ValueCapture>, web: &FlashWeb, r
 fn receive(pages: &mut CompactPages<ValueCapture>, shared: &mut DeviceWeb, piece: &[u8])
     ensures site { shared.new.web.site ≡ shared.old.web.site }
     ensures values { shared.new.values.bytes ≡ shared.old.values.bytes }
-    ensures part { let represented = CompactRepresent words record_text in
-        (p : AppState) → represented pages.old shared.old.web.site p
-        → represented pages.new shared.old.web.site (record p { input = p.input ++ piece.now; polls = 0 }) }
-    ensures hits { let represented = CompactRepresent words record_text in
-        (p : AppState) → represented pages.old shared.old.web.site p → shared.new.web.hits
+    ensures part { let shows = CompactRepresent words record_text in
+        (p : AppState) → shows pages.old shared.old.web.site p
+        → shows pages.new shared.old.web.site (record p { input = p.input ++ piece.now; polls = 0 }) }
+    ensures hits { let shows = CompactRepresent words record_text in
+        (p : AppState) → shows pages.old shared.old.web.site p → shared.new.web.hits
         ≡ hits_by (files_of shared.old.web.site) shared.old.web.hits (wanted p.input) (wanted (p.input ++ piece.now)) }
-    ensures query { let represented = CompactRepresent words record_text in
-        (p : AppState) → represented pages.old shared.old.web.site p → shared.new.query
+    ensures query { let shows = CompactRepresent words record_text in
+        (p : AppState) → shows pages.old shared.old.web.site p → shared.new.query
         ≡ query_after (files_of shared.old.web.site) shared.new.web.hits shared.old.query p.input piece.now }
 {
     let first = is_first(pages);
