@@ -506,26 +506,11 @@ unsigned uip_close(uip_device *device);
  *
  * RECEIVE WHILE YOU SEND. No call reads the port. While your program sends, an interrupt or a DMA
  * stores in a ring what arrives. If the ring overflows, bytes are lost, and a page comes some
- * seconds later. If the port stops its sender while the ring is full (RTS by the ring, the NAK of
- * USB), any size will do, and for a trial take 512 bytes. Else compute it. Between two feeds step.c
- * sends at most 24 pieces. Before each of them `work`, half_a_second_passed and one call run: that
- * is a gap. If the ring is empty before the first gap, no byte is lost with
- *
- *     ring = 6,005 + (bytes that arrive in all 24 gaps) + (with port_dma.c: in the longest sleep)
- *
- *     at 115,200 bits a second                                   all 24 gaps together
- *     6,400 bytes, port.c                                                 34 ms
- *     8,192, port.c (the default)                                        189 ms
- *     8,192, port_dma.c, if a clock wakes the loop within 100 ms          89 ms
- *     16,384, port_dma.c (the default), woken within half a second       400 ms
- *
- * The longest sleep is the longest time between two interrupts that end `wfi`. On average a gap
- * lasts at most 5.5 ms, in which 64 bytes arrive: step.c takes no more at a time. With 8,192 bytes
- * one gap may last 40 ms, to erase flash, if the others are short; with port.c the interrupt has to
- * run meanwhile, so its code and vectors are in RAM or in another bank. Peers that go on sending
- * faster than the line carries the replies overflow any ring. Measure your gaps, with your longest
- * page. -DRING=8192, for all files, sets the size; for port_dma.c it is a power of two. "The ring"
- * in the guide has slower rates. Below 38,400 bits a second read "Slow lines", too.
+ * seconds later. For a trial take 512 bytes. With step.c the defaults suit a line of up to 115,200
+ * bits a second, if `work` is short: 8,192 bytes in port.c, and 16,384 in port_dma.c. -DRING=8192,
+ * for all files, sets the size. "The ring" in the guide computes it, also if RAM is short. It
+ * states how long `work` may take, and what an erasure of flash needs. Below 38,400 bits a second
+ * read "Slow lines", too.
  */
 
 /* Feeds all bytes to the device, and passes all output to `sink`.
@@ -890,16 +875,9 @@ uip_number uip_is_idle(uip_device *device);
  * arrives. That prolongs TIME_WAIT. All new connections have one and the same initial sequence
  * number until the next tick. uip_ticks does not rise, and on Ethernet ARP entries do not age.
  *
- * With step.c, not under an RTOS, do it as sleep.c:
- *
- *   1 In `wfi`, at most each half second, turn interrupts on, call uip_needs_ticks, turn them off,
- *     and return: the loop makes another pass. (The call takes longer than a byte.)
- *   2 In a later `wfi`, if it was 0, bytes_received (port.h) has not changed since, and dma_is_busy()
- *     is 0, then nothing is pending: stop the timer and sleep.
- *   3 After the sleep start the timer again. Ticks that are made do no harm.
- *
- * With datagrams or on Ethernet the function that receives may then wait until something arrives.
- * "Sleep" in the guide has more: a receiver that is off, and what Linux sends unasked.
+ * With step.c take wfi and half_a_second_passed of sleep.c: "Sleep" in the guide explains them.
+ * With datagrams or on Ethernet the function that receives may wait until something arrives.
+ * "Sleep" has more: a receiver that is off, and what Linux sends unasked.
  */
 UIP_INLINE int uip_needs_ticks(uip_device *device);
 
