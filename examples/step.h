@@ -53,7 +53,8 @@ int dma_is_busy(void);                                    /* 1 while the port se
                                                              clock, take the interrupt of the last bit, not of the DMA. If a
                                                              piece may never end, time it in `work`: stop the transfer, so that
                                                              it no longer reads `out`, and then clear the variable, with port.c
-                                                             by on_sent. TCP sends the data again */
+                                                             by on_sent, and drop all pieces until the port takes bytes again.
+                                                             TCP sends the data again */
 void dma_send(const unsigned char *bytes, size_t len);    /* begins to send by DMA or interrupt; `bytes` stay meanwhile. For a
                                                              polled port it waits, and dma_is_busy returns 0 */
 void interrupts_off(void);

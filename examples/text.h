@@ -207,7 +207,7 @@ UIP_INLINE int text_in(const unsigned char *query, size_t len, const char *name,
     return 1;
 }
 
-/* Whether the field NAME=.. is this token, of one byte or more. */
+/* Whether the field NAME=.. is this token, of one byte or more, or a fixed word: token_in(query, len, "c", UIP_TEXT("open")). */
 UIP_INLINE int token_in(const unsigned char *query, size_t len, const char *name, const char *token, size_t token_len) {
     size_t size, k;
     const unsigned char *field = field_in(query, len, name, &size);

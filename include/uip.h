@@ -218,7 +218,7 @@ typedef char uip_needs_unsigned_of_32_bits[sizeof(unsigned) == 4 ? 1 : -1];
  *                                               uip_open  uip_open_ether  uip_close  any other call
  *                     libuip_c.a                   2,208               -      2,832           2,208
  *                     libuip_c_ether.a             6,656           5,616      3,568           2,288
- *                     libuip_c.a of aarch64        1,776           2,144         96           1,856
+ *                     `rt lib` for aarch64         1,776           2,144         96           1,856
  *                 The stack of a sink does not add to these: it runs after the library has returned.
  *                 On Ethernet under an RTOS open before the scheduler starts, on the main stack. A
  *                 task that makes only uip_set_value, uip_hits, uip_query, uip_ticks or uip_counter
@@ -419,7 +419,8 @@ typedef void (*uip_sink)(void *to, const unsigned char *bytes, size_t len);
  *   own           the IPv4 address, first byte first: {10, 0, 0, 1}. It is copied, and not checked:
  *                 pass that of a host. Check one that a user enters by is_host of examples/text.h,
  *                 with the mask {0, 0, 0, 0} on a serial line; nor may it be that of the other end,
- *                 which your program has to know. A wrong one locks the user out: keep a way back
+ *                 which your program has to know, or finds as `peer` of uip_connection. A wrong one
+ *                 locks the user out: keep a way back
  *
  *   Status    UIP_HAS_DEVICE; UIP_BAD_IMAGE or UIP_NO_MEMORY; UIP_OK
  */
@@ -461,11 +462,11 @@ uip_opened uip_open_ether(uip_device *device, const unsigned char *image, size_t
  *   - Set all values again, and set to 0 what your program remembers of uip_hits, uip_query,
  *     uip_ticks and uip_counter: all begin at 0 again.
  *
- * On a serial line the other end needs a route to a new address. In a loop of your own forget a
- * tick that is under way. The port or the controller may go on sending, and bytes may wait in the
- * ring: either end drops the frame that was cut. The ARP table is empty again. On Ethernet under an
- * RTOS do not close, since the task would need the stack of opening (rule 9): store the new
- * address, and reset the processor.
+ * On a serial line the other end needs a route to a new address (browse.py: --node). In a loop of
+ * your own forget a tick that is under way. The port or the controller may go on sending, and bytes
+ * may wait in the ring: either end drops the frame that was cut. The ARP table is empty again. On
+ * Ethernet under an RTOS do not close, since the task would need the stack of opening (rule 9):
+ * store the new address, and reset the processor.
  */
 unsigned uip_close(uip_device *device);
 
@@ -475,9 +476,10 @@ unsigned uip_close(uip_device *device);
  * XOFF. It is full duplex: both ends send at any time, so not two wires of RS-485. RTS and CTS are
  * not needed. If bytes are lost or damaged, clear the flag of the port and go on: TCP repairs it.
  * If nobody takes the output (a cable is out, a USB host does not read), drop it, so that the loop
- * continues: a sink returns; with step.c stop the transfer, and then call on_sent. Each frame of
- * the output begins and ends with END (0xC0), so a dropped piece costs one frame. If reception may
- * begin within a frame, after a sleep or when a USB port opens, feed one END first.
+ * continues: a sink returns, and with step.c dma_is_busy becomes 0 (step.h). Each frame of the
+ * output begins and ends with END (0xC0), so a dropped piece costs one frame. If reception may
+ * begin within a frame, after a sleep or when a USB port opens, an END comes first: with port.c
+ * port_put(0xC0).
  *
  * THE OTHER END is a host, or a gateway to other networks, with an MTU of at most 1,500. A gateway
  * with a smaller MTU clamps the MSS of TCP to its MTU less 40, both ways. The node has no routes:
@@ -499,10 +501,11 @@ unsigned uip_close(uip_device *device);
  *                  to `events`
  *
  * For another port, such as USB CDC or a polled one, write read_serial, dma_send, dma_is_busy and
- * `events` yourself (step.h), in place of port.c. serve runs `work` in each pass: before each piece
- * that it sends, and whenever `wfi` returns, so with port.c after each byte. `work` may make any
- * call but those that send. If it has more to do, it adds 1 to `events`: then another pass comes
- * before the loop sleeps. (A count that is lost to an interrupt does no harm.)
+ * `events` yourself (step.h), in place of port.c: dma_send may drop a piece, and dma_is_busy is
+ * then 0. serve runs `work` in each pass: before each piece that it sends, and whenever `wfi`
+ * returns, so with port.c after each byte. `work` may make any call but those that send. If it has
+ * more to do, it adds 1 to `events`: then another pass comes before the loop sleeps. (A count that
+ * is lost to an interrupt does no harm.)
  *
  * RECEIVE WHILE YOU SEND. No call reads the port. While your program sends, an interrupt or a DMA
  * stores in a ring what arrives. If the ring overflows, bytes are lost, and a page comes some
@@ -794,9 +797,9 @@ UIP_INLINE unsigned uip_tick_frames(uip_device *device, unsigned char *frame, si
  *
  * The node reads a value of a page when the peer has acknowledged all bytes of the reply that come
  * before the value, the HTTP header included. So if you set a value right after the call that took
- * the request, this reply has it. Exception: if another browser's request comes before that
- * acknowledgement, and you set the value for it, both replies show the newer value. So
- * begin a value that answers a request with a tag that the request brought: "Once" in
+ * the request, this reply has it. But a value belongs to the device: if another browser's request
+ * comes before that acknowledgement, and you set the value for it, both replies show the newer one.
+ * So begin a value that answers a request with a tag that the request brought: "Once" in
  * docs/PAGES.md.
  *
  * Each value of a page costs one round trip, often 40 to 200 ms, and two values may be of two
