@@ -219,10 +219,11 @@ typedef char uip_needs_unsigned_of_32_bits[sizeof(unsigned) == 4 ? 1 : -1];
  *                     libuip_c.a                   2,208               -      2,832           2,208
  *                     libuip_c_ether.a             6,656           5,616      3,568           2,288
  *                     `rt lib` for aarch64         1,776           2,144         96           1,856
- *                 The stack of a sink does not add to these: it runs after the library has returned.
- *                 On Ethernet under an RTOS open before the scheduler starts, on the main stack. A
- *                 task that makes only uip_set_value, uip_hits, uip_query, uip_ticks or uip_counter
- *                 needs 296. The figures of x86-64 and WebAssembly are not known.
+ *                 Add your interrupts if they share the stack. The stack of a sink does not add: it
+ *                 runs after the library has returned. On Ethernet under an RTOS open before the
+ *                 scheduler starts, on the main stack. A task that makes only uip_set_value,
+ *                 uip_hits, uip_query, uip_ticks or uip_counter needs 296. The figures of x86-64 and
+ *                 WebAssembly are not known.
  *
  * 10 PROCESSOR    The stack is aligned as the ABI demands. Besides, for each library (m0 is for
  *                 Cortex-M0, M0+ and M3):
@@ -418,9 +419,9 @@ typedef void (*uip_sink)(void *to, const unsigned char *bytes, size_t len);
  *   image, len    the image of the site (rule 6)
  *   own           the IPv4 address, first byte first: {10, 0, 0, 1}. It is copied, and not checked:
  *                 pass that of a host. Check one that a user enters by is_host of examples/text.h,
- *                 with the mask {0, 0, 0, 0} on a serial line; nor may it be that of the other end,
- *                 which your program has to know, or finds as `peer` of uip_connection. A wrong one
- *                 locks the user out: keep a way back
+ *                 with the mask of the network, or {0, 0, 0, 0} on a serial line. It is not that of
+ *                 the other end of the line (which uip_connection shows as `peer`), nor of the
+ *                 router. A wrong one locks the user out: keep a way back
  *
  *   Status    UIP_HAS_DEVICE; UIP_BAD_IMAGE or UIP_NO_MEMORY; UIP_OK
  */
@@ -441,7 +442,7 @@ uip_opened uip_open(uip_device *device, const unsigned char *image, size_t len, 
  * Check a router that a user enters by is_host and is_same_network of examples/text.h; it is not
  * `own`. The device learns eight hardware addresses by ARP, and forgets each after 20 minutes, also
  * one in use: then an ARP request takes the place of one segment, which TCP sends again after 4
- * ticks.
+ * ticks. A ninth takes the place of the oldest. All hosts beyond the router count as one.
  */
 uip_opened uip_open_ether(uip_device *device, const unsigned char *image, size_t len, const unsigned char own[4],
                           const unsigned char mac[6], const unsigned char mask[4], const unsigned char router[4]);
@@ -462,11 +463,11 @@ uip_opened uip_open_ether(uip_device *device, const unsigned char *image, size_t
  *   - Set all values again, and set to 0 what your program remembers of uip_hits, uip_query,
  *     uip_ticks and uip_counter: all begin at 0 again.
  *
- * On a serial line the other end needs a route to a new address (browse.py: --node). In a loop of
- * your own forget a tick that is under way. The port or the controller may go on sending, and bytes
- * may wait in the ring: either end drops the frame that was cut. The ARP table is empty again. On
- * Ethernet under an RTOS do not close, since the task would need the stack of opening (rule 9):
- * store the new address, and reset the processor.
+ * On a serial line the other end needs a route to a new address (browse.py: --node). If your loop
+ * calls uip_periodic slot by slot, begin again with slot 0. The port or the controller may go on
+ * sending, and bytes may wait in the ring: either end drops the frame that was cut. The ARP table
+ * is empty again. On Ethernet under an RTOS do not close, since the task would need the stack of
+ * opening (rule 9): store the new address, and reset the processor.
  */
 unsigned uip_close(uip_device *device);
 
@@ -475,11 +476,11 @@ unsigned uip_close(uip_device *device);
  * The line carries SLIP (RFC 1055, not CSLIP): 8 data bits, no parity, one stop bit, no XON and
  * XOFF. It is full duplex: both ends send at any time, so not two wires of RS-485. RTS and CTS are
  * not needed. If bytes are lost or damaged, clear the flag of the port and go on: TCP repairs it.
- * If nobody takes the output (a cable is out, a USB host does not read), drop it, so that the loop
- * continues: a sink returns, and with step.c dma_is_busy becomes 0 (step.h). Each frame of the
- * output begins and ends with END (0xC0), so a dropped piece costs one frame. If reception may
- * begin within a frame, after a sleep or when a USB port opens, an END comes first: with port.c
- * port_put(0xC0).
+ * (If the error also stopped a circular DMA: on_dma_restarted of port_dma.h.) If nobody takes the
+ * output (a cable is out, a USB host does not read), drop it, so that the loop continues: a sink
+ * returns, and with step.c dma_is_busy becomes 0 (step.h). Each frame of the output begins and ends
+ * with END (0xC0), so a dropped piece costs one frame. If reception may begin within a frame, after
+ * a sleep or when a USB port opens, an END comes first: with port.c port_put(0xC0).
  *
  * THE OTHER END is a host, or a gateway to other networks, with an MTU of at most 1,500. A gateway
  * with a smaller MTU clamps the MSS of TCP to its MTU less 40, both ways. The node has no routes:
@@ -498,7 +499,8 @@ unsigned uip_close(uip_device *device);
  *                  (port_dma.h). The DMA writes dma_ring
  *     you call     serve, in place of a loop of your own. Your interrupts call on_received or on_dma,
  *                  and on_sent; that of a timer, and others that give `work` something to do, add 1
- *                  to `events`
+ *                  to `events`. A clock that ends the sleep anyway need not; then
+ *                  half_a_second_passed may be tick_is_due_at(milliseconds())
  *
  * For another port, such as USB CDC or a polled one, write read_serial, dma_send, dma_is_busy and
  * `events` yourself (step.h), in place of port.c: dma_send may drop a piece, and dma_is_busy is
@@ -677,8 +679,8 @@ UIP_INLINE unsigned uip_tick_datagrams(uip_device *device, unsigned char *out, s
  *   - pads what it sends to 60 bytes
  *   - does not insert checksums of IP, ICMP or TCP: the library has written them. Turn that
  *     function of the controller off; it may check those of what it receives
- *   - may lose frames; it informs the library neither of that, nor of a link that goes down or
- *     comes up.
+ *   - may lose frames. While the link is down it drops what is to be sent: mac_send returns at once,
+ *     and ticks go on. It informs the library of neither.
  *
  * The library needs no alignment of `frame`; a DMA and a cache may. If your driver copies frames,
  * let `frame` be two bytes after a multiple of 4: then the library copies by words. In C11 that is

@@ -45,7 +45,8 @@ void mac_send(void *to, const unsigned char *frame, size_t len);    /* sends a f
 /* sleep.c */
 void timer_start(void);                                   /* the timer of half a second runs again, after timer_stop */
 void timer_stop(void);
-void interrupts_off(void);                                /* Cortex-M: cpsid i, not BASEPRI; RISC-V: csrci mstatus, 8 */
+void interrupts_off(void);                                /* Cortex-M: cpsid i, not BASEPRI; RISC-V: csrci mstatus, 8. As asm
+                                                             volatile, with a "memory" clobber */
 void interrupts_on(void);                                 /* cpsie i; csrsi mstatus, 8 */
 void sleep_until_interrupt(int is_deep);                  /* dsb, wfi; an interrupt ends it that is held back, too. If it is deep,
                                                              all clocks may stop but that of the receiver, and with port_dma.c
