@@ -181,8 +181,8 @@ typedef char uip_needs_unsigned_of_32_bits[sizeof(unsigned) == 4 ? 1 : -1];
  *
  *  1 INIT         Before its first call a device is UIP_INIT, or all 0. If your start-up code does
  *                 not initialise .data and .bss at each reset, set to 0 first: each device,
- *                 heap_used and heap_blocks of heap.c, and the variables of step.c and of port.c or
- *                 port_dma.c. (`slot` of step.c is UIP_SLOTS: call reset_step.)
+ *                 and heap_used and heap_blocks of heap.c. For step.c call reset_step. The variables
+ *                 of port.c and port_dma.c are static: with these files initialise .data and .bss.
  *
  *  2 DEVICE       While a device is open, do not copy it, and do not write its members.
  *
@@ -369,8 +369,9 @@ typedef struct uip_result { unsigned status, pending; size_t consumed, written; 
 /* The result of a call that returns a number. */
 typedef struct uip_number { unsigned status; unsigned number; } uip_number;
 
-/* The result of uip_query, where an example is.
- *   hit    what uip_hits was just after the request that brought the query. 0 if there is no query
+/* The result of uip_query, which has an example.
+ *   hit    the number that uip_hits returned just after the request that brought the query: compare
+ *          it with the present one. 0 if there is no query
  *   len    the length of its text in bytes; it may be 0
  */
 typedef struct uip_query_text { unsigned status; unsigned hit; size_t len; } uip_query_text;
@@ -418,10 +419,10 @@ typedef void (*uip_sink)(void *to, const unsigned char *bytes, size_t len);
  *
  *   image, len    the image of the site (rule 6)
  *   own           the IPv4 address, first byte first: {10, 0, 0, 1}. It is copied, and not checked:
- *                 pass that of a host. Check one that a user enters by is_host of examples/text.h,
- *                 with the mask of the network, or {0, 0, 0, 0} on a serial line. It is not that of
- *                 the other end of the line (which uip_connection shows as `peer`), nor of the
- *                 router. A wrong one locks the user out: keep a way back
+ *                 pass that of a host. If a user enters it, check it by is_host of examples/text.h,
+ *                 with the mask {0, 0, 0, 0}. It must differ from that of the other end of the line
+ *                 (which uip_connection shows as `peer`). A wrong one locks the user out: keep a
+ *                 way back
  *
  *   Status    UIP_HAS_DEVICE; UIP_BAD_IMAGE or UIP_NO_MEMORY; UIP_OK
  */
@@ -430,7 +431,8 @@ uip_opened uip_open(uip_device *device, const unsigned char *image, size_t len, 
 /* Opens a device on Ethernet. All arguments are copied, except the image. Your controller may be started
  * before or after it.
  *
- *   image, len, own    as for uip_open
+ *   image, len         as for uip_open
+ *   own                as for uip_open, but is_host gets `mask`
  *   mac                the hardware address; its first byte is even (it is not checked)
  *   mask               the mask of the network: {255, 255, 255, 0}
  *   router             the address of the router. If there is none, pass {0, 0, 0, 0}
@@ -439,10 +441,12 @@ uip_opened uip_open(uip_device *device, const unsigned char *image, size_t len, 
  *
  * The device announces nothing. It sends frames for addresses outside of its network to the router.
  * If mask or router is 0.0.0.0, it takes every address for one of its network. Neither is checked.
- * Check a router that a user enters by is_host and is_same_network of examples/text.h; it is not
- * `own`. The device learns eight hardware addresses by ARP, and forgets each after 20 minutes, also
- * one in use: then an ARP request takes the place of one segment, which TCP sends again after 4
- * ticks. A ninth takes the place of the oldest. All hosts beyond the router count as one.
+ * If a user enters the router, take 0.0.0.0 for none. Any other one must pass is_host(router, mask)
+ * and is_same_network(router, own, mask) of examples/text.h, and differ from `own`.
+ *
+ * The device learns eight hardware addresses by ARP, and forgets each after 20 minutes, also one in
+ * use: then an ARP request takes the place of one segment, which TCP sends again after 4 ticks. A
+ * ninth takes the place of the oldest. All hosts beyond the router count as one.
  */
 uip_opened uip_open_ether(uip_device *device, const unsigned char *image, size_t len, const unsigned char own[4],
                           const unsigned char mac[6], const unsigned char mask[4], const unsigned char router[4]);
@@ -454,20 +458,24 @@ uip_opened uip_open_ether(uip_device *device, const unsigned char *image, size_t
  *
  * To change the address or the site:
  *
- *   - If a page asked for it, let its reply be delivered: go on with the loop until uip_needs_ticks
- *     is 0, but for at most six ticks ("To restart or to close" in docs/PAGES.md). Requests still
- *     arrive: refuse further changes meanwhile.
+ *   - If a page asked for it, keep the new address aside, and let the reply be delivered: go on with
+ *     the loop until uip_needs_ticks is 0, but for at most six ticks ("To restart or to close" in
+ *     docs/PAGES.md; to ask once in each tick is enough). The reply has a link to the new address.
+ *     Requests still arrive: refuse another change of address or site meanwhile.
  *   - Call uip_close and uip_open, or uip_open_ether, between two calls of the loop, as datagrams.c
  *     does. With step.c do it in `work`: uip_close, reset_step, uip_open.
  *   - If opening fails, call `fail`, as section 1 does: the device is closed.
  *   - Set all values again, and set to 0 what your program remembers of uip_hits, uip_query,
  *     uip_ticks and uip_counter: all begin at 0 again.
  *
- * On a serial line the other end needs a route to a new address (browse.py: --node). If your loop
- * calls uip_periodic slot by slot, begin again with slot 0. The port or the controller may go on
- * sending, and bytes may wait in the ring: either end drops the frame that was cut. The ARP table
- * is empty again. On Ethernet under an RTOS do not close, since the task would need the stack of
- * opening (rule 9): store the new address, and reset the processor.
+ * On any link, if a loop of your own calls uip_periodic slot by slot, forget the tick that is under
+ * way. (reset_step does it.) The port or the controller may go on sending, and bytes may wait in the
+ * ring: either end drops the frame that was cut.
+ *
+ * On a serial line, the other end needs a route to a new address (browse.py: --node).
+ *
+ * On Ethernet, the ARP table is empty again. Under an RTOS do not close, since the task would need
+ * the stack of opening (rule 9): store the new address, and reset the processor.
  */
 unsigned uip_close(uip_device *device);
 
@@ -479,8 +487,9 @@ unsigned uip_close(uip_device *device);
  * (If the error also stopped a circular DMA: on_dma_restarted of port_dma.h.) If nobody takes the
  * output (a cable is out, a USB host does not read), drop it, so that the loop continues: a sink
  * returns, and with step.c dma_is_busy becomes 0 (step.h). Each frame of the output begins and ends
- * with END (0xC0), so a dropped piece costs one frame. If reception may begin within a frame, after
- * a sleep or when a USB port opens, an END comes first: with port.c port_put(0xC0).
+ * with END (0xC0), so a dropped piece costs one frame. After uip_open, reception may begin within a
+ * frame. If the receiver was off later, in a sleep for example, the node may hold the beginning of
+ * another frame: feed one END first (with port.c port_put(0xC0)), else one more frame is lost.
  *
  * THE OTHER END is a host, or a gateway to other networks, with an MTU of at most 1,500. A gateway
  * with a smaller MTU clamps the MSS of TCP to its MTU less 40, both ways. The node has no routes:
@@ -504,18 +513,19 @@ unsigned uip_close(uip_device *device);
  *
  * For another port, such as USB CDC or a polled one, write read_serial, dma_send, dma_is_busy and
  * `events` yourself (step.h), in place of port.c: dma_send may drop a piece, and dma_is_busy is
- * then 0. serve runs `work` in each pass: before each piece that it sends, and whenever `wfi`
- * returns, so with port.c after each byte. `work` may make any call but those that send. If it has
- * more to do, it adds 1 to `events`: then another pass comes before the loop sleeps. (A count that
- * is lost to an interrupt does no harm.)
+ * then 0 ("USB CDC" in the guide). serve runs `work` in each pass: before each piece that it sends,
+ * and whenever `wfi` returns, so with port.c after each byte. `work` may make any call but those
+ * that send. If it has more to do, it adds 1 to `events`: then another pass comes before the loop
+ * sleeps. (A count that is lost to an interrupt does no harm.)
  *
  * RECEIVE WHILE YOU SEND. No call reads the port. While your program sends, an interrupt or a DMA
  * stores in a ring what arrives. If the ring overflows, bytes are lost, and a page comes some
  * seconds later. For a trial take 512 bytes. With step.c the defaults suit a line of up to 115,200
- * bits a second, if `work` is short: 8,192 bytes in port.c, and 16,384 in port_dma.c. -DRING=8192,
- * for all files, sets the size. "The ring" in the guide computes it, also if RAM is short. It
- * states how long `work` may take, and what an erasure of flash needs. Below 38,400 bits a second
- * read "Slow lines", too.
+ * bits a second, if `work` is short: 8,192 bytes in port.c, and 16,384 in port_dma.c, where the loop
+ * may sleep for half a second. If a clock wakes it within 100 ms, 8,192 suffice there, too.
+ * -DRING=8192, for all files, sets the size; with port_dma.c it is a power of two. "The ring" in the
+ * guide computes it, also if RAM is short. It states how long `work` may take, and what an erasure
+ * of flash needs. Below 38,400 bits a second read "Slow lines", too.
  */
 
 /* Feeds all bytes to the device, and passes all output to `sink`.
@@ -763,7 +773,8 @@ UIP_INLINE unsigned uip_tick_frames(uip_device *device, unsigned char *frame, si
  *   - In the file the directive of the token is above those of the state.
  *   - If a late request must not act, the token also expires, after a minute for example. Then each
  *     page with that form asks for the present token by a script: else a user who takes longer is
- *     refused. gate_pages.c and gate_site do both; the token of pages.c does not expire.
+ *     refused. gate_pages.c and gate_site do both; the token of pages.c does not expire. Without an
+ *     RTOS read "A state in an interrupt" in PAGES.md, too.
  *
  * A browser may also show a stored copy, and send no request. So give each link to a button or to a
  * page with values, and each form, a query that is new each time, here `d`. (A form with a token
@@ -808,7 +819,7 @@ UIP_INLINE unsigned uip_tick_frames(uip_device *device, unsigned char *frame, si
  * moments: make one value of what belongs together, as "21.5,45.0". If the node sends a segment
  * again, it has the same bytes, also if the value has changed.
  *
- * examples/text.h writes whole numbers and tenths as text, without the C library.
+ * examples/text.h writes whole numbers from 0, and tenths with their sign, without the C library.
  */
 unsigned uip_set_value(uip_device *device, size_t number, const void *text, size_t len);
 
