@@ -10,9 +10,17 @@
  * or frames, passes them to a call, and sends what the call has written. Each half second it makes
  * a tick, which runs the timers of TCP.
  *
- *   Sections     1 Program        2 Rules          3 Statuses     4 Constants     5 Types
- *                6 Open, close    7 Serial line    8 Datagrams    9 Ethernet
- *               10 Pages         11 State         12 Heap        13 Bodies of inline functions
+ *   Sections     1 Program        2 Rules        3 Statuses        4 Constants        5 Types
+ *                6 Open, close    uip_open, uip_open_ether, uip_close
+ *                7 Serial line    uip_feed_all, uip_tick_all; uip_feed, uip_periodic, uip_drain,
+ *                                 uip_drain_all
+ *                8 Datagrams      uip_input, uip_periodic_datagram, uip_tick_datagrams
+ *                9 Ethernet       uip_input_frame, uip_periodic_frame, uip_tick_frames
+ *               10 Pages          uip_set_value, uip_hits, uip_query
+ *               11 State          uip_ticks, uip_is_idle, uip_needs_ticks, uip_counter,
+ *                                 uip_connection
+ *               12 Heap           UIP_MEMORY, UIP_MEMORY_ETHER, and three functions that you define
+ *               13 Bodies of the inline functions
  *
  *   See also    examples/firmware/    whole programs for each link, also with sleep and an RTOS
  *               docs/FIRMWARE.md      "the guide": builds, targets, flash, stack, rings, DMA, RTOS
@@ -100,7 +108,7 @@ extern "C" {
  *
  *     int main(void) {
  *         static const unsigned char own[4] = {10, 0, 0, 1};          // the address 10.0.0.1
- *         static unsigned char in[42], out[32];                       // 42: see WHEN TO LOOK, section 10
+ *         static unsigned char in[42], out[32];          // 42: a pass takes at most one request (section 10)
  *         unsigned hits, seen = 0;
  *         uip_opened opened = uip_open(&device, site_image, SITE_IMAGE_LEN, own);
  *         unsigned status = opened.status;
@@ -113,7 +121,7 @@ extern "C" {
  *
  *             uip_set_value(&device, 3, UIP_TEXT("21.5"));            // a page shows it: section 10
  *             hits = uip_hits(&device, UIP_TEXT("/on.html")).number;
- *             if (hits != seen) lamp(1);                              // the link was clicked
+ *             if (hits != seen) lamp(1);                              // the file was requested
  *             seen = hits;
  *         }
  *         stop(status);
@@ -213,17 +221,18 @@ typedef char uip_needs_unsigned_of_32_bits[sizeof(unsigned) == 4 ? 1 : -1];
  *                 Header and library are of one version. Do not compile with -fpcc-struct-return or
  *                 -freg-struct-return.
  *
- *  9 STACK        There is room for the stack of each call, below that of its caller. The most on
- *                 any target, in bytes, with examples/heap.c ("Targets" in the guide has each one):
+ *  9 STACK        There is room for the stack of each call, below that of its caller: more than the
+ *                 1 kB of many start-up files. The most on any target, in bytes, with
+ *                 examples/heap.c ("Targets" in the guide has each one):
  *                                               uip_open  uip_open_ether  uip_close  any other call
  *                     libuip_c.a                   2,208               -      2,832           2,208
  *                     libuip_c_ether.a             6,656           5,616      3,568           2,288
  *                     `rt lib` for aarch64         1,776           2,144         96           1,856
  *                 Add your interrupts if they share the stack. The stack of a sink does not add: it
- *                 runs after the library has returned. On Ethernet under an RTOS open before the
- *                 scheduler starts, on the main stack. A task that makes only uip_set_value,
- *                 uip_hits, uip_query, uip_ticks or uip_counter needs 296. The figures of x86-64 and
- *                 WebAssembly are not known.
+ *                 runs after the library has returned. Under an RTOS a device may be opened on the
+ *                 main stack, before the scheduler starts; the task then needs the last column. A
+ *                 task that makes only uip_set_value, uip_hits, uip_query, uip_ticks or uip_counter
+ *                 needs 296. The figures of x86-64 and WebAssembly are not known.
  *
  * 10 PROCESSOR    The stack is aligned as the ABI demands. Besides, for each library (m0 is for
  *                 Cortex-M0, M0+ and M3):
@@ -239,31 +248,28 @@ typedef char uip_needs_unsigned_of_32_bits[sizeof(unsigned) == 4 ? 1 : -1];
  *
  * TIME. No call waits, masks interrupts or needs privilege. No call allocates memory, except
  * opening. An inline function waits if its sink waits. Each call but opening handles at most one
- * datagram. No bound on the time of a call is known. Counted, in instructions on an M4; an M0+
- * takes 1.2 to 3 times as many for these rows ("Time" in the guide has both, and more). On Ethernet
- * the frame began two bytes after a multiple of 4 (section 9).
+ * datagram. No bound on the time of a call is known. Counted, in instructions on an M4 ("Time" in
+ * the guide has more, and those of an M0+, which takes 1.2 to 3 times as many):
  *
  *                                                     serial line    datagrams    Ethernet
- *     a ping of 84 bytes, in all its calls                  4,714        1,722       2,184
- *     a file of one byte, in all its calls                 28,207       18,521      20,385
- *     a tick that sends nothing                             1,830        1,070       1,254
+ *     all calls for a ping of 84 bytes                      4,714        1,722       2,184
+ *     all calls for a file of one byte                     28,207       18,521      20,385
+ *     all calls of a tick that sends nothing                1,830        1,070       1,254
  *     one call that sends 1,460 bytes of a file            16,879       13,263      13,725
  *     one call that sends 1,460 bytes of an .shtml         64,798       61,182      61,644
+ *     the dearest call that was found, `room` 3,002       152,421
+ *     uip_set_value 219; uip_hits 532; uip_query 565; uip_needs_ticks at most 12,310
  *     opening the example site, six files, 2 kB            24,955                   38,761
- *     uip_drain of 256 bytes                                4,899
- *     uip_needs_ticks, at most                             12,310
- *     uip_query, uip_hits (site of six files)             565, 532
- *     uip_set_value, uip_counter                           219, 65
  *
- * The dearest call that we found took 117,394 with a `room` of 256 bytes, for a page of percent
- * signs, and 152,421 with 3,002. Opening takes some 20 more for each byte of an .shtml, and for
- * each file 800 to 16,000 more, by the length of its name.
+ * Opening takes some 20 more for each byte of an .shtml, and for each file 800 to 16,000 more, by
+ * the length of its name. On Ethernet the frame began two bytes after a multiple of 4
+ * (section 9).
  *
  * If there is a watchdog, feed it before opening, in each pass (with step.c in `work`), and in a
- * sink that waits. The watchdog's time-out is longer than the longest sleep. A task with a deadline
- * makes no call, and takes no mutex of the device: it exchanges values and commands with the task
- * that makes the calls, by queues, as gate.c does. "A state in another task" in docs/PAGES.md
- * explains it, and "A state in an interrupt" the same without an RTOS.
+ * sink that waits. Its time-out is longer than the longest sleep. A task with a deadline makes no
+ * call, and takes no mutex of the device. It exchanges values and commands with the task that makes
+ * the calls, by queues: gate.c is an example, and "A state in another task" in docs/PAGES.md
+ * explains it.
  */
 
 /* ---- 3 Statuses --------------------------------------------------------------------------------
@@ -412,70 +418,62 @@ typedef void (*uip_sink)(void *to, const unsigned char *bytes, size_t len);
 #endif
 #endif
 
-/* ---- 6 Open and close -------------------------------------------------------------------------- */
+/* ---- 6 Open and close --------------------------------------------------------------------------
+ *
+ * ADDRESSES THAT A USER ENTERS. The library copies addresses, and checks none. Whenever the address,
+ * the mask or the router changes, check all of them by examples/text.h before you store them:
+ *
+ *   - is_host(own, mask). On a serial line or with datagrams `mask` is {0, 0, 0, 0}.
+ *   - The router is {0, 0, 0, 0}, which is none; or is_host(router, mask),
+ *     is_same_network(router, own, mask), and it differs from `own`.
+ *   - No other host has the address; on a serial line the other end has another one. The node does
+ *     not detect it. A wrong address locks the user out: keep a way back, such as a button that is
+ *     held at the start.
+ *
+ * TO CHANGE THE ADDRESS, store the new one, let the reply be delivered, and reset the processor.
+ * examples/firmware/settings_pages.c does it, with the checks and a way back. Without a reset:
+ * "To restart or to close" in docs/PAGES.md.
+ */
 
 /* Opens a device for a serial line or a link of datagrams. It allocates the memory of the device, and
  * sends nothing. Your port may be started before or after it.
  *
  *   image, len    the image of the site (rule 6)
- *   own           the IPv4 address, first byte first: {10, 0, 0, 1}. It is copied, and not checked:
- *                 pass that of a host. If a user enters it, check it by is_host of examples/text.h,
- *                 with the mask {0, 0, 0, 0}. It must differ from that of the other end of the line
- *                 (which uip_connection shows as `peer`). A wrong one locks the user out: keep a
- *                 way back
+ *   own           the IPv4 address, first byte first: {10, 0, 0, 1}. It is copied
  *
  *   Status    UIP_HAS_DEVICE; UIP_BAD_IMAGE or UIP_NO_MEMORY; UIP_OK
  */
 uip_opened uip_open(uip_device *device, const unsigned char *image, size_t len, const unsigned char own[4]);
 
-/* Opens a device on Ethernet. All arguments are copied, except the image. Your controller may be started
- * before or after it.
+/* Opens a device on Ethernet. It announces nothing. Your controller may be started before or after it.
  *
- *   image, len         as for uip_open
- *   own                as for uip_open, but is_host gets `mask`
- *   mac                the hardware address; its first byte is even (it is not checked)
- *   mask               the mask of the network: {255, 255, 255, 0}
- *   router             the address of the router. If there is none, pass {0, 0, 0, 0}
+ *   image, len    as for uip_open
+ *   own           the IPv4 address. It is copied, and so are the next three
+ *   mac           the hardware address; its first byte is even (it is not checked)
+ *   mask          the mask of the network: {255, 255, 255, 0}
+ *   router        the address of the router. If there is none, pass {0, 0, 0, 0}
  *
  *   Status    as of uip_open
  *
- * The device announces nothing. It sends frames for addresses outside of its network to the router.
- * If mask or router is 0.0.0.0, it takes every address for one of its network. Neither is checked.
- * If a user enters the router, take 0.0.0.0 for none. Any other one must pass is_host(router, mask)
- * and is_same_network(router, own, mask) of examples/text.h, and differ from `own`.
+ * The device sends frames for addresses outside of its network to the router. If mask or router is
+ * 0.0.0.0, it takes every address for one of its network.
  *
- * The device learns eight hardware addresses by ARP, and forgets each after 20 minutes, also one in
- * use: then an ARP request takes the place of one segment, which TCP sends again after 4 ticks. A
- * ninth takes the place of the oldest. All hosts beyond the router count as one.
+ * The device learns eight hardware addresses by ARP. A ninth takes the place of the oldest. All hosts
+ * beyond the router count as one. It forgets each after 20 minutes, also one in use: then an ARP
+ * request takes the place of one segment, which TCP sends again after 4 ticks.
  */
 uip_opened uip_open_ether(uip_device *device, const unsigned char *image, size_t len, const unsigned char own[4],
                           const unsigned char mac[6], const unsigned char mask[4], const unsigned char router[4]);
 
 /* Closes a device and frees its memory. It sends nothing: connections, pending output, values and
- * counts are lost.
+ * counts are lost. On Ethernet the ARP table is lost, too.
  *
  *   Status    UIP_NO_DEVICE; UIP_OK
  *
- * To change the address or the site:
- *
- *   - If a page asked for it, keep the new address aside, and let the reply be delivered: go on with
- *     the loop until uip_needs_ticks is 0, but for at most six ticks ("To restart or to close" in
- *     docs/PAGES.md; to ask once in each tick is enough). The reply has a link to the new address.
- *     Requests still arrive: refuse another change of address or site meanwhile.
- *   - Call uip_close and uip_open, or uip_open_ether, between two calls of the loop, as datagrams.c
- *     does. With step.c do it in `work`: uip_close, reset_step, uip_open.
- *   - If opening fails, call `fail`, as section 1 does: the device is closed.
- *   - Set all values again, and set to 0 what your program remembers of uip_hits, uip_query,
- *     uip_ticks and uip_counter: all begin at 0 again.
- *
- * On any link, if a loop of your own calls uip_periodic slot by slot, forget the tick that is under
- * way. (reset_step does it.) The port or the controller may go on sending, and bytes may wait in the
- * ring: either end drops the frame that was cut.
- *
- * On a serial line, the other end needs a route to a new address (browse.py: --node).
- *
- * On Ethernet, the ARP table is empty again. Under an RTOS do not close, since the task would need
- * the stack of opening (rule 9): store the new address, and reset the processor.
+ * If you open again, set all values again, and set to 0 what your program remembers of uip_hits,
+ * uip_query, uip_ticks and uip_counter: all begin at 0. With step.c call reset_step between the two
+ * calls; a loop of your own forgets the tick that is under way. The port may go on sending and
+ * receiving meanwhile. If opening fails, the device is closed: call `fail`, as section 1 does.
  */
 unsigned uip_close(uip_device *device);
 
@@ -757,40 +755,39 @@ UIP_INLINE unsigned uip_tick_frames(uip_device *device, unsigned char *frame, si
  *
  * A request of / gets /index.html, which is no .shtml: let it lead to one.
  *
- * BUTTONS AND FORMS are files that a browser requests. But it also requests files that nobody
- * clicked: it may follow a link in advance, load a page again, or restore one after days. So take
+ * BUTTONS AND FORMS are files that a browser requests. It also requests files that nobody clicked:
+ * it may follow a link in advance, load a page again, or restore one after days. So take
  *
  *     for an action that                                    take
  *     is harmless at any time (lamp on)                     a link to a file of its own, and uip_hits
- *     needs a click; may come again, even late (set to 5)   a query of a link or a form, and uip_query
- *     must happen once, or not late (open the gate)         the same with a token: "Once" in PAGES.md,
- *                                                           pages.c, gate_pages.c
+ *     needs a click; may come again, even late (set to 5)   a query, and uip_query
+ *     must happen once, or not late (open the gate)         a query with a token, and examples/token.h
  *
- * A browser that follows a link in advance does not run onclick, so it brings no query. A token is
- * a text that your program makes, shows as a value, and compares with the query:
- *
- *   - It accepts a token once, and only while the state that the page showed is unchanged.
- *   - In the file the directive of the token is above those of the state.
- *   - If a late request must not act, the token also expires, after a minute for example. Then each
- *     page with that form asks for the present token by a script: else a user who takes longer is
- *     refused. gate_pages.c and gate_site do both; the token of pages.c does not expire. Without an
- *     RTOS read "A state in an interrupt" in PAGES.md, too.
- *
- * A browser may also show a stored copy, and send no request. So give each link to a button or to a
- * page with values, and each form, a query that is new each time, here `d`. (A form with a token
- * may leave `d` out, as its token is new. Only an old page, sent again, may then show a stored
- * reply.)
+ * A QUERY is made when the user clicks, by a form or in onclick. Never write a query that acts into
+ * the href of a link, as a browser may follow it in advance.
  *
  *     <a href="/on.html" onclick="this.search = Date.now()">on</a>
  *     <form action="/set.html" onsubmit="this.d.value = Date.now()">
  *     <input name="level"> <input type="hidden" name="d"> <button>Set</button></form>
  *
+ * Date.now() makes each request another one. Without it a browser may show a stored copy, and send
+ * no request. A link to a page with values needs it too.
+ *
+ * A TOKEN is a text that a page shows as a value, and sends back in its query. Your program accepts
+ * it once, only while the state that the page showed is unchanged, and for a limited time. In the
+ * file its directive is above those of the state. A page that gets the state by a script gets the
+ * token with it. token.h has the functions, and settings_pages.c is an example. "Once" in PAGES.md
+ * explains both, also for a state that another task or an interrupt keeps.
+ *
  * WHEN TO LOOK at hits and queries: after each request, as a later query replaces the one before.
- * With step.c `work` runs between any two requests. If a pass of your loop takes one datagram, one
- * frame, or at most 42 bytes of a serial line, look once in each pass: it takes at most one
- * request, since the shortest frame with data has 41 bytes and an END. If a pass may take more,
- * look after each uip_feed, uip_input or uip_input_frame, or in the sink of uip_feed_all. While
- * uip_counter(&device, UIP_TCP_IN) does not rise, no request has come, and you need not look.
+ *
+ *   - With step.c `work` runs between any two requests.
+ *   - If a pass of your loop takes one datagram, one frame, or at most 42 bytes of a serial line,
+ *     look once in each pass. It takes at most one request, since the shortest frame with data has
+ *     41 bytes and an END.
+ *   - If a pass may take more, look after each uip_feed, uip_input or uip_input_frame, or in the sink
+ *     of uip_feed_all.
+ *   - While uip_counter(&device, UIP_TCP_IN) does not rise, no request has come.
  *
  * If a segment of a request is lost, the click comes later, by a second or more: a link is no
  * emergency stop.
@@ -799,9 +796,7 @@ UIP_INLINE unsigned uip_tick_frames(uip_device *device, unsigned char *frame, si
 /* A string literal as two arguments: its text and its length, without the 0 at its end. */
 #define UIP_TEXT(literal) ("" literal), sizeof("" literal) - 1
 
-/* Sets a value that pages show. A value is empty before it is set, and if `len` is 0. If several empty
- * values of a page have no text between them, the reply pauses before each but the first until the
- * next tick: give each a byte, such as a space.
+/* Sets a value that pages show. Before it is set, and if `len` is 0, it is empty.
  *
  *   number       0 to 15
  *   text, len    any bytes; `len` is 0 to UIP_MAX_VALUE. They are copied
@@ -809,17 +804,18 @@ UIP_INLINE unsigned uip_tick_frames(uip_device *device, unsigned char *frame, si
  *   Status    UIP_BAD_ARGUMENT (the old value stays); UIP_NO_DEVICE; UIP_OK
  *
  * The node reads a value of a page when the peer has acknowledged all bytes of the reply that come
- * before the value, the HTTP header included. So if you set a value right after the call that took
- * the request, this reply has it. But a value belongs to the device: if another browser's request
- * comes before that acknowledgement, and you set the value for it, both replies show the newer one.
- * So begin a value that answers a request with a tag that the request brought: "Once" in
- * docs/PAGES.md.
+ * before the value, the HTTP header included. From this follows:
  *
- * Each value of a page costs one round trip, often 40 to 200 ms, and two values may be of two
- * moments: make one value of what belongs together, as "21.5,45.0". If the node sends a segment
- * again, it has the same bytes, also if the value has changed.
+ *   - If you set a value right after the call that took the request, this reply has it.
+ *   - Two values of a page may be of two moments, and each costs a round trip, often 40 to 200 ms.
+ *     So make one value of what belongs together, as "21.5,45.0".
+ *   - Two browsers see the same values. If a value answers a request, begin it with a tag that the
+ *     request brought: a later request may have changed it ("Once" in docs/PAGES.md).
+ *   - If two empty values have no text between them, the reply waits for a tick. So give each value
+ *     of a page a byte, such as a space.
+ *   - If the node sends a segment again, it has the same bytes, also if the value has changed.
  *
- * examples/text.h writes whole numbers from 0, and tenths with their sign, without the C library.
+ * examples/text.h writes whole numbers and tenths, with their sign, without the C library.
  */
 unsigned uip_set_value(uip_device *device, size_t number, const void *text, size_t len);
 
@@ -852,8 +848,7 @@ uip_number uip_hits(uip_device *device, const void *name, size_t len);
  *     if (hits != seen) {                      // the file was requested
  *         uip_query_text query = uip_query(&device, UIP_TEXT("/set.html"), text, sizeof text);
  *         seen = hits;
- *         // examples/text.h: number_in, tenths_in, signed_tenths_in, address_in, is_host, text_in,
- *         // token_in, field_in (a tag), is_same_network, mask_of, decimal, tenths_text, address_text
+ *         // examples/text.h: number_in; tenths_in reads 21.5, text_in a name, address_in 10.0.0.1
  *         if (query.hit == hits && number_in(text, query.len, "level", &level) && level <= 100)
  *             set_level(level);
  *         else ..                              // no query, one that was not kept, or no such level
