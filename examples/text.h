@@ -9,7 +9,8 @@
  *     size_t len;
  *     char name[16];
  *     if (number_in(query, got.len, "limit", &limit) && limit <= 100) ..        // 21; tenths_in reads 21.5 as 215, and
- *                                                                               // signed_tenths_in also -5.5 as -55
+ *                                                                               // signed_tenths_in also -5.5 as -55;
+ *                                                                               // signed_number_in reads -21
  *     if (text_in(query, got.len, "name", name, sizeof name, &len)) ..          // 5 bytes of UTF-8
  *
  * SPDX-License-Identifier: MIT OR Apache-2.0
@@ -27,6 +28,13 @@ UIP_INLINE size_t decimal(char *to, unsigned number) {
     do digits[count++] = (char)('0' + number % 10); while (number /= 10);
     while (count) to[len++] = digits[--count];
     return len;
+}
+
+/* The same for a number that may be negative, 11 bytes at most: -12. */
+UIP_INLINE size_t signed_decimal(char *to, int number) {
+    if (number >= 0) return decimal(to, (unsigned)number);
+    to[0] = '-';
+    return 1 + decimal(to + 1, 0u - (unsigned)number);
 }
 
 /* Writes a number of tenths: -55 as -5.5. 12 bytes at most, without a 0 at their end. Returns their number. Two of them fit into a value;
@@ -64,17 +72,34 @@ UIP_INLINE const unsigned char *field_in(const unsigned char *query, size_t len,
     return NULL;
 }
 
-/* Reads the field NAME=DIGITS, of one to nine digits. Returns 0, and changes nothing, if there is none such. */
-UIP_INLINE int number_in(const unsigned char *query, size_t len, const char *name, unsigned *number) {
-    size_t size, k;
+/* Reads a text of one to nine digits. Returns 0, and changes nothing, if it is none such. */
+UIP_INLINE int number_of(const unsigned char *text, size_t size, unsigned *number) {
+    size_t k;
     unsigned sum = 0;
-    const unsigned char *field = field_in(query, len, name, &size);
-    if (!field || size < 1 || size > 9) return 0;
+    if (size < 1 || size > 9) return 0;
     for (k = 0; k < size; k++) {
-        if (digit_of(field[k]) > 9) return 0;
-        sum = sum * 10 + digit_of(field[k]);
+        if (digit_of(text[k]) > 9) return 0;
+        sum = sum * 10 + digit_of(text[k]);
     }
     *number = sum;
+    return 1;
+}
+
+/* Reads the field NAME=DIGITS, of one to nine digits. Returns 0, and changes nothing, if there is none such. */
+UIP_INLINE int number_in(const unsigned char *query, size_t len, const char *name, unsigned *number) {
+    size_t size;
+    const unsigned char *field = field_in(query, len, name, &size);
+    return field ? number_of(field, size, number) : 0;
+}
+
+/* The same for a number that may have the sign - before it: -12. */
+UIP_INLINE int signed_number_in(const unsigned char *query, size_t len, const char *name, int *number) {
+    size_t size;
+    unsigned magnitude;
+    const unsigned char *field = field_in(query, len, name, &size);
+    int is_negative = field && size > 0 && field[0] == '-';
+    if (!field || !number_of(field + is_negative, size - (size_t)is_negative, &magnitude)) return 0;
+    *number = is_negative ? -(int)magnitude : (int)magnitude;
     return 1;
 }
 

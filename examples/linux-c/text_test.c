@@ -72,6 +72,18 @@ static void see_signed_tenths_in(const char *query, int found, int expected) {
     see(is_found == found && tenths == (found ? expected : 7), query);
 }
 
+static void see_signed(int number, const char *expected) {
+    char text[11];
+    size_t len = signed_decimal(text, number);
+    see(len == strlen(expected) && !memcmp(text, expected, len), expected);
+}
+
+static void see_signed_in(const char *query, int found, int expected) {
+    int number = 7;
+    int is_found = signed_number_in((const unsigned char *)query, strlen(query), "limit", &number);
+    see(is_found == found && number == (found ? expected : 7), query);
+}
+
 static void see_token(const char *query, const char *token, int expected) {
     see(token_in((const unsigned char *)query, strlen(query), "n", token, strlen(token)) == expected, query);
 }
@@ -105,6 +117,14 @@ int main(void) {
     see_signed_tenths_in("dose=-99999999", 1, -999999990), see_signed_tenths_in("dose=99999999", 1, 999999990);
     see_signed_tenths_in("dose=-", 0, 0), see_signed_tenths_in("dose=--1", 0, 0), see_signed_tenths_in("dose=", 0, 0);
     see_signed_tenths_in("dose=-.", 0, 0), see_signed_tenths_in("dose=-1.25", 0, 0), see_signed_tenths_in("n=-1", 0, 0);
+    see_signed(0, "0"), see_signed(-1, "-1"), see_signed(12, "12"), see_signed(-12, "-12"), see_signed(-100, "-100");
+    see_signed(INT_MAX, "2147483647"), see_signed(INT_MIN, "-2147483648"), see_signed(INT_MIN + 1, "-2147483647");
+    see_signed_in("limit=-12", 1, -12), see_signed_in("n=1&limit=12", 1, 12), see_signed_in("limit=-0", 1, 0), see_signed_in("limit=0", 1, 0);
+    see_signed_in("limit=-012&n=1", 1, -12), see_signed_in("limit=999999999", 1, 999999999), see_signed_in("limit=-999999999", 1, -999999999);
+    see_signed_in("limit=1000000000", 0, 0), see_signed_in("limit=-1000000000", 0, 0), see_signed_in("limit=-2147483648", 0, 0);
+    see_signed_in("limit=-", 0, 0), see_signed_in("limit=", 0, 0), see_signed_in("limit=--1", 0, 0), see_signed_in("limit=1-", 0, 0);
+    see_signed_in("limit=-&n=1", 0, 0), see_signed_in("limit=+1", 0, 0), see_signed_in("limit=-1.0", 0, 0), see_signed_in("n=-1", 0, 0);
+    see_signed_in("", 0, 0), see_signed_in("limit", 0, 0);
     see_text("name=a", 16, "a"), see_text("n=1&name=caf%C3%A9+x&b=2", 16, "caf\xC3\xA9 x"), see_text("name=", 16, "");
     see_text("name=%41%62", 2, "Ab");
     see_text("name=%4", 16, NULL), see_text("name=%", 16, NULL), see_text("name=%4g", 16, NULL), see_text("name=abc", 2, NULL);
