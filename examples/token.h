@@ -1,6 +1,6 @@
 /*
- * Tokens: a token is a text that a page shows as a value, and that the device accepts once, only while the state that the page showed is
- * unchanged, and not late. docs/PAGES.md has the page and the reasons, in "Once".
+ * Tokens. A token is a text that a page shows as a value. The device accepts it once, only while the state that the page showed is
+ * unchanged, and not late. "Once" in docs/PAGES.md has the page and the reasons.
  *
  *     static struct token_pair token = {.period = 20000};    // valid for 20 to 40 s. All 0: no token yet, and none expires
  *

@@ -46,7 +46,7 @@ def expect(what, pattern, name):
 
 
 def token_now(name):
-    token = re.search(r'name="n" value="([0-9]+-[0-9]+)"', page(name))
+    token = re.search(r'name="n" value="([0-9a-f]{16})"', page(name))
     if not token:
         sys.exit("client.py: there is no token")
     return token.group(1)

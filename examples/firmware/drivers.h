@@ -9,7 +9,7 @@
 
 #include <stddef.h>
 
-/* All programs; gate.c has no lamp, no temperature and no start_number */
+/* All programs; gate.c and settings_pages.c have no lamp, no temperature and no start_number */
 void board_start(void);                                   /* starts clock, sensor, and port or controller */
 void lamp(unsigned percent);                              /* its brightness, 0 to 100 */
 int temperature(void);                                    /* in tenths of a degree: -55 is -5.5 */
@@ -52,11 +52,27 @@ void sleep_until_interrupt(int is_deep);                  /* dsb, wfi; an interr
                                                              all clocks may stop but that of the receiver, and with port_dma.c
                                                              those of its DMA and memory */
 
-/* gate.c */
+/* gate.c and settings_pages.c */
 unsigned random_bits(void);                               /* 32 bits of a true random generator, such as that of the processor. If it
                                                              fails, reset: no number may come again after a start */
+
+/* gate.c */
 void gate_motor(int direction);                           /* 1 opens, -1 closes, 0 stops */
 int gate_position(void);                                  /* in tenths of a per cent: 0 is closed, 1000 is open */
 int gate_is_blocked(void);
+
+/* settings_pages.c
+ *
+ * If the power fails in store_settings, load_settings loads the old addresses or the new ones, whole. So take two sectors of flash.
+ * store_settings erases the one that has not the newest record, writes a record there, and reads it again. A record has the addresses, a
+ * count and a checksum. The newest one with a right checksum counts.
+ *
+ * An erasure may take a second: the node then misses frames, and TCP repairs it. If there is a watchdog, store_settings feeds it.
+ */
+struct addresses;                                         /* pages.h */
+int store_settings(const struct addresses *from);         /* returns 0 if it failed: then load_settings loads the old ones */
+int load_settings(struct addresses *to);                  /* those that were stored last. Returns 0, and changes nothing, if there are
+                                                             none */
+int button_is_held(void);                                 /* a button or a jumper that asks for the usual addresses, at the start */
 
 #endif

@@ -14,12 +14,13 @@
 uip_device device = UIP_INIT;
 
 int main(void) {
-    static const unsigned char own[4] = {10, 0, 0, 1}, mask[4] = {255, 255, 255, 0}, router[4] = {10, 0, 0, 254};
+    static const struct addresses usual = {{10, 0, 0, 1}, {255, 255, 255, 0}, {10, 0, 0, 254}};    /* own, mask, router */
     static unsigned char frame[UIP_MAX_FRAME];
-    uip_opened opened = uip_open_ether(&device, site_image, SITE_IMAGE_LEN, own, mac, mask, router);
+    board_start();
+    struct addresses at = pages_addresses(usual);          /* `usual`, unless a page can set them: settings_pages.c */
+    uip_opened opened = uip_open_ether(&device, site_image, SITE_IMAGE_LEN, at.own, mac, at.mask, at.router);
     unsigned status = opened.status;
     if (status != UIP_OK) fail(status, opened.entry, opened.word);
-    board_start();
     pages_start();
     while (status == UIP_OK) {                 /* nothing that arrives ends this loop */
         size_t len = mac_receive(frame, sizeof frame);

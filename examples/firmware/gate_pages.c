@@ -22,48 +22,27 @@
 #include "pages.h"
 #include "drivers.h"
 #include "gate.h"
-#include "../text.h"
+#include "../token.h"
 
 enum { TOKEN = 1, OUTCOME = 2, GATE = 3 };     /* values, in the order in which pages show them */
-enum { TOKEN_LEN = 16, TAG_LEN = 8 };          /* a tag of 1 to 8 characters */
+enum { TAG_LEN = 8 };                          /* a tag of 1 to 8 characters */
 #ifndef TOKEN_MS
-#define TOKEN_MS 20000                         /* half of the longest time that a token is valid, in milliseconds */
+#define TOKEN_MS 20000                         /* a token is valid for this time to twice as long, in milliseconds */
 #endif
 
 struct outcome { char tag[TAG_LEN]; size_t tag_len; const char *word; };    /* the word has at most 8 characters; of `last_refused` 4 */
 
 static struct report now;                      /* the last one: the pages show its state. Its `changes` are 0 before the first */
 static unsigned sent;                          /* the number of the last command; 0 before the first */
-static char tokens[2][TOKEN_LEN];              /* the one that pages show, and the one before it */
-static unsigned valid;                         /* how many of them belong to the present state */
-static unsigned token_at;                      /* when the last new token was drawn. Not in ticks: a device that sleeps leaves them out */
+static struct token_pair token = {.period = TOKEN_MS};
 static struct outcome last_sent = {"-", 1, "none"}, last_refused = {"-", 1, "none"};
 static unsigned segments_seen, hits_seen;
 
-/* Draws a new token. The one before it stays valid, if it belongs to the present state, until the next is drawn. */
-static void next_token(void) {
-    unsigned k, bits = 0;
-    memcpy(tokens[1], tokens[0], TOKEN_LEN);
-    for (k = 0; k < TOKEN_LEN; k++, bits >>= 4) {
-        if (k % 8 == 0) bits = random_bits();
-        tokens[0][k] = "0123456789abcdef"[bits % 16];
-    }
-    valid = valid ? 2 : 1;
-    token_at = milliseconds();
-    uip_set_value(&device, TOKEN, tokens[0], TOKEN_LEN);
-}
-
-/* After the state has changed, or a token was used: no older token is valid. */
-static void only_new_token(void) {
-    valid = 0;
-    next_token();
-}
-
-static int has_token(const unsigned char *query, size_t len) {
-    unsigned k;
-    for (k = 0; k < valid; k++)
-        if (token_in(query, len, "n", tokens[k], TOKEN_LEN)) return 1;
-    return 0;
+/* Before the first report there is no token, so no command is taken. The time is not in ticks: a device that sleeps leaves them out. */
+static void show_token(void) {
+    if (now.changes == 0 || !token_is_due(&token, milliseconds())) return;
+    token_draw(&token, milliseconds(), random_bits(), random_bits());
+    uip_set_value(&device, TOKEN, token.text, TOKEN_LEN);
 }
 
 static size_t add(char *to, const char *text, size_t len) {
@@ -95,7 +74,7 @@ static void look_at_report(void) {
     static const char *const words[] = {"accepted", "changed", "cannot"};
     unsigned changes = now.changes, answered = now.answered;
     if (!queue_get(reports, &now, 0)) return;
-    if (now.changes != changes) only_new_token();
+    if (now.changes != changes) token_end(&token);
     show_gate();
     if (now.answered == answered) return;
     last_sent.word = words[now.answer];
@@ -125,8 +104,7 @@ static int order_in(const unsigned char *query, size_t len, unsigned *order) {
  */
 static const char *send_command(const unsigned char *query, size_t len) {
     struct command command;
-    if (!has_token(query, len)) return "old";
-    only_new_token();
+    if (!token_take(&token, milliseconds(), query, len, "n")) return "old";
     if (!order_in(query, len, &command.order)) return "bad";
     command.number = sent + 1;
     command.shown = now.changes;
@@ -148,23 +126,22 @@ static void look_at_command(void) {
     else note(&last_sent, text, len, "sent");
 }
 
-/* Before the first report there is no token, so no command is taken. */
 void pages_start(void) {
     segments_seen = hits_seen = 0;
     show_outcomes();
     if (now.changes == 0) return;
-    only_new_token();
     show_gate();
+    token_end(&token);
+    show_token();
 }
 
 /* The report comes first: a command that was sent by an older page is then refused here. */
 void pages_work(void) {
-    unsigned segments = uip_counter(&device, UIP_TCP_IN).number, age;
+    unsigned segments = uip_counter(&device, UIP_TCP_IN).number;
     look_at_report();
-    age = milliseconds() - token_at;
-    if (valid && age >= 2 * TOKEN_MS) only_new_token();    /* after a sleep: the request that ended it may have this old token */
-    else if (valid && age >= TOKEN_MS) next_token();
-    if (segments == segments_seen) return;         /* no request has come */
-    segments_seen = segments;
-    look_at_command();
+    if (segments != segments_seen) {               /* else no request has come */
+        segments_seen = segments;
+        look_at_command();
+    }
+    show_token();
 }

@@ -9,7 +9,7 @@
  */
 #include "pages.h"
 #include "drivers.h"
-#include "../text.h"
+#include "../token.h"
 
 enum { TEMPERATURE = 3, LAMP = 4, BRIGHTNESS = 5, TOKEN = 6, RESTART = 8 };    /* values: `%! value-html 3` in a page shows the temperature */
 
@@ -18,8 +18,7 @@ static unsigned hits_on, hits_off;                 /* how often the two buttons 
 static int is_on;
 static unsigned brightness = 100;                  /* of the lamp that is on, 0 to 100 */
 static unsigned hits_set, hits_restart;            /* how often each form had been sent at the last look */
-static char token[UIP_MAX_VALUE];
-static size_t token_len;
+static struct token_pair token;                    /* its period is 0: it does not expire, and the time has no effect */
 static int is_restarting;
 static unsigned restart_at;                        /* a number of ticks */
 
@@ -32,12 +31,11 @@ static void switch_lamp(int on) {
 }
 
 /* A token is the number of the start and a count, so that none is ever used twice. */
-static void new_token(void) {
+static void show_token(void) {
     static unsigned count;
-    token_len = decimal(token, start_number());
-    token[token_len++] = '-';
-    token_len += decimal(token + token_len, count++);
-    uip_set_value(&device, TOKEN, token, token_len);
+    if (!token_is_due(&token, 0)) return;
+    token_draw(&token, 0, start_number(), count++);
+    uip_set_value(&device, TOKEN, token.text, TOKEN_LEN);
 }
 
 /* A link is a button: its file was requested if the count of its hits has risen. */
@@ -71,8 +69,7 @@ static void look_at_restart(void) {
     if (hits == hits_restart) return;
     uip_query_text query = uip_query(&device, UIP_TEXT("/restart.shtml"), text, sizeof text);
     hits_restart = hits;
-    if (query.hit == hits && token_in(text, query.len, "n", token, token_len)) {
-        new_token();
+    if (query.hit == hits && token_take(&token, 0, text, query.len, "n")) {
         is_restarting = 1;
         restart_at = uip_ticks(&device).number + 6;
         uip_set_value(&device, RESTART, UIP_TEXT("The device starts again."));
@@ -91,11 +88,14 @@ static void look_at_temperature(void) {
     uip_set_value(&device, TEMPERATURE, text, tenths_text(text, temperature()));
 }
 
+struct addresses pages_addresses(struct addresses usual) { return usual; }
+
 void pages_start(void) {
     segments_seen = hits_on = hits_off = hits_set = hits_restart = 0;
     is_restarting = 0;
     switch_lamp(is_on);
-    new_token();
+    token_end(&token);
+    show_token();
     look_at_temperature();
 }
 
@@ -108,5 +108,6 @@ void pages_work(void) {
         look_at_brightness();
         look_at_restart();
     }
+    show_token();
     restart_if_due();
 }

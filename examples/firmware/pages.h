@@ -1,4 +1,4 @@
-/* What the device does with its pages: see pages.c. */
+/* What the device does with its pages: see pages.c, or settings_pages.c. */
 #ifndef PAGES_H
 #define PAGES_H
 
@@ -6,6 +6,9 @@
 
 extern uip_device device;
 
+struct addresses { unsigned char own[4], mask[4], router[4]; };    /* on Ethernet; a router of 0.0.0.0 is none */
+
+struct addresses pages_addresses(struct addresses usual);    /* ether.c, before it opens the device: those that a page has set, or `usual` */
 void pages_start(void);   /* after the device was opened, also if it is opened again: sets all values */
 void pages_work(void);    /* in each pass of the main loop: sets values, and handles clicks and forms. It does not wait */
 

@@ -328,9 +328,18 @@ void start_tasks(void (*first)(void *), void (*second)(void *)) {
 }
 
 #endif
-#ifdef PC_GATE
+#if defined(PC_GATE) || defined(PC_SETTINGS)
 
 #include <sys/random.h>
+
+unsigned random_bits(void) {
+    unsigned bits;
+    if (getrandom(&bits, sizeof bits, 0) != sizeof bits) exit(2);
+    return bits;
+}
+
+#endif
+#ifdef PC_GATE
 
 struct queue {
     pthread_mutex_t lock;
@@ -377,12 +386,6 @@ int queue_get(queue from, void *item, unsigned limit) {
     from->is_full = 0;
     pthread_mutex_unlock(&from->lock);
     return has_item;
-}
-
-unsigned random_bits(void) {
-    unsigned bits;
-    if (getrandom(&bits, sizeof bits, 0) != sizeof bits) exit(2);
-    return bits;
 }
 
 /* gate.py is the gate, and holds the tasks: it writes these files in the present folder. If there is none, the number is `other`. */
@@ -437,6 +440,45 @@ static size_t frame_again(unsigned char *frame) {
     memcpy(frame, last_frame, len);
     last_len = 0;
     return len;
+}
+
+#endif
+#ifdef PC_SETTINGS
+
+/* settings_pages.c, with ether.c and PC_ETHER. settings.py holds the button by the file `button`, and wears the flash out by the file
+ * `worn`. The record is the file `settings`.
+ */
+#include "pages.h"
+
+struct record { struct addresses at; unsigned sum; };
+
+int button_is_held(void) { return access("button", F_OK) == 0; }
+
+static unsigned sum_of(const struct addresses *at) {
+    unsigned k, sum = 1;
+    for (k = 0; k < sizeof *at; k++) sum = sum * 31 + ((const unsigned char *)at)[k];
+    return sum;
+}
+
+int load_settings(struct addresses *to) {
+    struct record record;
+    FILE *from = fopen("settings", "r");
+    int is_whole = from && fread(&record, sizeof record, 1, from) == 1 && record.sum == sum_of(&record.at);
+    if (from) fclose(from);
+    if (is_whole) *to = record.at;
+    return is_whole;
+}
+
+/* `rename` keeps the old file or has the new one, whole. */
+int store_settings(const struct addresses *from) {
+    struct record record = {*from, sum_of(from)};
+    if (access("worn", F_OK) == 0) return 0;
+    FILE *to = fopen("settings.new", "w");
+    int is_written = to && fwrite(&record, sizeof record, 1, to) == 1 && fflush(to) == 0 && fsync(fileno(to)) == 0;
+    if (to) fclose(to);
+    if (!is_written || rename("settings.new", "settings") != 0) return 0;
+    report("stored, with the last byte", from->own[3]);
+    return 1;
 }
 
 #endif

@@ -1,6 +1,6 @@
 #!/bin/sh
 # Builds the programs of this folder for this machine, with its input and output in the place of a board's (pc.c), and uses their pages
-# by Linux's own TCP: buttons, a form, a restart, and a gate whose button acts once.
+# by Linux's own TCP: buttons, a form, a restart, a gate whose button acts once, and a page that changes the address.
 #
 #     sh examples/firmware/run.sh
 #
@@ -21,6 +21,7 @@ if [ "$1" = inside ]; then
     ip link set lo up && ip tuntap add dev ${kind}0 mode $kind && ip link set ${kind}0 up && ip addr add 10.0.0.2/24 dev ${kind}0 ||
         fail "no ${kind}0 was made"
     [ "$2" != gate ] || exec python3 "$here/gate.py" "$out/gate" "$out/gate.log"
+    [ "$2" != settings ] || { ip addr add 192.168.7.1/24 dev tap0 && exec python3 "$here/settings.py" "$out/settings" "$out/settings.log"; }
     "$out/$2" 2>"$out/$2.log" &
     python3 "$here/client.py" "$3" || exit 1
     wait $! || fail "$2 did not end with 0: $(tail -1 "$out/$2.log")"
@@ -42,6 +43,9 @@ python3 "$top/tools/pack.py" "$here/gate_site" "$out/gate_site/site.c" /state.sh
 for name in gate gate_pages gate_control; do
     "$cc" $strict -fsyntax-only -I"$top/include" -I"$out/gate_site" "$here/$name.c" || fail "$name.c does not compile"
 done
+mkdir -p "$out/settings_site"
+python3 "$top/tools/pack.py" "$here/settings_site" "$out/settings_site/site.c" || fail "the site of the settings was not packed"
+"$cc" $strict -fsyntax-only -I"$top/include" "$here/settings_pages.c" || fail "settings_pages.c does not compile"
 [ -f "$library" ] || skip "library at $library: run rt lib in crates/uip_c"
 # build NAME KIND WORDS: a program of this folder, with further files.
 build() {
@@ -58,6 +62,8 @@ build ether PC_ETHER
 build rtos PC_RTOS
 "$cc" -std=gnu11 -O2 -Wall -Wextra -Werror -DPC_RTOS -DPC_GATE -DTOKEN_MS=5000 -pthread -I"$top/include" -I"$out/gate_site" "$here/gate.c" \
     "$here/gate_pages.c" "$here/gate_control.c" "$here/pc.c" "$library" -o "$out/gate" || fail "gate was not built"
+"$cc" -std=gnu11 -O2 -Wall -Wextra -Werror -DPC_ETHER -DPC_SETTINGS -DTOKEN_MS=2000 -pthread -I"$top/include" -I"$out/settings_site" \
+    "$here/ether.c" "$here/settings_pages.c" "$here/pc.c" "$library" -o "$out/settings" || fail "settings was not built"
 
 for command in ip unshare; do command -v $command >/dev/null || skip "command $command"; done
 [ -w /dev/net/tun ] || skip "/dev/net/tun that can be opened"
@@ -82,3 +88,5 @@ for name in datagrams ether rtos; do
 done
 unshare -rn sh "$0" inside gate >"$out/gate.told" 2>&1 || fail "gate: $(cat "$out/gate.told")"
 echo "gate: $(grep -a 'acted once' "$out/gate.told")"
+unshare -rn sh "$0" inside settings >"$out/settings.told" 2>&1 || fail "settings: $(cat "$out/settings.told")"
+echo "settings: $(grep -a 'address' "$out/settings.told")"
