@@ -69,12 +69,14 @@ page() {
 }
 
 examples() {
-    put examples examples/browse.py examples/heap.c examples/step.c examples/step.h examples/text.h examples/ticks.h
+    put examples examples/browse.py examples/heap.c examples/step.c examples/step.h examples/text.h examples/ticks.h \
+        examples/token.h
     put tools tools/pack.py
     put examples/site examples/site/*
     put examples/firmware examples/firmware/*.[ch]
     put examples/firmware/site examples/firmware/site/*
     put examples/firmware/gate_site examples/firmware/gate_site/*
+    put examples/firmware/settings_site examples/firmware/settings_site/*
     put examples/common examples/board/main.c examples/board/state.c examples/board/ether.c examples/board/app.c examples/board/both.c \
         examples/board/answer.c examples/board/answer.h examples/board/alarm.h examples/board/board.h examples/board/ring.h \
         examples/board/ring.c examples/board/runtime.c examples/board/site.S examples/board/link.ld \

@@ -20,7 +20,7 @@ static unsigned brightness = 100;                  /* of the lamp that is on, 0 
 static unsigned hits_set, hits_restart;            /* how often each form had been sent at the last look */
 static struct token_pair token;                    /* its period is 0: it does not expire, and the time has no effect */
 static int is_restarting;
-static unsigned restart_at;                        /* a number of ticks */
+static unsigned asked_at;                          /* the number of ticks when the restart was asked for */
 
 static void switch_lamp(int on) {
     char text[UIP_MAX_VALUE];
@@ -71,7 +71,7 @@ static void look_at_restart(void) {
     hits_restart = hits;
     if (query.hit == hits && token_take(&token, 0, text, query.len, "n")) {
         is_restarting = 1;
-        restart_at = uip_ticks(&device).number + 6;
+        asked_at = uip_ticks(&device).number;
         uip_set_value(&device, RESTART, UIP_TEXT("The device starts again."));
     } else if (!is_restarting) {
         uip_set_value(&device, RESTART, UIP_TEXT("The page was old."));
@@ -80,7 +80,7 @@ static void look_at_restart(void) {
 
 static void restart_if_due(void) {
     if (!is_restarting) return;
-    if (uip_ticks(&device).number == restart_at || !uip_needs_ticks(&device)) stop(UIP_OK);
+    if (uip_ticks(&device).number - asked_at >= 6 || !uip_needs_ticks(&device)) stop(UIP_OK);
 }
 
 static void look_at_temperature(void) {

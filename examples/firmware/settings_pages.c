@@ -29,7 +29,7 @@ static struct addresses present;               /* those with which the device wa
 static struct token_pair token = {.period = TOKEN_MS};
 static unsigned segments_seen, hits_seen;
 static int is_restarting;
-static unsigned restart_at;                    /* a number of ticks */
+static unsigned asked_at;                      /* the number of ticks when the restart was asked for */
 
 static void show_token(void) {
     if (!token_is_due(&token, milliseconds())) return;
@@ -102,13 +102,13 @@ static void look_at_form(void) {
     show_address(LINK, refused ? present.own : to.own);
     if (refused) return;
     is_restarting = 1;
-    restart_at = uip_ticks(&device).number + 6;
+    asked_at = uip_ticks(&device).number;
 }
 
 /* So that the reply is delivered, the restart comes when it is, or after six ticks. */
 static void restart_if_due(void) {
     if (!is_restarting) return;
-    if (uip_ticks(&device).number == restart_at || !uip_needs_ticks(&device)) stop(UIP_OK);
+    if (uip_ticks(&device).number - asked_at >= 6 || !uip_needs_ticks(&device)) stop(UIP_OK);
 }
 
 /* If nothing was stored, load_settings leaves the usual ones. */
