@@ -33,24 +33,72 @@ size_t datagram_receive(unsigned char *bytes, size_t room);    /* copies a recei
                                                                   is none. It drops a longer one. It may wait, at most 20 ms */
 void datagram_send(void *to, const unsigned char *bytes, size_t len);    /* sends a datagram; it may wait, or drop it */
 
-/* ether.c, rtos.c and gate.c */
+/* ether.c, ether_dma.c, rtos.c and gate.c */
 extern const unsigned char mac[6];                        /* the hardware address */
+
+/* ether.c, rtos.c and gate.c */
 size_t mac_receive(unsigned char *frame, size_t room);    /* copies a received frame, and returns its length, or 0 if there is
                                                              none. It may wait for one, at most 20 ms */
 void mac_send(void *to, const unsigned char *frame, size_t len);    /* sends a frame, padded to 60 bytes. When it returns,
                                                                        `frame` is no longer used */
 
+/* ether_dma.c
+ *
+ * No function waits or fails. The main loop alone calls them, and no interrupt touches a buffer, a descriptor or a list of buffers.
+ *
+ * BUFFERS. Some, such as eight, are for the receive ring, and one or two are spare. While a reply is sent, its buffer is missing in the
+ * ring. If the ring is empty, the controller drops what arrives, and TCP repairs it. The transmit ring has a descriptor for each buffer
+ * of both kinds: then it is never full.
+ *
+ * SENT BUFFERS. mac_take_received and mac_take_spare first look which frames are sent, and which are dropped. A receive buffer returns
+ * to the receive ring, as by mac_give_back, and a spare one is free. If the controller stopped because the ring was empty, restart it.
+ *
+ * LINK. While it is down, mac_reply and mac_send_spare drop the frame, and the buffer returns at once. When the link goes down, stop the
+ * transmit DMA, and take back the buffers of all its descriptors: a reply that is never sent keeps its buffer from the ring.
+ *
+ * CACHE. If the core has a data cache, each buffer begins at a multiple of its line and fills whole lines (32 bytes on a Cortex-M7).
+ * Invalidate: discard lines without writing them. Clean: write them to memory. The functions below have when to do which.
+ *
+ * BARRIERS. DMB after a descriptor shows that the DMA has finished, before the buffer is used or passed on. DMB after the buffer and the
+ * other words of a descriptor are written, before the word that gives it to the DMA. DSB after that word, before a register starts
+ * the DMA.
+ */
+#define MAC_ROOM 1536                                     /* bytes from the start of a frame to the end of its buffer: UIP_MAX_FRAME or
+                                                             more, and 4 for the check sequence if the DMA writes it. If frames
+                                                             begin two bytes after the start of the buffer, 1534 */
+unsigned char *mac_take_received(size_t *len);            /* the oldest received frame and its length without the check sequence, or
+                                                             NULL if there is none. The caller owns the buffer, all MAC_ROOM bytes,
+                                                             until mac_reply or mac_give_back. The driver itself puts back into the
+                                                             ring what is damaged, in several buffers, or longer than MAC_ROOM: it
+                                                             would end the loop. Invalidates the buffer again, since the core may
+                                                             have read ahead while the DMA wrote */
+void mac_reply(unsigned char *received, size_t len);      /* begins to send the first `len` bytes of a buffer of mac_take_received,
+                                                             padded to 60 with 0, and the check sequence. The driver owns the buffer:
+                                                             when the frame is sent, it returns to the ring. Cleans what is sent */
+void mac_give_back(unsigned char *received);              /* returns a buffer of mac_take_received to the ring, unsent. The driver owns
+                                                             it. Invalidates it whole: the library may have written anywhere in it,
+                                                             and a line that is written back later would destroy the next frame */
+unsigned char *mac_take_spare(void);                      /* a free spare buffer, or NULL if all are being sent. The caller owns it, all
+                                                             MAC_ROOM bytes with any contents, until mac_send_spare */
+void mac_send_spare(unsigned char *spare, size_t len);    /* sends from a buffer of mac_take_spare, as mac_reply does. The driver owns
+                                                             the buffer: when the frame is sent, it is free */
+extern volatile unsigned events;                          /* of the program. The interrupts of the controller, for a received frame and
+                                                             for a sent one, clear their flag and add 1, and do nothing else */
+
 /* sleep.c and rtos_serial.c: what port.h lists, too */
 
-/* sleep.c */
-void timer_start(void);                                   /* the timer of half a second runs again, after timer_stop */
-void timer_stop(void);
+/* sleep.c and ether_dma.c */
 void interrupts_off(void);                                /* Cortex-M: cpsid i, not BASEPRI; RISC-V: csrci mstatus, 8. As asm
                                                              volatile, with a "memory" clobber */
 void interrupts_on(void);                                 /* cpsie i; csrsi mstatus, 8 */
 void sleep_until_interrupt(int is_deep);                  /* dsb, wfi; an interrupt ends it that is held back, too. If it is deep,
                                                              all clocks may stop but that of the receiver, and with port_dma.c
-                                                             those of its DMA and memory */
+                                                             those of its DMA and memory. ether_dma.c sleeps only lightly, and needs
+                                                             a clock, such as that of `milliseconds`, that ends each sleep in 20 ms */
+
+/* sleep.c */
+void timer_start(void);                                   /* the timer of half a second runs again, after timer_stop */
+void timer_stop(void);
 
 /* gate.c and settings_pages.c */
 unsigned random_bits(void);                               /* 32 bits of a true random generator, such as that of the processor. If it

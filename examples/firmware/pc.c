@@ -1,8 +1,8 @@
 /*
  * The drivers of this folder on a PC, so that its programs can be tried and tested: standard input and output in the place of a
  * serial port, threads in the place of interrupts and tasks, and an interface of Linux in the place of an Ethernet controller (tap0)
- * or a link of datagrams (tun0). PC_SERIAL, PC_SLEEP, PC_RTOS_SERIAL, PC_DATAGRAMS, PC_ETHER or PC_RTOS names the program; gate.c has
- * PC_RTOS and PC_GATE.
+ * or a link of datagrams (tun0). PC_SERIAL, PC_SLEEP, PC_RTOS_SERIAL, PC_DATAGRAMS, PC_ETHER, PC_ETHER_DMA or PC_RTOS names the program;
+ * gate.c has PC_RTOS and PC_GATE.
  *
  * SPDX-License-Identifier: MIT OR Apache-2.0
  * Copyright 2026 The Lowunbisa authors
@@ -44,7 +44,7 @@ unsigned milliseconds(void) {
     return (unsigned)(now.tv_sec * 1000 + now.tv_nsec / 1000000);
 }
 
-#if !defined(PC_SLEEP) && !defined(PC_RTOS_SERIAL)
+#if !defined(PC_SLEEP) && !defined(PC_RTOS_SERIAL) && !defined(PC_ETHER_DMA)
 
 static int has_input(int descriptor, int wait) {
     struct pollfd line = {descriptor, POLLIN, 0};
@@ -232,7 +232,7 @@ void board_start(void) {
 }
 
 #endif
-#if defined(PC_ETHER) || defined(PC_RTOS) || defined(PC_DATAGRAMS)
+#if defined(PC_ETHER) || defined(PC_ETHER_DMA) || defined(PC_RTOS) || defined(PC_DATAGRAMS)
 
 #ifdef PC_DATAGRAMS
 #define INTERFACE "tun0"
@@ -268,7 +268,7 @@ int link_is_up(void) {
 
 #endif
 
-void board_start(void) {
+static void interface_open(void) {
     struct ifreq request;
     interface = open("/dev/net/tun", O_RDWR);
     memset(&request, 0, sizeof request);
@@ -279,6 +279,11 @@ void board_start(void) {
         exit(2);
     }
 }
+
+#endif
+#if defined(PC_ETHER) || defined(PC_RTOS) || defined(PC_DATAGRAMS)
+
+void board_start(void) { interface_open(); }
 
 #ifdef PC_GATE
 static void frame_by_test(const unsigned char *frame, ssize_t len);
@@ -304,6 +309,183 @@ size_t RECEIVE(unsigned char *bytes, size_t room) {
 void SEND(void *to, const unsigned char *bytes, size_t len) {
     (void)to;
     if (write(interface, bytes, len) != (ssize_t)len) report("one was lost, of bytes", (unsigned)len);
+}
+
+#endif
+#ifdef PC_ETHER_DMA
+
+/* The controller: two threads are its DMA. Each buffer is in one line, or the program owns it. If the program owns it, each byte is its
+ * own. Else `kept` has what the buffer must contain: a byte that differs was written by the program, and ends the test. A buffer that the
+ * program gives back, or whose frame is sent, is overwritten at once: if the program still uses it, it reads and sends nonsense.
+ */
+enum { RECEIVE_BUFFERS = 4, BUFFERS = RECEIVE_BUFFERS + 1, PATTERN = 0xA5 };    /* one is spare */
+
+static struct buffer {
+    _Alignas(32) unsigned char bytes[MAC_ROOM];
+    unsigned char kept[MAC_ROOM];
+    size_t len;
+    struct line *in;                           /* NULL if the program owns the buffer */
+    int is_spare;
+} buffers[BUFFERS];
+
+static struct line {
+    struct buffer *at[BUFFERS];
+    unsigned first, count;
+} ring, received, to_send, spares;
+
+static pthread_mutex_t interrupts = PTHREAD_MUTEX_INITIALIZER;    /* an interrupt holds it, each mac_.., and interrupts_off */
+static pthread_cond_t interrupt = PTHREAD_COND_INITIALIZER, begun = PTHREAD_COND_INITIALIZER;
+
+static void broken(const char *rule) {
+    fprintf(stderr, "broken: %s\n", rule);
+    abort();
+}
+
+static void put(struct line *to, struct buffer *it) {
+    memcpy(it->kept, it->bytes, MAC_ROOM);
+    it->in = to;
+    to->at[(to->first + to->count++) % BUFFERS] = it;
+}
+
+/* The oldest buffer of a line, or NULL. */
+static struct buffer *get(struct line *from) {
+    if (from->count == 0) return NULL;
+    struct buffer *it = from->at[from->first++ % BUFFERS];
+    from->count--;
+    it->in = NULL;
+    if (memcmp(it->kept, it->bytes, MAC_ROOM) != 0) broken("the program wrote a buffer that it did not own");
+    return it;
+}
+
+/* Overwrites a buffer that is no longer used, and returns it to its line. */
+static void put_empty(struct buffer *it) {
+    memset(it->bytes, PATTERN, MAC_ROOM);
+    put(it->is_spare ? &spares : &ring, it);
+}
+
+static unsigned char *take(struct line *from, int is_spare, size_t *len) {
+    unsigned k;
+    pthread_mutex_lock(&interrupts);
+    struct buffer *it = get(from);
+    for (k = 0; k < BUFFERS; k++)              /* ether_dma.c takes one only if it has none of that kind */
+        if (&buffers[k] != it && !buffers[k].in && buffers[k].is_spare == is_spare) broken("the program lost a buffer");
+    if (it && len) *len = it->len;
+    pthread_mutex_unlock(&interrupts);
+    return it ? it->bytes : NULL;
+}
+
+/* The buffer that the program gives away. */
+static struct buffer *given(const unsigned char *bytes, int is_spare) {
+    unsigned k;
+    for (k = 0; k < BUFFERS; k++) {
+        if (buffers[k].bytes != bytes) continue;
+        if (buffers[k].in) broken(buffers[k].in == &to_send ? "a buffer was given away while it is sent" : "a buffer was given away twice");
+        if (buffers[k].is_spare != is_spare) broken("a buffer was given away by the call of the other kind");
+        return &buffers[k];
+    }
+    broken("no buffer begins there");
+    return NULL;
+}
+
+/* The link goes down for a second at the first page, and at a later one: then a tick sends the page again. */
+static int is_link_down(size_t len) {
+    static unsigned pages, down_since;
+    static int has_been_down;
+    if (len > 200 && (++pages == 1 || pages == 12)) {
+        down_since = milliseconds();
+        has_been_down = 1;
+        report("the link was down", pages);
+    }
+    return has_been_down && milliseconds() - down_since < 1000;
+}
+
+static void send_from(unsigned char *bytes, size_t len, int is_spare) {
+    static unsigned ticks;
+    pthread_mutex_lock(&interrupts);
+    struct buffer *it = given(bytes, is_spare);
+    if (len == 0 || len > 1514) broken("a frame has a wrong length");
+    for (; len < 60; len++) bytes[len] = 0;
+    it->len = len;
+    if (is_link_down(len)) {
+        put_empty(it);
+    } else {
+        put(&to_send, it);
+        pthread_cond_signal(&begun);
+        if (is_spare && ++ticks == 1) report("a tick sent", ticks);
+    }
+    pthread_mutex_unlock(&interrupts);
+}
+
+unsigned char *mac_take_received(size_t *len) { return take(&received, 0, len); }
+unsigned char *mac_take_spare(void) { return take(&spares, 1, NULL); }
+void mac_reply(unsigned char *bytes, size_t len) { send_from(bytes, len, 0); }
+void mac_send_spare(unsigned char *bytes, size_t len) { send_from(bytes, len, 1); }
+
+void mac_give_back(unsigned char *bytes) {
+    pthread_mutex_lock(&interrupts);
+    put_empty(given(bytes, 0));
+    pthread_mutex_unlock(&interrupts);
+}
+
+static void *receiver(void *unused) {
+    static unsigned char frame[MAC_ROOM];
+    ssize_t len;
+    while ((len = read(interface, frame, sizeof frame)) > 0) {
+        pthread_mutex_lock(&interrupts);
+        struct buffer *it = len > 1514 || is_link_down(0) ? NULL : get(&ring);    /* if the ring is empty, the frame is lost */
+        if (it) {
+            memcpy(it->bytes, frame, (size_t)len);
+            it->len = len < 60 ? 60 : (size_t)len;
+            put(&received, it);
+            events++;
+            pthread_cond_signal(&interrupt);
+        }
+        pthread_mutex_unlock(&interrupts);
+    }
+    (void)unused;
+    exit(2);
+}
+
+/* Sends from the buffer, and late, so that a program which uses it meanwhile is noticed. */
+static void *sender(void *unused) {
+    for (;;) {
+        pthread_mutex_lock(&interrupts);
+        while (to_send.count == 0) pthread_cond_wait(&begun, &interrupts);
+        struct buffer *it = to_send.at[to_send.first % BUFFERS];
+        pthread_mutex_unlock(&interrupts);
+        usleep(2000);
+        if (write(interface, it->bytes, it->len) != (ssize_t)it->len) report("one was lost, of bytes", (unsigned)it->len);
+        pthread_mutex_lock(&interrupts);
+        put_empty(get(&to_send));
+        events++;
+        pthread_cond_signal(&interrupt);
+        pthread_mutex_unlock(&interrupts);
+    }
+    return unused;
+}
+
+void interrupts_off(void) { pthread_mutex_lock(&interrupts); }
+void interrupts_on(void) { pthread_mutex_unlock(&interrupts); }
+
+/* A clock ends the sleep after 20 ms. */
+void sleep_until_interrupt(int is_deep) {
+    struct timespec end;
+    clock_gettime(CLOCK_REALTIME, &end);
+    end.tv_nsec += 20000000;
+    if (end.tv_nsec >= 1000000000) end.tv_sec++, end.tv_nsec -= 1000000000;
+    pthread_cond_timedwait(&interrupt, &interrupts, &end);
+    (void)is_deep;
+}
+
+void board_start(void) {
+    pthread_t thread;
+    unsigned k;
+    interface_open();
+    for (k = 0; k < BUFFERS; k++) {
+        buffers[k].is_spare = k >= RECEIVE_BUFFERS;
+        put_empty(&buffers[k]);
+    }
+    if (pthread_create(&thread, NULL, receiver, NULL) != 0 || pthread_create(&thread, NULL, sender, NULL) != 0) exit(2);
 }
 
 #endif

@@ -23,7 +23,7 @@ if [ "$1" = inside ]; then
     [ "$2" != gate ] || exec python3 "$here/gate.py" "$out/gate" "$out/gate.log"
     [ "$2" != settings ] || { ip addr add 192.168.7.1/24 dev tap0 && exec python3 "$here/settings.py" "$out/settings" "$out/settings.log"; }
     "$out/$2" 2>"$out/$2.log" &
-    python3 "$here/client.py" "$3" || exit 1
+    python3 "$here/client.py" "$3" || fail "the last line of $2 is: $(tail -1 "$out/$2.log")"
     wait $! || fail "$2 did not end with 0: $(tail -1 "$out/$2.log")"
     exit 0
 fi
@@ -33,11 +33,15 @@ command -v python3 >/dev/null || skip "python3"
 mkdir -p "$out"
 python3 "$top/tools/pack.py" "$here/site" "$out/site.c" /state.shtml=application/json || fail "the site was not packed"
 strict="-std=c11 -pedantic -Wall -Wextra -Wconversion -Werror"
-for name in serial sleep rtos_serial datagrams ether rtos pages port port_dma; do
+for name in serial sleep rtos_serial datagrams ether ether_dma rtos pages port port_dma; do
     "$cc" $strict -fsyntax-only -I"$top/include" -I"$out" "$here/$name.c" || fail "$name.c does not compile"
 done
 "$cc" $strict -DRING=16 -I"$top/include" "$here/dma_test.c" "$here/port_dma.c" -o "$out/dma_test" && "$out/dma_test" ||
     fail "port_dma.c takes other bytes than the DMA wrote"
+for end in FRAME TICK; do
+    "$cc" $strict -DENDS_BY_$end -I"$top/include" -I"$out" "$here/ether_dma_test.c" "$here/ether_dma.c" -o "$out/ether_dma_test" &&
+        "$out/ether_dma_test" || fail "ether_dma.c makes other calls, or breaks the ownership of a buffer"
+done
 mkdir -p "$out/gate_site"
 python3 "$top/tools/pack.py" "$here/gate_site" "$out/gate_site/site.c" /state.shtml=application/json || fail "the site of the gate was not packed"
 for name in gate gate_pages gate_control; do
@@ -59,6 +63,7 @@ build rtos_serial PC_RTOS_SERIAL "$here/port.c $top/examples/step.c"
     "$here/pages.c" "$here/pc.c" "$here/port_dma.c" "$top/examples/step.c" "$library" -o "$out/rtos_dma" || fail "rtos_dma was not built"
 build datagrams PC_DATAGRAMS
 build ether PC_ETHER
+build ether_dma PC_ETHER_DMA
 build rtos PC_RTOS
 "$cc" -std=gnu11 -O2 -Wall -Wextra -Werror -DPC_RTOS -DPC_GATE -DTOKEN_MS=5000 -pthread -I"$top/include" -I"$out/gate_site" "$here/gate.c" \
     "$here/gate_pages.c" "$here/gate_control.c" "$here/pc.c" "$library" -o "$out/gate" || fail "gate was not built"
@@ -79,10 +84,11 @@ for name in serial sleep rtos_serial rtos_dma; do
     [ $name != sleep ] || grep -aq '^the timer stopped' "$out/sleep.log" || fail "sleep did not stop its timer"
     echo "$name: $(grep -a 'pages are' "$out/$name.told")"
 done
-for name in datagrams ether rtos; do
+for name in datagrams ether ether_dma rtos; do
     note=0; [ $name != rtos ] || note=1
     unshare -rn sh "$0" inside $name $note >"$out/$name.told" 2>&1 || fail "$name: $(cat "$out/$name.told")"
     [ $name != datagrams ] || grep -aq '^the link was down 1$' "$out/$name.log" || fail "datagrams was not opened again"
+    [ $name != ether_dma ] || grep -aq '^a tick sent' "$out/$name.log" || fail "no tick of ether_dma sent a frame"
     lamps $name
     echo "$name: $(grep -a 'pages are' "$out/$name.told")"
 done
