@@ -38,7 +38,8 @@ static const struct pass { const char *happens, *calls; } passes[] = {
 enum { PASSES = sizeof passes / sizeof passes[0] };
 
 enum owner { DRIVER, PROGRAM, SENDER };
-static unsigned char frame[MAC_ROOM], spare[MAC_ROOM];
+enum { UNUSED = 0xA5 };
+static unsigned char frame[MAC_ROOM], spare[MAC_ROOM];    /* while the program does not own one, it is full of UNUSED */
 static enum owner frame_owner, spare_owner;
 static size_t pass = PASSES;                   /* PASSES before the first */
 static char calls[32];
@@ -65,6 +66,17 @@ static uip_result result(unsigned status, size_t consumed, size_t written) {
     return made;
 }
 
+/* Whether the program has written into no buffer that it does not own. */
+static int is_kept(void) {
+    size_t k;
+    int is_same = 1;
+    for (k = 0; k < MAC_ROOM; k++) {
+        if (frame_owner != PROGRAM) is_same &= frame[k] == UNUSED;
+        if (spare_owner != PROGRAM) is_same &= spare[k] == UNUSED;
+    }
+    return is_same;
+}
+
 /* ---- the driver ---- */
 
 unsigned char *mac_take_received(size_t *len) {
@@ -74,7 +86,7 @@ unsigned char *mac_take_received(size_t *len) {
     memset(calls, 0, sizeof calls);
     if (happens('h')) now += 500;
     int has_frame = happens('r') || happens('g') || happens('x');
-    note(frame_owner == DRIVER, has_frame ? 'f' : '-');
+    note(frame_owner == DRIVER && is_kept() && !are_interrupts_off, has_frame ? 'f' : '-');
     if (happens('c')) events++;
     if (!has_frame) return NULL;
     frame_owner = PROGRAM;
@@ -84,11 +96,13 @@ unsigned char *mac_take_received(size_t *len) {
 
 void mac_reply(unsigned char *bytes, size_t len) {
     note(bytes == frame && frame_owner == PROGRAM && len == 77, 'r');
+    memset(frame, UNUSED, MAC_ROOM);
     frame_owner = DRIVER;
 }
 
 void mac_give_back(unsigned char *bytes) {
     note(bytes == frame && frame_owner == PROGRAM, 'g');
+    memset(frame, UNUSED, MAC_ROOM);
     frame_owner = DRIVER;
 }
 
@@ -102,6 +116,7 @@ unsigned char *mac_take_spare(void) {
 
 void mac_send_spare(unsigned char *bytes, size_t len) {
     note(bytes == spare && spare_owner == PROGRAM && len == 88, 's');
+    memset(spare, UNUSED, MAC_ROOM);
     spare_owner = SENDER;
 }
 
@@ -114,7 +129,11 @@ void sleep_until_interrupt(int is_deep) {
 }
 
 unsigned milliseconds(void) { return now; }
-void board_start(void) {}
+
+void board_start(void) {
+    memset(frame, UNUSED, MAC_ROOM);
+    memset(spare, UNUSED, MAC_ROOM);
+}
 
 void fail(unsigned status, unsigned entry, const char *word) {
     printf("ether_dma.c: %u %u %s\n", status, entry, word);
@@ -138,14 +157,16 @@ uip_opened uip_open_ether(uip_device *opened, const unsigned char *image, size_t
 uip_result uip_input_frame_area(uip_device *of, unsigned char *at, size_t room, size_t len) {
     note(of == &device && at == frame && frame_owner == PROGRAM && room == MAC_ROOM && len == 60, 'i');
     if (happens('x')) return result(UIP_BAD_ARGUMENT, 0, 0);
+    memset(at, 1, room);
     return result(UIP_OK, len, happens('r') ? 77 : 0);
 }
 
 uip_result uip_periodic_frame(uip_device *of, size_t slot, unsigned char *at, size_t room) {
     note(of == &device && at == spare && spare_owner == PROGRAM && room == MAC_ROOM && slot < UIP_SLOTS, (char)('0' + slot));
     if (happens('b')) return result(UIP_BAD_ARGUMENT, 0, 0);
+    memset(at, 1, room);
     return result(UIP_OK, 0, happens('s') ? 88 : 0);
 }
 
 void pages_start(void) {}
-void pages_work(void) { note(frame_owner == DRIVER, 'w'); }
+void pages_work(void) { note(frame_owner == DRIVER && is_kept(), 'w'); }
