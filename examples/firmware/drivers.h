@@ -46,35 +46,37 @@ void mac_send(void *to, const unsigned char *frame, size_t len);    /* sends a f
  *
  * No function waits or fails. The main loop alone calls them, and no interrupt touches a buffer, a descriptor or a list of buffers.
  *
- * BUFFERS. Some, such as eight, are for the receive ring, and one or two are spare. While a reply is sent, its buffer is missing in the
- * ring. If the ring is empty, the controller drops what arrives, and TCP repairs it. The transmit ring has a descriptor for each buffer
- * of both kinds: then it is never full.
+ * BUFFERS. Some, such as eight, are for the receive ring, and one or two are spare. One of each would do, with more losses. While a reply
+ * is sent, its buffer is missing in the ring. If the ring is empty, the controller drops what arrives, and TCP repairs it. The transmit
+ * ring has a descriptor for each buffer of both kinds: then it is never full.
  *
  * SENT BUFFERS. mac_take_received and mac_take_spare first look which frames are sent, and which are dropped. A receive buffer returns
  * to the receive ring, as by mac_give_back, and a spare one is free. If the controller stopped because the ring was empty, restart it.
  *
  * LINK. While it is down, mac_reply and mac_send_spare drop the frame, and the buffer returns at once. When the link goes down, stop the
- * transmit DMA, and take back the buffers of all its descriptors: a reply that is never sent keeps its buffer from the ring.
+ * transmit DMA, and take back the buffers of all its descriptors: a reply that is never sent keeps its buffer from the ring. The loop calls
+ * mac_take_received in each pass: there ask the PHY, such as ten times a second, but let a later pass take what it answers.
  *
  * CACHE. If the core has a data cache, each buffer begins at a multiple of its line and fills whole lines (32 bytes on a Cortex-M7).
  * Invalidate: discard lines without writing them. Clean: write them to memory. The functions below have when to do which.
  *
- * BARRIERS. DMB after a descriptor shows that the DMA has finished, before the buffer is used or passed on. DMB after the buffer and the
- * other words of a descriptor are written, before the word that gives it to the DMA. DSB after that word, before a register starts
- * the DMA.
+ * BARRIERS. A DMB comes after the read of a descriptor which shows that the DMA has finished, before the buffer is used or passed on.
+ * A DMB comes after the writes to the buffer and the descriptor, before the write that gives the descriptor to the DMA. A DSB comes after
+ * that, before the write to a register that starts the DMA.
  */
 #define MAC_ROOM 1536                                     /* bytes from the start of a frame to the end of its buffer: UIP_MAX_FRAME or
                                                              more, and 4 for the check sequence if the DMA writes it. If frames
                                                              begin two bytes after the start of the buffer, 1534 */
 unsigned char *mac_take_received(size_t *len);            /* the oldest received frame and its length without the check sequence, or
                                                              NULL if there is none. The caller owns the buffer, all MAC_ROOM bytes,
-                                                             until mac_reply or mac_give_back. The driver itself puts back into the
-                                                             ring what is damaged, in several buffers, or longer than MAC_ROOM: it
-                                                             would end the loop. Invalidates the buffer again, since the core may
-                                                             have read ahead while the DMA wrote */
+                                                             until mac_reply or mac_give_back. The driver itself gives back what is
+                                                             damaged, in several buffers, or longer than MAC_ROOM: the library would
+                                                             refuse that length, and the loop would end. Invalidates the buffer
+                                                             again, since the core may have read ahead while the DMA wrote */
 void mac_reply(unsigned char *received, size_t len);      /* begins to send the first `len` bytes of a buffer of mac_take_received,
-                                                             padded to 60 with 0, and the check sequence. The driver owns the buffer:
-                                                             when the frame is sent, it returns to the ring. Cleans what is sent */
+                                                             padded to 60 with 0, and adds the check sequence. The driver owns the
+                                                             buffer: when the frame is sent, it returns to the ring. Cleans what is
+                                                             sent, after the padding, and then starts the DMA */
 void mac_give_back(unsigned char *received);              /* returns a buffer of mac_take_received to the ring, unsent. The driver owns
                                                              it. Invalidates it whole: the library may have written anywhere in it,
                                                              and a line that is written back later would destroy the next frame */
