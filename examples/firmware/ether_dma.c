@@ -52,9 +52,9 @@ static unsigned tick(int *is_idle) {
 }
 
 /* Sleeps, unless the controller has received or sent a frame since `events` was `seen`. While interrupts are off, the next one is held
- * back and ends the sleep, so that none is missed.
+ * back, and ends the sleep: none is missed.
  */
-static void sleep_since(unsigned seen) {
+static void sleep_if_none_since(unsigned seen) {
     interrupts_off();
     if (events == seen) sleep_until_interrupt(0);
     interrupts_on();
@@ -73,7 +73,7 @@ int main(void) {
         status = receive(&is_idle);
         if (status == UIP_OK) pages_work();    /* after each frame, so that no request is missed */
         if (status == UIP_OK) status = tick(&is_idle);
-        if (is_idle) sleep_since(seen);
+        if (is_idle) sleep_if_none_since(seen);
     }
     stop(status);
 }
