@@ -128,17 +128,19 @@ extern "C" {
  *         return 0;
  *     }
  *
- * This loop waits while it sends, and never sleeps. It is for a trial. For a product take a loop of
- * this table. examples/firmware has a whole program for each. (Those of Ethernet wait until a frame
- * is sent, some 0.1 ms at 100 Mbit/s; "The Ethernet controller" in the guide has a loop that never
- * waits.)
+ * This loop waits while it sends, and never sleeps. It is for a trial. For a product take a program
+ * of examples/firmware:
  *
- *     link                  program          open            what arrives     each half second
- *     serial line           sleep.c          uip_open        examples/step.c makes all calls
- *     serial line, RTOS     rtos_serial.c    uip_open        examples/step.c makes all calls
- *     datagrams             datagrams.c      uip_open        uip_input        uip_tick_datagrams
- *     Ethernet              ether.c          uip_open_ether  uip_input_frame  uip_tick_frames
- *     Ethernet, RTOS        rtos.c, gate.c   uip_open_ether  uip_input_frame  uip_tick_frames
+ *     link                  program        opens by        what arrives       each half second
+ *     serial line           sleep.c        uip_open        examples/step.c makes all calls
+ *     serial line, RTOS     rtos_serial.c  uip_open        examples/step.c makes all calls
+ *     datagrams             datagrams.c    uip_open        uip_input          uip_tick_datagrams
+ *     Ethernet              ether.c        uip_open_ether  uip_input_frame    uip_tick_frames
+ *     Ethernet, RTOS        rtos.c         uip_open_ether  uip_input_frame    uip_tick_frames
+ *     Ethernet, no copies   ether_dma.c    uip_open_ether  uip_input_frame    uip_periodic_frame
+ *
+ * ether_dma.c and the programs for a serial line never wait for their controller, and sleep. ether.c
+ * and rtos.c wait until a frame is sent, some 0.1 ms at 100 Mbit/s.
  *
  * On Ethernet link libuip_c_ether.a, which has all calls; otherwise libuip_c.a. (The libraries of
  * `rt lib`, the kit's command for aarch64 and x86-64, have all calls in libuip_c.a.)
@@ -654,8 +656,9 @@ UIP_INLINE unsigned uip_tick_datagrams(uip_device *device, unsigned char *out, s
 
 /* ---- 9 Ethernet --------------------------------------------------------------------------------
  *
- * One area has the received frame, and in its place the reply. examples/firmware/ether.c is the
- * whole program, and rtos.c that under an RTOS:
+ * One area has the received frame, and in its place the reply. This is the loop of
+ * examples/firmware/ether.c. rtos.c has it under an RTOS. ether_dma.c has a loop that never waits,
+ * over the buffers of a DMA: the comments of drivers.h state who owns each one when.
  *
  *     // Copies a received frame. Returns its length, or 0 if there is none. It may wait for
  *     // one, at most some 20 ms: ticks and values are then late by as much.
@@ -696,8 +699,9 @@ UIP_INLINE unsigned uip_tick_datagrams(uip_device *device, unsigned char *out, s
  *     static _Alignas(4) unsigned char area[2 + UIP_MAX_FRAME];
  *     static unsigned char *const frame = area + 2;           // write UIP_MAX_FRAME for `sizeof frame`
  *
- * "The Ethernet controller" in the guide has buffers that a DMA uses, a loop that never waits,
- * caches, barriers, and hints for the controllers of STM32 (F4, F7, H7), NXP (ENET) and SAM (GMAC).
+ * "The Ethernet controller" in the guide has caches, barriers, the driver functions of ether_dma.c
+ * over the descriptors of an STM32F4 or F7 (not tried), and hints for STM32H7, NXP (ENET) and SAM
+ * (GMAC).
  */
 
 /* Receives one frame, and writes the frame to send in its place, if there is one.
