@@ -2,7 +2,7 @@
  * The drivers of this folder on a PC, so that its programs can be tried and tested: standard input and output in the place of a
  * serial port, threads in the place of interrupts and tasks, and an interface of Linux in the place of an Ethernet controller (tap0)
  * or a link of datagrams (tun0). PC_SERIAL, PC_SLEEP, PC_RTOS_SERIAL, PC_DATAGRAMS, PC_ETHER, PC_ETHER_DMA or PC_RTOS names the program;
- * gate.c has PC_RTOS and PC_GATE.
+ * gate.c has PC_RTOS and PC_GATE. With PC_RTOS_SERIAL also PC_DMA and PC_CDC name the port.
  *
  * SPDX-License-Identifier: MIT OR Apache-2.0
  * Copyright 2026 The Lowunbisa authors
@@ -135,10 +135,12 @@ void interrupt_sent(void);
 
 static sem_t semaphore;
 void make_semaphore(void) { sem_init(&semaphore, 0, 0); }
-#ifndef PC_DMA
+#if !defined(PC_DMA) && !defined(PC_CDC)
 static void on_received(void) { interrupt_received(); }
 #endif
+#ifndef PC_CDC
 static void on_sent(void) { interrupt_sent(); }
+#endif
 void give(void) { sem_post(&semaphore); }
 void give_from_interrupt(void) { sem_post(&semaphore); }
 
@@ -188,6 +190,110 @@ static void *receiver(void *unused) {
     exit(2);
 }
 
+#elif defined(PC_CDC)
+
+#include "port_cdc.h"
+
+static pthread_cond_t armed = PTHREAD_COND_INITIALIZER;
+static int is_armed = 1;                       /* whether the OUT endpoint takes a packet */
+static int is_taking;                          /* whether the host takes a packet that was not aborted */
+static unsigned char from_host[CDC_PACKET];
+static size_t from_host_len;
+
+static void on_packet(void) {
+    on_cdc_received(from_host, from_host_len);
+    give_from_interrupt();
+}
+
+static void on_taken(void) {
+    if (is_taking) on_cdc_sent();
+    is_taking = 0;
+    give_from_interrupt();
+}
+
+static void on_host(void) {
+    on_cdc_opened(1);
+    give_from_interrupt();
+}
+
+static void on_reset(void) {
+    piece = NULL;
+    is_taking = 0;
+    on_cdc_reset();
+    give_from_interrupt();
+}
+
+void cdc_receive(void) {
+    pthread_mutex_lock(&interrupts);
+    is_armed = 1;
+    pthread_cond_signal(&armed);
+    pthread_mutex_unlock(&interrupts);
+}
+
+void cdc_send(const unsigned char *bytes, size_t len) {
+    pthread_mutex_lock(&interrupts);
+    piece = bytes;
+    piece_len = len;
+    pthread_cond_signal(&begun);
+    pthread_mutex_unlock(&interrupts);
+}
+
+void cdc_abort(void) {
+    pthread_mutex_lock(&interrupts);
+    piece = NULL;
+    is_taking = 0;
+    pthread_mutex_unlock(&interrupts);
+}
+
+static void *receiver(void *unused) {
+    for (;;) {
+        pthread_mutex_lock(&interrupts);
+        while (!is_armed) pthread_cond_wait(&armed, &interrupts);
+        is_armed = 0;
+        pthread_mutex_unlock(&interrupts);
+        ssize_t count = read(0, from_host, sizeof from_host);
+        if (count <= 0) exit(2);
+        from_host_len = (size_t)count;
+        interrupt_by(on_packet);
+    }
+    return unused;
+}
+
+/* What the host does before it takes a packet. Once it takes nothing for half a second; later there is a bus reset. */
+static void host_behaves(unsigned packets) {
+    if (packets == 40) {
+        usleep(500000);
+        pthread_mutex_lock(&interrupts);
+        if (piece && piece_len == 1 && *piece == 0xC0) report("the piece was given up", packets);
+        pthread_mutex_unlock(&interrupts);
+    } else if (packets == 80) {
+        interrupt_by(on_reset);
+        usleep(50000);
+        interrupt_by(on_host);
+        report("the bus was reset", packets);
+    }
+}
+
+static void *sender(void *unused) {
+    unsigned char bytes[CDC_SEND];
+    unsigned packets = 0;
+    interrupt_by(on_host);
+    for (;;) {
+        pthread_mutex_lock(&interrupts);
+        while (!piece) pthread_cond_wait(&begun, &interrupts);
+        pthread_mutex_unlock(&interrupts);
+        host_behaves(++packets);
+        pthread_mutex_lock(&interrupts);
+        size_t len = piece ? piece_len : 0;
+        if (piece) memcpy(bytes, piece, len), is_taking = 1;
+        piece = NULL;
+        pthread_mutex_unlock(&interrupts);
+        send_all(bytes, len);
+        interrupt_by(on_taken);
+    }
+    return unused;
+}
+
 #else
 
 static void *receiver(void *unused) {
@@ -197,6 +303,7 @@ static void *receiver(void *unused) {
 }
 
 #endif
+#ifndef PC_CDC
 
 static void *sender(void *unused) {
     for (;;) {
@@ -217,6 +324,8 @@ void port_start(const unsigned char *bytes, size_t len) {
     pthread_cond_signal(&begun);
     pthread_mutex_unlock(&interrupts);
 }
+
+#endif
 
 static void begin(void *work(void *)) {
     pthread_t thread;

@@ -20,6 +20,10 @@
 uip_device device = UIP_INIT;
 static volatile unsigned seconds;              /* the value of the other task */
 
+#ifdef PC_CDC                                  /* with port_cdc.c its interrupts call on_cdc_.. and give_from_interrupt */
+#include "port_cdc.h"
+#else
+
 void interrupt_received(void);
 void interrupt_sent(void);
 
@@ -34,6 +38,8 @@ void interrupt_sent(void) {
     on_sent();
     give_from_interrupt();
 }
+
+#endif
 
 /* The semaphore remembers an interrupt that comes before the wait. So nothing has to hold interrupts back. */
 void interrupts_off(void) {}
@@ -51,6 +57,9 @@ void work(void) {
         uip_set_value(&device, 7, text, decimal(text, now));
         shown = now;
     }
+#ifdef PC_CDC
+    cdc_work(milliseconds());
+#endif
     pages_work();
 }
 
