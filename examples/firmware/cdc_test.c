@@ -288,7 +288,7 @@ static void test_reset(void) {
     on_cdc_reset();
     is_begun = 0;                              /* the reset ends what was under way */
     cdc_work(now);
-    expect(!dma_is_busy() && begins == 2, "a piece goes on after a reset");
+    expect(!dma_is_busy() && begins == 2, "a piece continues after a reset");
     dma_send(bytes, sizeof bytes);
     expect(!dma_is_busy() && begins == 2, "a piece begins after a reset");
     start();
@@ -298,7 +298,7 @@ static void test_reset(void) {
     is_begun = 0;
     on_cdc_opened(1);
     cdc_work(now);
-    expect(!dma_is_busy() && begins == packets + 1, "a piece of the earlier opening goes on");
+    expect(!dma_is_busy() && begins == packets + 1, "a piece of the earlier opening continues");
     send_piece(64);
     dma_send(bytes, sizeof bytes);
     cdc_work(now);
