@@ -1,10 +1,12 @@
 /*
- * A test of port_cdc.c with a fake USB device, and with a host that takes packets, or does not. It prints nothing and returns 0 if all is
- * as it should be.
+ * A test of port_cdc.c with a fake USB device, and with a host that takes packets, or does not. On x86-64 with Linux an interrupt also
+ * comes after each single instruction. The test prints nothing and returns 0 if all is as it should be.
  *
  * SPDX-License-Identifier: MIT OR Apache-2.0
  * Copyright 2026 The Lowunbisa authors
  */
+#define _DEFAULT_SOURCE                        /* else a handler of glibc runs once */
+#include <signal.h>
 #include <stdio.h>
 #include <string.h>
 #include "../step.h"
@@ -17,6 +19,7 @@ static unsigned now;                           /* the time in milliseconds */
 static const unsigned char *lent;              /* what waits for the host, if is_begun */
 static size_t lent_len;
 static int is_begun;
+static volatile int is_in_stack;               /* the stack holds its interrupts back */
 static int takes_at_once;                      /* the host takes a packet before cdc_send returns */
 static unsigned aborts, begins;
 static unsigned char came[2048];               /* what the host has taken, and in which packets */
@@ -55,6 +58,7 @@ static int host_sends(const char *text) {
 }
 
 void cdc_send(const unsigned char *bytes, size_t len) {
+    is_in_stack++;
     expect(!is_begun, "two packets at one time");
     expect(len <= CDC_SEND, "a packet is too long");
     lent = bytes;
@@ -62,24 +66,29 @@ void cdc_send(const unsigned char *bytes, size_t len) {
     is_begun = 1;
     begins++;
     if (takes_at_once) host_takes();
+    is_in_stack--;
 }
 
 void cdc_abort(void) {
+    is_in_stack++;
     is_begun = 0;
     aborts++;
+    is_in_stack--;
 }
 
 void cdc_receive(void) {
     const char *text = next_packet;
+    is_in_stack++;
     expect(!is_armed, "the endpoint is armed twice");
     is_armed = 1;
     arms++;
     next_packet = NULL;
-    if (!text) return;
-    host_sends(text);
-    if (!opens_next) return;
-    on_cdc_opened(0);
-    on_cdc_opened(1);
+    if (text) host_sends(text);
+    if (text && opens_next) {
+        on_cdc_opened(0);
+        on_cdc_opened(1);
+    }
+    is_in_stack--;
 }
 
 /* Whether read_serial returns these bytes, and then no more. */
@@ -322,7 +331,141 @@ static void test_reset_receive(void) {
     expect(host_sends("d") && is_read(64, "d", 1), "a packet after the one that was lost");
 }
 
+/* ---- An interrupt, or another task, after each single instruction ---- */
+
+static void (*interrupt)(void);                /* it has not come yet */
+static volatile unsigned left;                 /* after this number of instructions */
+static char stream[16];                        /* what read_serial has returned */
+static size_t stream_len;
+static unsigned char piece[65];
+
+static void on_instruction(int number) {
+    void (*it)(void) = interrupt;
+    (void)number;
+    if (left > 0) left--;
+    if (left > 0 || !it || is_in_stack) return;
+    interrupt = NULL;
+    it();
+}
+
+static void trace(int is_on) {
+#if defined(__x86_64__) && defined(__linux__)
+    if (is_on) __asm__ volatile("lea -128(%%rsp), %%rsp; pushfq; orl $0x100, (%%rsp); popfq; lea 128(%%rsp), %%rsp" ::: "memory", "cc");
+    else __asm__ volatile("lea -128(%%rsp), %%rsp; pushfq; andl $0xFFFFFEFF, (%%rsp); popfq; lea 128(%%rsp), %%rsp" ::: "memory", "cc");
+#else
+    (void)is_on;
+#endif
+}
+
+/* Runs `code` again and again. In each run `it` comes one instruction later. `before` and `after` prepare and look. */
+static void in_each_place(void before(void), void code(void), void it(void), void after(void)) {
+    unsigned place;
+    for (place = 1; interrupt == NULL; place++) {
+        start();
+        stream_len = 0;
+        before();
+        left = place;
+        interrupt = it;
+        trace(1);
+        code();
+        trace(0);
+        after();
+    }
+    interrupt = NULL;
+}
+
+static void nothing(void) {}
+static void read_all(void) { stream_len += read_serial((unsigned char *)stream + stream_len, sizeof stream - stream_len); }
+
+/* The stream is this one. If the interrupt has not come, it came too late for the code, and nothing is to be seen. */
+static void look(const char *text) {
+    size_t len = strlen(text);
+    if (interrupt) return;
+    read_all();
+    read_all();
+    if (host_sends("z")) read_all();
+    expect(stream_len == len + 1 && memcmp(stream, text, len) == 0 && stream[len] == 'z', text);
+}
+
+static void reopen(void) {
+    on_cdc_opened(0);
+    on_cdc_opened(1);
+}
+
+static void packet_waits(void) { host_sends("ab"); }
+static void packet_and_reopen(void) { host_sends("c"), reopen(); }
+static void reopen_and_packet(void) { reopen(), host_sends("d"); }
+static void look_reopened(void) { look("ab\xC0"); }
+static void look_packet_first(void) { look("c\xC0"); }
+static void look_packet_last(void) { look("\xC0" "d"); }
+static void look_packet(void) { look("ab"); }
+
+static void test_read_places(void) {
+    in_each_place(packet_waits, read_all, reopen, look_reopened);
+    in_each_place(nothing, read_all, packet_and_reopen, look_packet_first);
+    in_each_place(nothing, read_all, reopen_and_packet, look_packet_last);
+    in_each_place(nothing, packet_waits, read_all, look_packet);    /* the loop preempts the task of USB */
+}
+
+static void send_one(void) { dma_send(piece, sizeof piece); }
+
+static void work_once(void) { cdc_work(now); }
+static void taken_if_begun(void) { if (is_begun) host_takes(); }
+static void send_and_work(void) { send_one(), work_once(), work_once(); }
+static void open_only(void) { on_cdc_opened(1); }
+
+static void closed_before(void) {
+    on_cdc_opened(0);
+    work_once();
+}
+
+static void sent_late(void) {
+    send_one();
+    work_once();
+    now += 200;
+}
+
+static void host_takes_all(void) {
+    unsigned passes;
+    for (passes = 0; passes < 10; passes++) {
+        taken_if_begun();
+        work_once();
+    }
+}
+
+/* A further piece goes out whole. */
+static void look_sends(void) {
+    host_takes_all();
+    expect(!dma_is_busy() && !is_begun, "a piece does not end after an interrupt in some place");
+    send_piece(64);
+}
+
+/* Nothing is given up, and the host has the whole piece, or nothing of it. */
+static void look_whole(void) {
+    host_takes_all();
+    expect(aborts == 0, "an abort after an interrupt in some place");
+    expect(came_len == 0 || (came_len == sizeof piece && memcmp(came, piece, came_len) == 0), "a part of a piece");
+    look_sends();
+}
+
+static void look_reset(void) {
+    is_begun = 0;
+    start();
+    send_piece(64);
+}
+
+static void test_send_places(void) {
+    size_t k;
+    for (k = 0; k < sizeof piece; k++) piece[k] = (unsigned char)(k + 1);
+    in_each_place(nothing, send_and_work, taken_if_begun, look_whole);
+    in_each_place(sent_late, work_once, taken_if_begun, look_sends);
+    in_each_place(sent_late, work_once, on_cdc_reset, look_reset);
+    in_each_place(nothing, send_and_work, on_cdc_reset, look_reset);
+    in_each_place(closed_before, open_only, send_and_work, look_whole);    /* the loop preempts the task of USB */
+}
+
 int main(void) {
+    signal(SIGTRAP, on_instruction);
     test_closed();
     test_receive();
     test_nak();
@@ -332,5 +475,7 @@ int main(void) {
     test_timeout();
     test_reset();
     test_reset_receive();
+    test_read_places();
+    test_send_places();
     return !is_right;
 }
