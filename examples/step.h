@@ -34,8 +34,8 @@
  *         stop(serve());                                 // serve returns only if a call was refused
  *     }
  *
- * firmware/drivers.h explains board_start, milliseconds, fail and stop. firmware/sleep.c is a program that also stops its timer, and
- * firmware/rtos_serial.c one under an RTOS.
+ * On RISC-V interrupts_off is csrci mstatus, 8, and interrupts_on csrsi mstatus, 8. firmware/drivers.h explains board_start, milliseconds,
+ * fail and stop. firmware/sleep.c is a program that also stops its timer, and firmware/rtos_serial.c one under an RTOS.
  *
  * EACH PASS runs `work`, also while output is pending, and then the first of these that applies:
  *
@@ -70,7 +70,7 @@
 #include "uip.h"
 
 unsigned serve(void);                                     /* the loop. Returns the status of a call that failed, if one does */
-void reset_step(void);                                    /* between uip_close and the next uip_open, in the task of `serve` */
+void reset_step(void);                                    /* between uip_close and the next uip_open, in `work` */
 
 /* You write these. wfi is called with interrupts off, all others with interrupts on. */
 extern uip_device device;                                 /* not static; open when `serve` is called */
