@@ -98,6 +98,9 @@ int dma_is_busy(void);                                    /* 1 while the port se
                                                              interrupt clears which adds to `events`. If you stop the port's clock, take
                                                              the interrupt of the last bit, not of the DMA. wfi may call it */
 void dma_send(const unsigned char *bytes, size_t len);    /* begins to send by DMA or interrupt; `bytes` stay meanwhile. It may drop the
-                                                             piece: dma_is_busy is then 0. For a polled port it waits until all is sent */
+                                                             piece: dma_is_busy is then 0. For a polled port it waits until all is sent.
+                                                             The bytes are a static array of step.c: link it where the DMA reaches it
+                                                             (not in the CCM of an STM32F4, nor in the DTCM of an STM32H7). On a core
+                                                             with a data cache clean them before the DMA starts */
 
 #endif

@@ -474,58 +474,65 @@ uip_opened uip_open_ether(uip_device *device, const unsigned char *image, size_t
  *
  * If you open again, set all values again, and set to 0 what your program remembers of uip_hits,
  * uip_query, uip_ticks and uip_counter: all begin at 0. With step.c call reset_step between the two
- * calls; a loop of your own forgets the tick that is under way. The port may go on sending and
- * receiving meanwhile. If opening fails, the device is closed: call `fail`, as section 1 does.
+ * calls; a loop of your own forgets the tick that is under way. The port may send and receive
+ * meanwhile. If opening fails, the device is closed: call `fail`, as section 1 does.
  */
 unsigned uip_close(uip_device *device);
 
 /* ---- 7 Serial line -----------------------------------------------------------------------------
  *
  * The line carries SLIP (RFC 1055, not CSLIP): 8 data bits, no parity, one stop bit, no XON and
- * XOFF. It is full duplex: both ends send at any time, so not two wires of RS-485. RTS and CTS are
- * not needed. If bytes are lost or damaged, clear the flag of the port and go on: TCP repairs it.
- * (If the error also stopped a circular DMA: on_dma_restarted of port_dma.h.) If nobody takes the
- * output (a cable is out, a USB host does not read), drop it, so that the loop continues: a sink
- * returns, and with step.c dma_is_busy becomes 0 (step.h). Each frame of the output begins and ends
- * with END (0xC0), so a dropped piece costs one frame. After uip_open, reception may begin within a
- * frame. If the receiver was off later, in a sleep for example, the node may hold the beginning of
- * another frame: feed one END first (with port.c port_put(0xC0)), else one more frame is lost.
+ * XOFF. RTS and CTS are not needed. It is full duplex: both ends send at any time, so not two wires
+ * of RS-485.
  *
  * THE OTHER END is a host, or a gateway to other networks, with an MTU of at most 1,500. A gateway
  * with a smaller MTU clamps the MSS of TCP to its MTU less 40, both ways. The node has no routes:
  * it replies by this line to any host. Do not connect two nodes to each other, nor put two on one
  * line.
  *
- * WHICH LOOP. uip_feed_all and uip_tick_all wait while their sink waits. examples/step.c never
- * waits: it sends by DMA or interrupt, feeds bytes between the frames of a tick, and sleeps if
- * there is nothing to do. It makes all calls of this section for you.
+ * WHICH LOOP. For a trial, that of section 1: uip_feed_all and uip_tick_all wait while their sink
+ * waits. For a product, that of examples/step.c, which never waits: it sends by DMA or interrupt,
+ * feeds bytes between the frames of a tick, and sleeps if there is nothing to do. It makes all
+ * calls of this section. step.h is its reference. The main program of section 1 then becomes
  *
- *     compile      examples/step.c, and from examples/firmware port.c (an interrupt for each byte) or
- *                  port_dma.c (a circular DMA): they replace read_serial and write_serial above
- *     include      step.h and firmware/port.h, and for a DMA firmware/port_dma.h (with -Iexamples)
- *     you write    `device`, a global variable; work, half_a_second_passed, interrupts_off,
- *                  interrupts_on and wfi (step.h); port_start, and port_read (port.h) or dma_place
- *                  (port_dma.h). The DMA writes dma_ring
- *     you call     serve, in place of a loop of your own. Your interrupts call on_received or on_dma,
- *                  and on_sent; that of a timer, and others that give `work` something to do, add 1
- *                  to `events`. A clock that ends the sleep anyway need not; then
- *                  half_a_second_passed may be tick_is_due_at(milliseconds())
+ *     #include "step.h"
+ *     #include "firmware/port.h"           // compile examples/step.c and examples/firmware/port.c, too
  *
- * For another port, such as USB CDC or a polled one, write read_serial, dma_send, dma_is_busy and
- * `events` yourself (step.h), in place of port.c: dma_send may drop a piece, and dma_is_busy is
- * then 0 ("USB CDC" in the guide). serve runs `work` in each pass: before each piece that it sends,
- * and whenever `wfi` returns, so with port.c after each byte. `work` may make any call but those
- * that send. If it has more to do, it adds 1 to `events`: then another pass comes before the loop
- * sleeps. (A count that is lost to an interrupt does no harm.)
+ *     uip_device device = UIP_INIT;
+ *
+ *     void work(void) { .. }               // values, buttons and forms. It runs in each pass: keep it short
+ *     int half_a_second_passed(void) { return tick_is_due_at(milliseconds()); }
+ *     void interrupts_off(void) { __asm volatile("cpsid i" ::: "memory"); }
+ *     void interrupts_on(void) { __asm volatile("cpsie i" ::: "memory"); }
+ *     void wfi(void) { __asm volatile("dsb\n wfi" ::: "memory"); }
+ *
+ *     unsigned char port_read(void) { .. }                             // the byte that has arrived
+ *     void port_start(const unsigned char *bytes, size_t len) { .. }   // begins to send, by DMA or interrupt
+ *     // Your interrupts: on_received() for each byte; on_sent() when all that port_start began is sent.
+ *
+ *     int main(void) {
+ *         ..                               // uip_open, as in section 1
+ *         board_start();                   // the port, its interrupts, and a clock that interrupts each millisecond
+ *         stop(serve());                   // serve returns only if a call was refused
+ *     }
+ *
+ * In place of port.c take port_dma.c if a circular DMA receives, or port_cdc.c for USB CDC. step.h
+ * has what each needs, and how to write another port.
  *
  * RECEIVE WHILE YOU SEND. No call reads the port. While your program sends, an interrupt or a DMA
  * stores in a ring what arrives. If the ring overflows, bytes are lost, and a page comes some
- * seconds later. For a trial take 512 bytes. With step.c the defaults suit a line of up to 115,200
- * bits a second, if `work` is short: 8,192 bytes in port.c, and 16,384 in port_dma.c, where the loop
- * may sleep for half a second. If a clock wakes it within 100 ms, 8,192 suffice there, too.
- * -DRING=8192, for all files, sets the size; with port_dma.c it is a power of two. "The ring" in the
- * guide computes it, also if RAM is short. It states how long `work` may take, and what an erasure
- * of flash needs. Below 38,400 bits a second read "Slow lines", too.
+ * seconds later. For a trial take 512 bytes. The rings of port.c (8,192 bytes) and port_dma.c
+ * (16,384) suit 115,200 bits a second, if passes last at most 5.5 ms on average, and any 24 in a row
+ * at most 189 ms. "The ring" in the guide computes it, also for less RAM, other rates and an erasure
+ * of flash. Below 38,400 bits a second read "Slow lines", too.
+ *
+ * LOST BYTES. If the port reports an error, clear its flag and continue: TCP repairs it. After uip_open,
+ * reception may begin within a frame. If the receiver was off later, in a sleep for example, feed
+ * one END (0xC0) first, else one more frame is lost.
+ *
+ * NOBODY READS. If a cable is out or a USB host does not read, drop the output, so that the loop
+ * continues: a sink returns, and with step.c dma_is_busy becomes 0. Each frame of the output begins
+ * and ends with END, so a dropped piece costs one frame.
  */
 
 /* Feeds all bytes to the device, and passes all output to `sink`.
