@@ -151,7 +151,7 @@ extern "C" {
  *
  * BUILD, for a Cortex-M4. startup.c, drivers.c and board.ld are yours. main.c includes site.c and
  * heap.c: do not compile these two by themselves. With step.c also compile examples/step.c, and
- * from examples/firmware port.c or port_dma.c (section 7).
+ * from examples/firmware port.c, port_dma.c or port_cdc.c (section 7).
  *
  *     sh ports/run.sh m4 library               # makes the libraries, with the Rattle kit
  *     python3 tools/pack.py FOLDER site.c      # for JSON add its type: /state.shtml=application/json
@@ -192,7 +192,8 @@ typedef char uip_needs_unsigned_of_32_bits[sizeof(unsigned) == 4 ? 1 : -1];
  *  1 INIT         Before its first call a device is UIP_INIT, or all 0. If your start-up code does
  *                 not initialise .data and .bss at each reset, set to 0 first: each device,
  *                 and heap_used and heap_blocks of heap.c. For step.c call reset_step. The variables
- *                 of port.c and port_dma.c are static: with these files initialise .data and .bss.
+ *                 of port.c, port_dma.c and port_cdc.c are static: with these files initialise .data
+ *                 and .bss.
  *
  *  2 DEVICE       While a device is open, do not copy it, and do not write its members.
  *
@@ -528,7 +529,8 @@ unsigned uip_close(uip_device *device);
  *
  * LOST BYTES. If the port reports an error, clear its flag and continue: TCP repairs it. After uip_open,
  * reception may begin within a frame. If the receiver was off later, in a sleep for example, feed
- * one END (0xC0) first, else one more frame is lost.
+ * one END (0xC0) first, else one more frame is lost: with port.c by port_put(0xC0). port_cdc.c does
+ * it by itself.
  *
  * NOBODY READS. If a cable is out or a USB host does not read, drop the output, so that the loop
  * continues: a sink returns, and with step.c dma_is_busy becomes 0. Each frame of the output begins

@@ -87,7 +87,7 @@ void mac_send_spare(unsigned char *spare, size_t len);    /* sends from a buffer
 extern volatile unsigned events;                          /* of the program. The interrupts of the controller, for a received frame and
                                                              for a sent one, clear their flag and add 1, and do nothing else */
 
-/* sleep.c and rtos_serial.c: what port.h lists, too */
+/* sleep.c and rtos_serial.c: what port.h, port_dma.h or port_cdc.h lists, too */
 
 /* sleep.c and ether_dma.c */
 void interrupts_off(void);                                /* Cortex-M: cpsid i, not BASEPRI; RISC-V: csrci mstatus, 8. As asm

@@ -1,5 +1,5 @@
 /* The port of a serial line for ../step.c: port.c, in which each byte interrupts, or port_dma.c, in which a circular DMA receives (port_dma.h
- * has what that needs besides). Both define read_serial, events, dma_is_busy and dma_send of step.h.
+ * has what that needs besides). For USB CDC see port_cdc.h. Each port defines read_serial, events, dma_is_busy and dma_send of step.h.
  *
  * SPDX-License-Identifier: MIT OR Apache-2.0
  * Copyright 2026 The Lowunbisa authors
