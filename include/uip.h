@@ -136,7 +136,7 @@ extern "C" {
  *     serial line, RTOS     rtos_serial.c  uip_open        examples/step.c makes all calls
  *     datagrams             datagrams.c    uip_open        uip_input          uip_tick_datagrams
  *     Ethernet              ether.c        uip_open_ether  uip_input_frame    uip_tick_frames
- *     Ethernet, RTOS        rtos.c         uip_open_ether  uip_input_frame    uip_tick_frames
+ *     Ethernet, RTOS        rtos.c, gate.c uip_open_ether  uip_input_frame    uip_tick_frames
  *     Ethernet, no copies   ether_dma.c    uip_open_ether  uip_input_frame    uip_periodic_frame
  *
  * ether_dma.c and the programs for a serial line never wait for their controller, and sleep. ether.c
@@ -189,11 +189,10 @@ typedef char uip_needs_unsigned_of_32_bits[sizeof(unsigned) == 4 ? 1 : -1];
  * call in a wrong state, returns a status; an unknown name of a file, a wrong address and a wrong
  * rate of ticks are not noticed.
  *
- *  1 INIT         Before its first call a device is UIP_INIT, or all 0. If your start-up code does
- *                 not initialise .data and .bss at each reset, set to 0 first: each device,
- *                 and heap_used and heap_blocks of heap.c. For step.c call reset_step. The variables
- *                 of port.c, port_dma.c and port_cdc.c are static: with these files initialise .data
- *                 and .bss.
+ *  1 INIT         Before its first call a device is UIP_INIT, or all 0. Your start-up code initialises
+ *                 .data and .bss at each reset. (If it does not, do without port.c, port_dma.c and
+ *                 port_cdc.c, call reset_step, and set to 0 each device, and heap_used and
+ *                 heap_blocks of heap.c.)
  *
  *  2 DEVICE       While a device is open, do not copy it, and do not write its members.
  *
@@ -260,10 +259,11 @@ typedef char uip_needs_unsigned_of_32_bits[sizeof(unsigned) == 4 ? 1 : -1];
  *     all calls of a tick that sends nothing                1,830        1,070       1,254
  *     one call that sends 1,460 bytes of a file            16,879       13,263      13,725
  *     one call that sends 1,460 bytes of an .shtml         64,798       61,182      61,644
- *     the dearest call that was found, `room` 3,002       152,421
+ *     one call that sends 1,460 percent signs of one      117,394      113,778     114,240
  *     uip_set_value 219; uip_hits 532; uip_query 565; uip_needs_ticks at most 12,310
  *     opening the example site, six files, 2 kB            24,955                   38,761
  *
+ * With a `room` of 3,002 bytes such a call took 152,421 on a serial line, the most that was found.
  * Opening takes some 20 more for each byte of an .shtml, and for each file 800 to 16,000 more, by
  * the length of its name. On Ethernet the frame began two bytes after a multiple of 4
  * (section 9).
@@ -271,7 +271,7 @@ typedef char uip_needs_unsigned_of_32_bits[sizeof(unsigned) == 4 ? 1 : -1];
  * If there is a watchdog, feed it before opening, in each pass (with step.c in `work`), and in a
  * sink that waits. Its time-out is longer than the longest sleep. A task with a deadline makes no
  * call, and takes no mutex of the device. It exchanges values and commands with the task that makes
- * the calls, by queues: gate.c is an example, and "A state in another task" in docs/PAGES.md
+ * the calls, by queues, as in examples/firmware/gate.c. "A state in another task" in docs/PAGES.md
  * explains it.
  */
 
@@ -379,8 +379,8 @@ typedef struct uip_result { unsigned status, pending; size_t consumed, written; 
 typedef struct uip_number { unsigned status; unsigned number; } uip_number;
 
 /* The result of uip_query, which has an example.
- *   hit    the number that uip_hits returned just after the request that brought the query: compare
- *          it with the present one. 0 if there is no query
+ *   hit    which request of the file brought the query: the first one is 1, modulo 2^32. If it is
+ *          equal to uip_hits, the latest request did. 0 if there is no query
  *   len    the length of its text in bytes; it may be 0
  */
 typedef struct uip_query_text { unsigned status; unsigned hit; size_t len; } uip_query_text;
@@ -389,10 +389,10 @@ typedef struct uip_query_text { unsigned status; unsigned hit; size_t len; } uip
  *   state      an enum uip_state
  *   peer       the IPv4 address of the peer, first byte first
  *   port       the TCP port of the peer
- *   tries      how often the segment that waits for an acknowledgement was sent again
- *   count      if one waits: how many ticks pass before the tick that sends it again, or gives it up.
- *              In FIN_WAIT_2 and TIME_WAIT: the ticks spent there, of 120. Else 0
  *   waiting    1 if a segment is sent and not yet acknowledged
+ *   tries      how often this segment was sent again
+ *   count      if `waiting` is 1: the ticks until it is sent again, or given up. In FIN_WAIT_2 and
+ *              TIME_WAIT: the ticks spent there, of 120. Else 0
  */
 typedef struct uip_row { unsigned status, state; unsigned char peer[4]; unsigned port, tries, count, waiting; } uip_row;
 
@@ -433,9 +433,10 @@ typedef void (*uip_sink)(void *to, const unsigned char *bytes, size_t len);
  *     not detect it. A wrong address locks the user out: keep a way back, such as a button that is
  *     held at the start.
  *
- * TO CHANGE THE ADDRESS, store the new one, let the reply be delivered, and reset the processor.
- * examples/firmware/settings_pages.c does it, with the checks and a way back. Without a reset:
- * "To restart or to close" in docs/PAGES.md.
+ * TO CHANGE THE ADDRESS, store the new one, and let the reply be delivered: go through the loop until
+ * uip_needs_ticks is 0, but for at most six ticks. Then reset the processor, or close the device and
+ * open it with the new address. examples/firmware/settings_pages.c does it by a reset, with the
+ * checks and a way back. To store may take a second, so a loop that must not wait erases at the start.
  */
 
 /* Opens a device for a serial line or a link of datagrams. It allocates the memory of the device, and
@@ -666,11 +667,11 @@ UIP_INLINE unsigned uip_tick_datagrams(uip_device *device, unsigned char *out, s
 /* ---- 9 Ethernet --------------------------------------------------------------------------------
  *
  * One area has the received frame, and in its place the reply. This is the loop of
- * examples/firmware/ether.c. rtos.c has it under an RTOS. ether_dma.c has a loop that never waits,
- * over the buffers of a DMA: the comments of drivers.h state who owns each one when.
+ * examples/firmware/ether.c. rtos.c there has it under an RTOS. ether_dma.c has a loop that never
+ * waits, over the buffers of a DMA; drivers.h beside it explains who owns each buffer.
  *
  *     // Copies a received frame. Returns its length, or 0 if there is none. It may wait for
- *     // one, at most some 20 ms: ticks and values are then late by as much.
+ *     // one, as long as ticks and values may be late: 20 ms, for example.
  *     size_t mac_receive(unsigned char *frame, size_t room);
  *     // Sends a frame. When it returns, no DMA uses `frame`.
  *     void mac_send(void *to, const unsigned char *frame, size_t len);
@@ -700,7 +701,7 @@ UIP_INLINE unsigned uip_tick_datagrams(uip_device *device, unsigned char *out, s
  *   - does not insert checksums of IP, ICMP or TCP: the library has written them. Turn that
  *     function of the controller off; it may check those of what it receives
  *   - may lose frames. While the link is down it drops what is to be sent: mac_send returns at once,
- *     and ticks go on. It informs the library of neither.
+ *     and the loop makes its ticks. No call is needed when a link goes down or comes up.
  *
  * The library needs no alignment of `frame`; a DMA and a cache may. If your driver copies frames,
  * let `frame` be two bytes after a multiple of 4: then the library copies by words. In C11 that is
@@ -709,8 +710,7 @@ UIP_INLINE unsigned uip_tick_datagrams(uip_device *device, unsigned char *out, s
  *     static unsigned char *const frame = area + 2;           // write UIP_MAX_FRAME for `sizeof frame`
  *
  * "The Ethernet controller" in the guide has caches, barriers, the driver functions of ether_dma.c
- * over the descriptors of an STM32F4 or F7 (not tried), and hints for STM32H7, NXP (ENET) and SAM
- * (GMAC).
+ * over the descriptors of an STM32F4 or F7 (not tried), and some settings of other controllers.
  */
 
 /* Receives one frame, and writes the frame to send in its place, if there is one.
@@ -766,7 +766,7 @@ UIP_INLINE unsigned uip_tick_frames(uip_device *device, unsigned char *frame, si
  * %! ticks, %! net-stats, %! tcp-connections and %! file-stats /x show ticks, counters, connections
  * and hits.
  *
- * A request of / gets /index.html, which is no .shtml: let it lead to one.
+ * A request of / gets /index.html. It has no values, as it is no .shtml: let it link to one.
  *
  * BUTTONS AND FORMS are files that a browser requests. It also requests files that nobody clicked:
  * it may follow a link in advance, load a page again, or restore one after days. So take
@@ -774,7 +774,7 @@ UIP_INLINE unsigned uip_tick_frames(uip_device *device, unsigned char *frame, si
  *     for an action that                                    take
  *     is harmless at any time (lamp on)                     a link to a file of its own, and uip_hits
  *     needs a click; may come again, even late (set to 5)   a query, and uip_query
- *     must happen once, or not late (open the gate)         a query with a token, and examples/token.h
+ *     must happen once, or not late (open, reset)           a query with a token, and examples/token.h
  *
  * A QUERY is made when the user clicks, by a form or in onclick. Never write a query that acts into
  * the href of a link, as a browser may follow it in advance.
@@ -786,11 +786,14 @@ UIP_INLINE unsigned uip_tick_frames(uip_device *device, unsigned char *frame, si
  * Date.now() makes each request another one. Without it a browser may show a stored copy, and send
  * no request. A link to a page with values needs it too.
  *
- * A TOKEN is a text that a page shows as a value, and sends back in its query. Your program accepts
- * it once, only while the state that the page showed is unchanged, and for a limited time. In the
- * file its directive is above those of the state. A page that gets the state by a script gets the
- * token with it. token.h has the functions, and settings_pages.c is an example. "Once" in PAGES.md
- * explains both, also for a state that another task or an interrupt keeps.
+ * A TOKEN is a text that a page has as a value, and sends back in its query. Your program accepts
+ * it once, only while the state that the page showed is unchanged, and for a limited time.
+ *
+ *   - In the file its directive comes before those of the state, as the node reads values in this
+ *     order: so an old state never comes with a new token.
+ *   - A page that gets the state by a script gets the token with it.
+ *   - token.h has the functions. settings_pages.c is an example, and gate.c one for two tasks. "Once"
+ *     in PAGES.md explains all of it, also for a state that an interrupt keeps.
  *
  * WHEN TO LOOK at hits and queries: after each request, as a later query replaces the one before.
  *
@@ -824,8 +827,8 @@ UIP_INLINE unsigned uip_tick_frames(uip_device *device, unsigned char *frame, si
  *     So make one value of what belongs together, as "21.5,45.0".
  *   - Two browsers see the same values. If a value answers a request, begin it with a tag that the
  *     request brought: a later request may have changed it ("Once" in docs/PAGES.md).
- *   - If two empty values have no text between them, the reply waits for a tick. So give each value
- *     of a page a byte, such as a space.
+ *   - Between two empty values without text between them the reply waits for a tick. So give each
+ *     value of a page at least one byte, such as a space.
  *   - If the node sends a segment again, it has the same bytes, also if the value has changed.
  *
  * examples/text.h writes whole numbers and tenths, with their sign, without the C library.
@@ -853,7 +856,7 @@ uip_number uip_hits(uip_device *device, const void *name, size_t len);
  *             file, or none was kept
  *   Status    UIP_BAD_ARGUMENT; UIP_NO_DEVICE; UIP_OK
  *
- * If `hit` is equal to uip_hits of the file, its latest request brought this query:
+ * If `hit` is equal to uip_hits of the file, its latest request brought this query. An example:
  *
  *     static unsigned seen;                    // set it to 0 if you open again
  *     unsigned char text[UIP_MAX_QUERY];

@@ -117,7 +117,8 @@ int gate_is_blocked(void);
  * store_settings erases the one that has not the newest record, writes a record there, and reads it again. A record has the addresses, a
  * count and a checksum. The newest one with a right checksum counts.
  *
- * An erasure may take a second: the node then misses frames, and TCP repairs it. If there is a watchdog, store_settings feeds it.
+ * An erasure may take a second: the node then misses frames, and TCP repairs it. If there is a watchdog, store_settings feeds it. For a
+ * loop that must not wait, erase at the start: then store_settings only writes a record.
  */
 struct addresses;                                         /* pages.h */
 int store_settings(const struct addresses *from);         /* returns 0 if it failed: then load_settings loads the old ones */
