@@ -200,6 +200,7 @@ typedef char uip_needs_unsigned_of_32_bits[sizeof(unsigned) == 4 ? 1 : -1];
  *                 function (section 13) counts as one call: while it runs, only its sink may use
  *                 the device. Make no call in an interrupt. Under an RTOS let one task make all
  *                 calls (and `main`, before the scheduler starts), or hold a mutex over each call.
+ *                 The loop of step.c takes no mutex: then its task makes all calls.
  *                 Each call and each sink returns: no longjmp out of it, no exception, and no task
  *                 that is deleted in it.
  *
@@ -213,7 +214,8 @@ typedef char uip_needs_unsigned_of_32_bits[sizeof(unsigned) == 4 ? 1 : -1];
  *
  *  6 IMAGE        Until uip_close the image stays at its address, unchanged. It may lie in flash.
  *                 The library reads it only during a call: between calls the flash may be off, or
- *                 busy with an erasure.
+ *                 busy with an erasure. So under an RTOS the task that makes the calls erases, or
+ *                 the flash can be read meanwhile.
  *
  *  7 INPUT        During a call everything else that you pass stays unchanged. After the call it is
  *                 yours again.
@@ -264,12 +266,12 @@ typedef char uip_needs_unsigned_of_32_bits[sizeof(unsigned) == 4 ? 1 : -1];
  *     opening the example site, six files, 2 kB            24,955                   38,761
  *
  * With a `room` of 3,002 bytes such a call took 152,421 on a serial line, the most that was found.
- * Opening takes some 20 more for each byte of an .shtml, and for each file 800 to 16,000 more, by
+ * Opening takes some 20 more for each byte of an .shtml, and for each file 800 to 11,000 more, by
  * the length of its name. On Ethernet the frame began two bytes after a multiple of 4
  * (section 9).
  *
  * If there is a watchdog, feed it before opening, in each pass (with step.c in `work`), and in a
- * sink that waits. Its time-out is longer than the longest sleep. A task with a deadline makes no
+ * sink that waits. The watchdog's time-out is longer than the longest sleep. A task with a deadline makes no
  * call, and takes no mutex of the device. It exchanges values and commands with the task that makes
  * the calls, by queues, as in examples/firmware/gate.c. "A state in another task" in docs/PAGES.md
  * explains it.
@@ -504,6 +506,7 @@ unsigned uip_close(uip_device *device);
  *
  *     void work(void) { .. }               // values, buttons and forms. It runs in each pass: keep it short
  *     int half_a_second_passed(void) { return tick_is_due_at(milliseconds()); }
+ *     // Under an RTOS these two are empty, and wfi waits for a semaphore (step.h):
  *     void interrupts_off(void) { __asm volatile("cpsid i" ::: "memory"); }
  *     void interrupts_on(void) { __asm volatile("cpsie i" ::: "memory"); }
  *     void wfi(void) { __asm volatile("dsb\n wfi" ::: "memory"); }
@@ -525,8 +528,9 @@ unsigned uip_close(uip_device *device);
  * stores in a ring what arrives. If the ring overflows, bytes are lost, and a page comes some
  * seconds later. For a trial take 512 bytes. The rings of port.c (8,192 bytes) and port_dma.c
  * (16,384) suit 115,200 bits a second, if passes last at most 5.5 ms on average, and any 24 in a row
- * at most 189 ms. "The ring" in the guide computes it, also for less RAM, other rates and an erasure
- * of flash. Below 38,400 bits a second read "Slow lines", too.
+ * at most 189 ms with port.c, and 400 ms with port_dma.c. "The ring" in the guide computes it, also
+ * for less RAM, other rates and an erasure of flash. Below 38,400 bits a second read "Slow lines",
+ * too.
  *
  * LOST BYTES. If the port reports an error, clear its flag and continue: TCP repairs it. After uip_open,
  * reception may begin within a frame. If the receiver was off later, in a sleep for example, feed
@@ -534,8 +538,8 @@ unsigned uip_close(uip_device *device);
  * it by itself.
  *
  * NOBODY READS. If a cable is out or a USB host does not read, drop the output, so that the loop
- * continues: a sink returns, and with step.c dma_is_busy becomes 0. Each frame of the output begins
- * and ends with END, so a dropped piece costs one frame.
+ * continues: your sink returns, or with step.c your port calls on_sent. Each frame of the output
+ * begins and ends with END, so a dropped piece costs one frame.
  */
 
 /* Feeds all bytes to the device, and passes all output to `sink`.

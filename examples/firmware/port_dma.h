@@ -14,7 +14,8 @@
 #error "RING is not a power of two"
 #endif
 
-extern volatile unsigned char dma_ring[RING];  /* the DMA writes it. On a core with a data cache it is not cached */
+extern volatile unsigned char dma_ring[RING];  /* the DMA writes it. On a core with a data cache it is not cached. To place it, link the
+                                                  section .bss.dma_ring, which -fdata-sections makes */
 void on_dma(int is_end);                       /* the interrupts of the receiver. 1 at the end of the ring: leave none out.
                                                   0 at its half, and if the line falls idle. They and
                                                   on_sent may preempt one another: a lost count of `events` does no harm */
