@@ -140,7 +140,8 @@ extern "C" {
  *     Ethernet, no copies   ether_dma.c    uip_open_ether  uip_input_frame    uip_periodic_frame
  *
  * ether_dma.c and the programs for a serial line never wait for their controller, and sleep. ether.c
- * and rtos.c wait until a frame is sent, some 0.1 ms at 100 Mbit/s.
+ * and rtos.c wait until a frame is sent, some 0.1 ms at 100 Mbit/s. Under an RTOS ether_dma.c waits
+ * for a semaphore in place of its sleep.
  *
  * On Ethernet link libuip_c_ether.a, which has all calls; otherwise libuip_c.a. (The libraries of
  * `rt lib`, the kit's command for aarch64 and x86-64, have all calls in libuip_c.a.)
@@ -158,8 +159,8 @@ extern "C" {
  *     arm-none-eabi-gcc -mcpu=cortex-m4 -mthumb -Os -nostartfiles -Iinclude -Iexamples -T board.ld \
  *         startup.c drivers.c main.c ports/out/m4/libuip_c.a -lc -lgcc -o firmware.elf
  *
- * TRY IT from a PC with Linux. --silent is for a firmware, which has a clock of its own. If its
- * address is not 10.0.0.1, pass it.
+ * TRY IT from a PC with Linux. Without --silent browse.py fills the silence of the line with END,
+ * and a firmware would not sleep. If the address of the node is not 10.0.0.1, pass it.
  *
  *     python3 examples/browse.py --line /dev/ttyUSB0 115200 --silent --node 192.168.7.2
  *
@@ -190,9 +191,8 @@ typedef char uip_needs_unsigned_of_32_bits[sizeof(unsigned) == 4 ? 1 : -1];
  * rate of ticks are not noticed.
  *
  *  1 INIT         Before its first call a device is UIP_INIT, or all 0. Your start-up code initialises
- *                 .data and .bss at each reset. (If it does not, do without port.c, port_dma.c and
- *                 port_cdc.c, call reset_step, and set to 0 each device, and heap_used and
- *                 heap_blocks of heap.c.)
+ *                 .data and .bss at each reset. (If it does not, "The ten rules" in the guide has
+ *                 what to set to 0.)
  *
  *  2 DEVICE       While a device is open, do not copy it, and do not write its members.
  *
@@ -265,7 +265,7 @@ typedef char uip_needs_unsigned_of_32_bits[sizeof(unsigned) == 4 ? 1 : -1];
  *     uip_set_value 219; uip_hits 532; uip_query 565; uip_needs_ticks at most 12,310
  *     opening the example site, six files, 2 kB            24,955                   38,761
  *
- * With a `room` of 3,002 bytes such a call took 152,421 on a serial line, the most that was found.
+ * The most that was found is 152,421: percent signs on a serial line, with a `room` of 3,002 bytes.
  * Opening takes some 20 more for each byte of an .shtml, and for each file 800 to 11,000 more, by
  * the length of its name. On Ethernet the frame began two bytes after a multiple of 4
  * (section 9).
@@ -527,8 +527,8 @@ unsigned uip_close(uip_device *device);
  * RECEIVE WHILE YOU SEND. No call reads the port. While your program sends, an interrupt or a DMA
  * stores in a ring what arrives. If the ring overflows, bytes are lost, and a page comes some
  * seconds later. For a trial take 512 bytes. The rings of port.c (8,192 bytes) and port_dma.c
- * (16,384) suit 115,200 bits a second, if passes last at most 5.5 ms on average, and any 24 in a row
- * at most 189 ms with port.c, and 400 ms with port_dma.c. "The ring" in the guide computes it, also
+ * (16,384) suit 115,200 bits a second, if passes last at most 5.5 ms on average, and any 24 passes
+ * in a row at most 189 ms with port.c, and 400 ms with port_dma.c. "The ring" in the guide computes it, also
  * for less RAM, other rates and an erasure of flash. Below 38,400 bits a second read "Slow lines",
  * too.
  *
@@ -698,8 +698,8 @@ UIP_INLINE unsigned uip_tick_datagrams(uip_device *device, unsigned char *out, s
  *
  *   - passes on the frames for `mac` and the broadcasts; it may pass on others, which the node
  *     drops
- *   - drops frames that are damaged, or longer than `room` (the node drops those of more than
- *     UIP_MAX_FRAME)
+ *   - drops frames that are damaged, or longer than `room`: the call would refuse them, and the loop
+ *     would end. (Those of more than UIP_MAX_FRAME are dropped by the node.)
  *   - takes the check sequence off what it receives, and adds it to what it sends
  *   - pads what it sends to 60 bytes
  *   - does not insert checksums of IP, ICMP or TCP: the library has written them. Turn that
@@ -876,8 +876,9 @@ uip_number uip_hits(uip_device *device, const void *name, size_t len);
  *
  * The device keeps one query in all, of whatever file. It keeps a query if the site has that file,
  * if the query has at most 64 bytes, names of fields included, each a letter, a digit or one of
- * -_.~%&=+, and if it arrives in the first segment of the request. It ignores any other one: then
- * the query before it stays. Nothing is decoded: text_in does that. Anyone who reaches the node can
+ * -_.~%&=+, and if it arrives in the first segment of the request (further ones may follow). It
+ * ignores any other query: then the one before it stays. Such a request is served and counted all
+ * the same. Nothing is decoded: text_in does that. Anyone who reaches the node can
  * send a query: check it.
  */
 uip_query_text uip_query(uip_device *device, const void *name, size_t len, void *out, size_t room);

@@ -44,9 +44,9 @@ int main(void) {
     static const unsigned char own[4] = {10, 0, 0, 1}, mask[4] = {255, 255, 255, 0}, router[4] = {10, 0, 0, 254};
     uip_opened opened = uip_open_ether(&device, site_image, SITE_IMAGE_LEN, own, mac, mask, router);
     if (opened.status != UIP_OK) fail(opened.status, opened.entry, opened.word);
+    board_start();                             /* first: after a queue is made, FreeRTOS masks interrupts until its scheduler runs */
     reports = queue_make(sizeof(struct report));
     commands = queue_make(sizeof(struct command));
-    board_start();
     pages_start();
     start_tasks(network, control);
 }
