@@ -215,7 +215,8 @@ typedef char uip_needs_unsigned_of_32_bits[sizeof(unsigned) == 4 ? 1 : -1];
  *  6 IMAGE        Until uip_close the image stays at its address, unchanged. It may lie in flash.
  *                 The library reads it only during a call: between calls the flash may be off, or
  *                 busy with an erasure. So under an RTOS the task that makes the calls erases, or
- *                 the flash can be read meanwhile.
+ *                 the flash can be read meanwhile. (If it has one bank, an erasure stops all tasks
+ *                 and interrupts that run from it, for a second or more.)
  *
  *  7 INPUT        During a call everything else that you pass stays unchanged. After the call it is
  *                 yours again.
@@ -226,12 +227,14 @@ typedef char uip_needs_unsigned_of_32_bits[sizeof(unsigned) == 4 ? 1 : -1];
  *                 -freg-struct-return.
  *
  *  9 STACK        There is room for the stack of each call, below that of its caller: more than the
- *                 1 kB of many start-up files. The most on any target, in bytes, with
- *                 examples/heap.c ("Targets" in the guide has each one):
- *                                               uip_open  uip_open_ether  uip_close  any other call
- *                     libuip_c.a                   2,208               -      2,832           2,208
- *                     libuip_c_ether.a             6,656           5,616      3,568           2,288
- *                     `rt lib` for aarch64         1,776           2,144         96           1,856
+ *                 1 kB of many start-up files. In bytes, with examples/heap.c, on an M4, and at
+ *                 most on any target ("Targets" in the guide has each one):
+ *                                                uip_open  uip_open_ether  uip_close  other calls
+ *                     libuip_c.a        M4          1,256               -      2,480        1,968
+ *                                       at most     2,208               -      2,832        2,208
+ *                     libuip_c_ether.a  M4          6,400           5,280      3,272        1,872
+ *                                       at most     6,656           5,616      3,568        2,288
+ *                     `rt lib`, aarch64             1,776           2,144         96        1,856
  *                 Add your interrupts if they share the stack. The stack of a sink does not add: it
  *                 runs after the library has returned. Under an RTOS a device may be opened on the
  *                 main stack, before the scheduler starts; the task then needs the last column. A
@@ -428,7 +431,9 @@ typedef void (*uip_sink)(void *to, const unsigned char *bytes, size_t len);
  * ADDRESSES THAT A USER ENTERS. The library copies addresses, and checks none. Whenever the address,
  * the mask or the router changes, check all of them by examples/text.h before you store them:
  *
- *   - is_host(own, mask). On a serial line or with datagrams `mask` is {0, 0, 0, 0}.
+ *   - mask_of(bits, mask) makes the mask, of 8 to 30 bits. On a serial line or with datagrams it is
+ *     {0, 0, 0, 0}.
+ *   - is_host(own, mask).
  *   - The router is {0, 0, 0, 0}, which is none; or is_host(router, mask),
  *     is_same_network(router, own, mask), and it differs from `own`.
  *   - No other host has the address; on a serial line the other end has another one. The node does
@@ -436,9 +441,11 @@ typedef void (*uip_sink)(void *to, const unsigned char *bytes, size_t len);
  *     held at the start.
  *
  * TO CHANGE THE ADDRESS, store the new one, and let the reply be delivered: go through the loop until
- * uip_needs_ticks is 0, but for at most six ticks. Then reset the processor, or close the device and
- * open it with the new address. examples/firmware/settings_pages.c does it by a reset, with the
- * checks and a way back. To store may take a second, so a loop that must not wait erases at the start.
+ * uip_needs_ticks is 0, but for at most six ticks. Refuse further changes meanwhile, and leave the
+ * values of the reply. Then reset the processor, or close the device and open it with the new address.
+ * examples/firmware/settings_pages.c does it by a reset, with the checks and a way back. An erasure
+ * may stop the processor for a second. If that is too long for the loop or for another task, erase at
+ * the start, and append records.
  */
 
 /* Opens a device for a serial line or a link of datagrams. It allocates the memory of the device, and
@@ -826,7 +833,7 @@ UIP_INLINE unsigned uip_tick_frames(uip_device *device, unsigned char *frame, si
  * The node reads a value of a page when the peer has acknowledged all bytes of the reply that come
  * before the value, the HTTP header included. From this follows:
  *
- *   - If you set a value right after the call that took the request, this reply has it.
+ *   - If you set a value before the next call that takes input, the reply to this request has it.
  *   - Two values of a page may be of two moments, and each costs a round trip, often 40 to 200 ms.
  *     So make one value of what belongs together, as "21.5,45.0".
  *   - Two browsers see the same values. If a value answers a request, begin it with a tag that the
