@@ -139,9 +139,9 @@ extern "C" {
  *     Ethernet, RTOS        rtos.c, gate.c uip_open_ether  uip_input_frame    uip_tick_frames
  *     Ethernet, no copies   ether_dma.c    uip_open_ether  uip_input_frame    uip_periodic_frame
  *
- * ether_dma.c and the programs for a serial line never wait for their controller, and sleep. ether.c
- * and rtos.c wait until a frame is sent, some 0.1 ms at 100 Mbit/s. Under an RTOS ether_dma.c waits
- * for a semaphore in place of its sleep.
+ * sleep.c, rtos_serial.c and ether_dma.c never wait for their controller. ether.c, rtos.c and gate.c
+ * wait until a frame is sent, some 0.1 ms at 100 Mbit/s. Under an RTOS ether_dma.c waits for a
+ * semaphore in place of its sleep.
  *
  * On Ethernet link libuip_c_ether.a, which has all calls; otherwise libuip_c.a. (The libraries of
  * `rt lib`, the kit's command for aarch64 and x86-64, have all calls in libuip_c.a.)
@@ -256,7 +256,7 @@ typedef char uip_needs_unsigned_of_32_bits[sizeof(unsigned) == 4 ? 1 : -1];
  * TIME. No call waits, masks interrupts or needs privilege. No call allocates memory, except
  * opening. An inline function waits if its sink waits. Each call but opening handles at most one
  * datagram. No bound on the time of a call is known. Counted, in instructions on an M4 ("Time" in
- * the guide has more, and those of an M0+, which takes 1.2 to 3 times as many):
+ * the guide has more, and those of an M0+: 1.2 to 3 times as many for these rows):
  *
  *                                                     serial line    datagrams    Ethernet
  *     all calls for a ping of 84 bytes                      4,714        1,722       2,184
@@ -521,6 +521,7 @@ unsigned uip_close(uip_device *device);
  *     unsigned char port_read(void) { .. }                             // the byte that has arrived
  *     void port_start(const unsigned char *bytes, size_t len) { .. }   // begins to send, by DMA or interrupt
  *     // Your interrupts: on_received() for each byte; on_sent() when all that port_start began is sent.
+ *     // One that gives `work` something to do adds 1 to `events`: else the loop may sleep.
  *
  *     int main(void) {
  *         ..                               // uip_open, as in section 1
@@ -529,20 +530,22 @@ unsigned uip_close(uip_device *device);
  *     }
  *
  * In place of port.c take port_dma.c if a circular DMA receives, or port_cdc.c for USB CDC. step.h
- * has what each needs, and how to write another port.
+ * has what each needs, and how to write another port. To stop the timer in a sleep, too, copy all of
+ * sleep.c but `main` and `work`.
  *
  * RECEIVE WHILE YOU SEND. No call reads the port. While your program sends, an interrupt or a DMA
  * stores in a ring what arrives. If the ring overflows, bytes are lost, and a page comes some
- * seconds later. For a trial take 512 bytes. The rings of port.c (8,192 bytes) and port_dma.c
- * (16,384) suit 115,200 bits a second, if passes last at most 5.5 ms on average, and any 24 passes
- * in a row at most 189 ms with port.c, and 400 ms with port_dma.c. "The ring" in the guide computes it, also
- * for less RAM, other rates and an erasure of flash. Below 38,400 bits a second read "Slow lines",
- * too.
+ * seconds later. For a trial take 512 bytes. A pass of step.c runs `work`, makes at most one call,
+ * and sends at most 256 bytes. The rings of port.c (8,192 bytes) and port_dma.c (16,384) suit 115,200
+ * bits a second, if passes last at most 5.5 ms on average, and any 24 in a row at most 189 ms with
+ * port.c, and 400 ms with port_dma.c. With port.c an erasure of flash that stops the processor loses
+ * bytes, whatever the ring. "The ring" in the guide computes it, also for other rates. Below 38,400
+ * bits a second read "Slow lines", too.
  *
  * LOST BYTES. If the port reports an error, clear its flag and continue: TCP repairs it. After uip_open,
  * reception may begin within a frame. If the receiver was off later, in a sleep for example, feed
- * one END (0xC0) first, else one more frame is lost: with port.c by port_put(0xC0). port_cdc.c does
- * it by itself.
+ * one END (0xC0) first, else one more frame is lost: with port.c by port_put(0xC0), while interrupts
+ * are off. port_cdc.c does it by itself.
  *
  * NOBODY READS. If a cable is out or a USB host does not read, drop the output, so that the loop
  * continues: your sink returns, or with step.c your port calls on_sent. Each frame of the output
@@ -798,7 +801,8 @@ UIP_INLINE unsigned uip_tick_frames(uip_device *device, unsigned char *frame, si
  * no request. A link to a page with values needs it too.
  *
  * A TOKEN is a text that a page has as a value, and sends back in its query. Your program accepts
- * it once, only while the state that the page showed is unchanged, and for a limited time.
+ * it once, only while the state that the page showed is unchanged, and for a limited time by a clock
+ * that also counts in a sleep.
  *
  *   - In the file its directive comes before those of the state, as the node reads values in this
  *     order: so an old state never comes with a new token.
@@ -885,8 +889,8 @@ uip_number uip_hits(uip_device *device, const void *name, size_t len);
  * if the query has at most 64 bytes, names of fields included, each a letter, a digit or one of
  * -_.~%&=+, and if it arrives in the first segment of the request (further ones may follow). It
  * ignores any other query: then the one before it stays. Such a request is served and counted all
- * the same. Nothing is decoded: text_in does that. Anyone who reaches the node can
- * send a query: check it.
+ * the same. Nothing is decoded: text_in does that. Anyone who reaches the node can send a query:
+ * check it. "Forms" in docs/PAGES.md has how to keep a setting over a restart.
  */
 uip_query_text uip_query(uip_device *device, const void *name, size_t len, void *out, size_t room);
 
@@ -914,7 +918,7 @@ uip_number uip_is_idle(uip_device *device);
  * arrives. That prolongs TIME_WAIT. All new connections have one and the same initial sequence
  * number until the next tick. uip_ticks does not rise, and on Ethernet ARP entries do not age.
  *
- * With step.c take wfi and half_a_second_passed of sleep.c: "Sleep" in the guide explains them.
+ * With step.c copy all of sleep.c but `main` and `work`: "Sleep" in the guide explains it.
  * With datagrams or on Ethernet the function that receives may wait until something arrives.
  * "Sleep" has more: a receiver that is off, and what Linux sends unasked.
  */
