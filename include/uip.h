@@ -264,7 +264,7 @@ typedef char uip_needs_unsigned_of_32_bits[sizeof(unsigned) == 4 ? 1 : -1];
  *     all calls of a tick that sends nothing                1,830        1,070       1,254
  *     one call that sends 1,460 bytes of a file            16,879       13,263      13,725
  *     one call that sends 1,460 bytes of an .shtml         64,798       61,182      61,644
- *     one call that sends 1,460 percent signs of one      117,394      113,778     114,240
+ *     the same, if all are percent signs                  117,394      113,778     114,240
  *     uip_set_value 219; uip_hits 532; uip_query 565; uip_needs_ticks at most 12,310
  *     opening the example site, six files, 2 kB            24,955                   38,761
  *
@@ -684,8 +684,8 @@ UIP_INLINE unsigned uip_tick_datagrams(uip_device *device, unsigned char *out, s
  * examples/firmware/ether.c. rtos.c there has it under an RTOS. ether_dma.c has a loop that never
  * waits, over the buffers of a DMA; drivers.h beside it explains who owns each buffer.
  *
- *     // Copies a received frame. Returns its length, or 0 if there is none. It may wait for
- *     // one, as long as ticks and values may be late: 20 ms, for example.
+ *     // Copies a received frame. Returns its length, or 0 if there is none. It may wait for one;
+ *     // ticks and values are then late, so wait for 20 ms at most, for example.
  *     size_t mac_receive(unsigned char *frame, size_t room);
  *     // Sends a frame. When it returns, no DMA uses `frame`.
  *     void mac_send(void *to, const unsigned char *frame, size_t len);
@@ -708,8 +708,8 @@ UIP_INLINE unsigned uip_tick_datagrams(uip_device *device, unsigned char *out, s
  *
  *   - passes on the frames for `mac` and the broadcasts; it may pass on others, which the node
  *     drops
- *   - drops frames that are damaged, or longer than `room`: the call would refuse them, and the loop
- *     would end. (Those of more than UIP_MAX_FRAME are dropped by the node.)
+ *   - drops damaged frames
+ *   - drops frames longer than `room`, since the call would refuse them, and the loop would end
  *   - takes the check sequence off what it receives, and adds it to what it sends
  *   - pads what it sends to 60 bytes
  *   - does not insert checksums of IP, ICMP or TCP: the library has written them. Turn that
@@ -788,7 +788,7 @@ UIP_INLINE unsigned uip_tick_frames(uip_device *device, unsigned char *frame, si
  *     for an action that                                    take
  *     is harmless at any time (lamp on)                     a link to a file of its own, and uip_hits
  *     needs a click; may come again, even late (set to 5)   a query, and uip_query
- *     must happen once, or not late (open, reset)           a query with a token, and examples/token.h
+ *     may act at most once, and not late (open, reset)      a query with a token, and examples/token.h
  *
  * A QUERY is made when the user clicks, by a form or in onclick. Never write a query that acts into
  * the href of a link, as a browser may follow it in advance.
@@ -804,9 +804,12 @@ UIP_INLINE unsigned uip_tick_frames(uip_device *device, unsigned char *frame, si
  * it once, only while the state that the page showed is unchanged, and for a limited time by a clock
  * that also counts in a sleep.
  *
+ *   - A request with a token that was used, or is old, does nothing: a second click, another browser,
+ *     a page that was loaded before. Its reply shows that.
  *   - In the file its directive comes before those of the state, as the node reads values in this
  *     order: so an old state never comes with a new token.
  *   - A page that gets the state by a script gets the token with it.
+ *   - It is made of random numbers, or of a number that no earlier start had and a count.
  *   - token.h has the functions. settings_pages.c is an example, and gate.c one for two tasks. "Once"
  *     in PAGES.md explains all of it, also for a state that an interrupt keeps.
  *
@@ -885,12 +888,17 @@ uip_number uip_hits(uip_device *device, const void *name, size_t len);
  *         else ..                              // no query, one that was not kept, or no such level
  *     }
  *
- * The device keeps one query in all, of whatever file. It keeps a query if the site has that file,
- * if the query has at most 64 bytes, names of fields included, each a letter, a digit or one of
- * -_.~%&=+, and if it arrives in the first segment of the request (further ones may follow). It
- * ignores any other query: then the one before it stays. Such a request is served and counted all
- * the same. Nothing is decoded: text_in does that. Anyone who reaches the node can send a query:
- * check it. "Forms" in docs/PAGES.md has how to keep a setting over a restart.
+ * The device keeps one query in all, of whatever file. It keeps a query only if
+ *
+ *   - the site has the file
+ *   - the query, that is all after the `?`, has at most 64 bytes
+ *   - every byte of it is a letter, a digit or one of -_.~%&=+
+ *   - it arrives in the first segment of the request (further segments may follow).
+ *
+ * A request with another query is served and counted, and the query before it stays. A browser sends
+ * most other bytes of a text as three (%C3), and nothing is decoded: text_in does that. Anyone who
+ * reaches the node can send a query: check it. "Forms" in docs/PAGES.md has how to keep a setting over
+ * a restart.
  */
 uip_query_text uip_query(uip_device *device, const void *name, size_t len, void *out, size_t room);
 
