@@ -141,7 +141,7 @@ extern "C" {
  *
  * sleep.c, rtos_serial.c and ether_dma.c never wait for their controller. ether.c, rtos.c and gate.c
  * wait until a frame is sent, some 0.1 ms at 100 Mbit/s. Under an RTOS ether_dma.c waits for a
- * semaphore in place of its sleep.
+ * semaphore in place of its sleep, for at most 20 ms; its two interrupts give it.
  *
  * On Ethernet link libuip_c_ether.a, which has all calls; otherwise libuip_c.a. (The libraries of
  * `rt lib`, the kit's command for aarch64 and x86-64, have all calls in libuip_c.a.)
@@ -214,9 +214,9 @@ typedef char uip_needs_unsigned_of_32_bits[sizeof(unsigned) == 4 ? 1 : -1];
  *
  *  6 IMAGE        Until uip_close the image stays at its address, unchanged. It may lie in flash.
  *                 The library reads it only during a call: between calls the flash may be off, or
- *                 busy with an erasure. So under an RTOS the task that makes the calls erases, or
- *                 the flash can be read meanwhile. (If it has one bank, an erasure stops all tasks
- *                 and interrupts that run from it, for a second or more.)
+ *                 busy with an erasure. Under an RTOS, if the flash cannot be read meanwhile, only
+ *                 the task that makes the calls erases it. (If it has one bank, that also stops all
+ *                 tasks and interrupts that run from it, for a second or more.)
  *
  *  7 INPUT        During a call everything else that you pass stays unchanged. After the call it is
  *                 yours again.
@@ -233,13 +233,13 @@ typedef char uip_needs_unsigned_of_32_bits[sizeof(unsigned) == 4 ? 1 : -1];
  *                     libuip_c.a        M4          1,256               -      2,480        1,968
  *                                       at most     2,208               -      2,832        2,208
  *                     libuip_c_ether.a  M4          6,400           5,280      3,272        1,872
- *                                       at most     6,656           5,616      3,568        2,288
+ *                     (calls for frames) at most    6,656           5,616      3,568        2,288
  *                     `rt lib`, aarch64             1,776           2,144         96        1,856
  *                 Add your interrupts if they share the stack. The stack of a sink does not add: it
  *                 runs after the library has returned. Under an RTOS a device may be opened on the
  *                 main stack, before the scheduler starts; the task then needs the last column. A
  *                 task that makes only uip_set_value, uip_hits, uip_query, uip_ticks or uip_counter
- *                 needs 296. The figures of x86-64 and WebAssembly are not known.
+ *                 needs at most 296. The figures of x86-64 and WebAssembly are not known.
  *
  * 10 PROCESSOR    The stack is aligned as the ABI demands. Besides, for each library (m0 is for
  *                 Cortex-M0, M0+ and M3):
@@ -431,8 +431,8 @@ typedef void (*uip_sink)(void *to, const unsigned char *bytes, size_t len);
  * ADDRESSES THAT A USER ENTERS. The library copies addresses, and checks none. Whenever the address,
  * the mask or the router changes, check all of them by examples/text.h before you store them:
  *
- *   - mask_of(bits, mask) makes the mask, of 8 to 30 bits. On a serial line or with datagrams it is
- *     {0, 0, 0, 0}.
+ *   - The mask has 8 to 30 bits: mask_of(bits, mask) makes it, and accepts 0 to 32. On a serial line or
+ *     with datagrams it is {0, 0, 0, 0}.
  *   - is_host(own, mask).
  *   - The router is {0, 0, 0, 0}, which is none; or is_host(router, mask),
  *     is_same_network(router, own, mask), and it differs from `own`.
@@ -485,7 +485,7 @@ uip_opened uip_open_ether(uip_device *device, const unsigned char *image, size_t
  *
  * If you open again, set all values again, and set to 0 what your program remembers of uip_hits,
  * uip_query, uip_ticks and uip_counter: all begin at 0. With step.c call reset_step between the two
- * calls; a loop of your own forgets the tick that is under way. The port may send and receive
+ * calls; a loop of your own begins the next tick at slot 0. The port may send and receive
  * meanwhile. If opening fails, the device is closed: call `fail`, as section 1 does.
  */
 unsigned uip_close(uip_device *device);
@@ -535,17 +535,17 @@ unsigned uip_close(uip_device *device);
  *
  * RECEIVE WHILE YOU SEND. No call reads the port. While your program sends, an interrupt or a DMA
  * stores in a ring what arrives. If the ring overflows, bytes are lost, and a page comes some
- * seconds later. For a trial take 512 bytes. A pass of step.c runs `work`, makes at most one call,
- * and sends at most 256 bytes. The rings of port.c (8,192 bytes) and port_dma.c (16,384) suit 115,200
- * bits a second, if passes last at most 5.5 ms on average, and any 24 in a row at most 189 ms with
- * port.c, and 400 ms with port_dma.c. With port.c an erasure of flash that stops the processor loses
- * bytes, whatever the ring. "The ring" in the guide computes it, also for other rates. Below 38,400
- * bits a second read "Slow lines", too.
+ * seconds later. For a trial take 512 bytes. The rings of port.c (8,192 bytes) and port_dma.c
+ * (16,384) suit 115,200 bits a second, if `work` and one call take at most 5 ms together; one of 40
+ * ms now and then does no harm. With port_dma.c 8,192 bytes (-DRING=8192, for all files) suit it if a
+ * clock ends wfi within 100 ms, and `work` and one call take at most 3 ms. "The ring" in the guide
+ * computes all this, also for other rates. With port.c an erasure of flash that stops the processor
+ * loses bytes, whatever the ring. Below 38,400 bits a second read "Slow lines", too.
  *
  * LOST BYTES. If the port reports an error, clear its flag and continue: TCP repairs it. After uip_open,
  * reception may begin within a frame. If the receiver was off later, in a sleep for example, feed
- * one END (0xC0) first, else one more frame is lost: with port.c by port_put(0xC0), while interrupts
- * are off. port_cdc.c does it by itself.
+ * one END (0xC0) first, else one more frame is lost: with port.c and port_dma.c by port_put(0xC0),
+ * while interrupts are off. port_cdc.c does it by itself.
  *
  * NOBODY READS. If a cable is out or a USB host does not read, drop the output, so that the loop
  * continues: your sink returns, or with step.c your port calls on_sent. Each frame of the output
@@ -558,8 +558,8 @@ unsigned uip_close(uip_device *device);
  *                 UIP_OK
  *   out, room     an area for the output. `room` is UIP_MIN_OUT or more; a larger area makes longer
  *                 pieces
- *   sink, to      the sink is called with `to` and each piece: at most one frame for each frame
- *                 that ends in `bytes`
+ *   sink, to      the sink is called with `to` and each piece. Each frame that ends in `bytes` has
+ *                 at most one frame of output
  *
  *   Status    UIP_BAD_ARGUMENT; UIP_NO_DEVICE; UIP_WRONG_LINK; UIP_OUTPUT_PENDING; UIP_OK
  */
@@ -773,7 +773,7 @@ UIP_INLINE unsigned uip_tick_frames(uip_device *device, unsigned char *frame, si
  *
  *     %! value-html 3    value 3 for HTML, also within quotes: & < > " ' are escaped
  *     %! value-json 3    value 3 for a string of JSON: " \ and bytes below 32 are escaped, not <.
- *                        Pack this file as JSON: /NAME=application/json after FOLDER site.c
+ *                        Pack it by tools/pack.py FOLDER site.c /NAME=application/json
  *     %! value 3         value 3 as it is: only if nobody else influences its text
  *     %!: /footer.html   the file /footer.html as it is: its directives are not executed
  *
@@ -788,7 +788,7 @@ UIP_INLINE unsigned uip_tick_frames(uip_device *device, unsigned char *frame, si
  *     for an action that                                    take
  *     is harmless at any time (lamp on)                     a link to a file of its own, and uip_hits
  *     needs a click; may come again, even late (set to 5)   a query, and uip_query
- *     may act at most once, and not late (open, reset)      a query with a token, and examples/token.h
+ *     may act at most once, and not late (open a gate)      a query with a token, and examples/token.h
  *
  * A QUERY is made when the user clicks, by a form or in onclick. Never write a query that acts into
  * the href of a link, as a browser may follow it in advance.
@@ -827,7 +827,7 @@ UIP_INLINE unsigned uip_tick_frames(uip_device *device, unsigned char *frame, si
  * emergency stop.
  */
 
-/* A string literal as two arguments: its text and its length, without the 0 at its end. */
+/* A string literal, and nothing else, as two arguments: its text and its length without the 0 at its end. */
 #define UIP_TEXT(literal) ("" literal), sizeof("" literal) - 1
 
 /* Sets a value that pages show. Before it is set, and if `len` is 0, it is empty.

@@ -35,6 +35,14 @@ static int takes(const char *what, size_t room, size_t count) {
     return is_right;
 }
 
+/* A byte of port_put is taken once, before those that arrived. */
+static int puts_end_first(void) {
+    unsigned char byte = 0;
+    int is_right = read_serial(&byte, 0) == 0 && read_serial(&byte, 1) == 1 && byte == 0xC0;
+    if (!is_right) printf("port_dma.c: port_put: %u\n", byte);
+    return is_right;
+}
+
 int main(void) {
     int is_right = takes("at the start", 64, 0);
     arrive(13);
@@ -66,5 +74,9 @@ int main(void) {
     arrive(13);
     on_dma(1);
     is_right &= takes("to the end of it", 64, 13);
+    arrive(2);
+    port_put(0xC0);
+    is_right &= puts_end_first();
+    is_right &= takes("after that byte", 64, 2);
     return !is_right;
 }

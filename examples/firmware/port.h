@@ -18,8 +18,9 @@ void on_received(void);                                   /* port.c: the port ha
 void on_sent(void);                                       /* the port has read all that port_start began (the end of the DMA). If you
                                                              stop its clock in a sleep: it has sent the last bit */
 
-void port_put(unsigned char byte);                        /* port.c: stores a byte, as on_received does: END (0xC0) after a sleep
-                                                             without the receiver */
+void port_put(unsigned char byte);                        /* port.c and port_dma.c: read_serial returns this byte, too, END (0xC0) after a
+                                                             sleep without the receiver: port.c as the newest one (call it while
+                                                             interrupts are off), port_dma.c as the next one */
 extern volatile unsigned bytes_received;                  /* modulo 2^32 */
 
 #endif

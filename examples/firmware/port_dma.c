@@ -17,6 +17,8 @@ static volatile unsigned laps;                 /* how often the DMA reached the 
 static unsigned taken;                         /* how many bytes were taken, modulo 2^32 */
 static volatile int is_restarted;              /* whether the DMA began anew, and read_serial has not seen it */
 static volatile int is_sending;
+static volatile unsigned char put;             /* the byte of port_put */
+static volatile int has_put;                   /* whether read_serial has not taken it */
 
 /* How many bytes the DMA has written since the start, modulo 2^32; it is known to be `at_least` or more. If the DMA has just reached the
  * end of the ring, and the interrupt has not come yet, `laps` is one too low.
@@ -48,9 +50,19 @@ void on_sent(void) {
     events++;
 }
 
+void port_put(unsigned char byte) {
+    put = byte;
+    has_put = 1;
+    events++;
+}
+
 size_t read_serial(unsigned char *bytes, size_t room) {
     size_t len = 0;
     unsigned end;
+    if (has_put && room > 0) {
+        bytes[len++] = put;
+        has_put = 0;
+    }
     if (is_restarted) {                        /* what waited is lost: TCP sends it again */
         is_restarted = 0;
         taken = laps * RING;

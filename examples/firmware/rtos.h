@@ -15,7 +15,8 @@ void start_tasks(void (*first)(void *), void (*second)(void *));    /* creates b
 void sleep_one_second(void);           /* rtos.c and rtos_serial.c */
 
 /* rtos_serial.c: a binary semaphore */
-void make_semaphore(void);             /* before the interrupts of the port are on, which give it */
+void make_semaphore(void);             /* before the interrupts of the port are on, which give it. After it FreeRTOS masks interrupts
+                                          until its scheduler runs: so board_start waits for none */
 void take_for_100_ms(void);            /* waits until it is given, at most 100 ms */
 void give(void);
 void give_from_interrupt(void);
