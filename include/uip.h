@@ -520,8 +520,9 @@ unsigned uip_close(uip_device *device);
  *
  *     unsigned char port_read(void) { .. }                             // the byte that has arrived
  *     void port_start(const unsigned char *bytes, size_t len) { .. }   // begins to send, by DMA or interrupt
- *     // Your interrupts: on_received() for each byte; on_sent() when all that port_start began is sent.
- *     // One that gives `work` something to do adds 1 to `events`: else the loop may sleep.
+ *     // Your interrupts: on_received() for each byte; on_sent() when the port has read all that port_start
+ *     // began. Another interrupt that gives `work` something to do adds 1 to `events`, which step.h
+ *     // declares: else the loop may sleep.
  *
  *     int main(void) {
  *         ..                               // uip_open, as in section 1
@@ -530,8 +531,8 @@ unsigned uip_close(uip_device *device);
  *     }
  *
  * In place of port.c take port_dma.c if a circular DMA receives, or port_cdc.c for USB CDC. step.h
- * has what each needs, and how to write another port. To stop the timer in a sleep, too, copy all of
- * sleep.c but `main` and `work`.
+ * has what each needs, and how to write another port. For a device that also stops its timer in a
+ * sleep copy all of sleep.c but `main` and `work`.
  *
  * RECEIVE WHILE YOU SEND. No call reads the port. While your program sends, an interrupt or a DMA
  * stores in a ring what arrives. If the ring overflows, bytes are lost, and a page comes some
@@ -540,7 +541,10 @@ unsigned uip_close(uip_device *device);
  * ms now and then does no harm. With port_dma.c 8,192 bytes (-DRING=8192, for all files) suit it if a
  * clock ends wfi within 100 ms, and `work` and one call take at most 3 ms. "The ring" in the guide
  * computes all this, also for other rates. With port.c an erasure of flash that stops the processor
- * loses bytes, whatever the ring. Below 38,400 bits a second read "Slow lines", too.
+ * loses bytes, whatever the ring.
+ *
+ * SLOW LINES. The node sends a segment again if it is not acknowledged after 4 ticks, 2 s. If the line
+ * has less than 38,400 bits a second, or a round trip takes longer, read "Slow lines" in the guide.
  *
  * LOST BYTES. If the port reports an error, clear its flag and continue: TCP repairs it. After uip_open,
  * reception may begin within a frame. If the receiver was off later, in a sleep for example, feed
@@ -840,7 +844,8 @@ UIP_INLINE unsigned uip_tick_frames(uip_device *device, unsigned char *frame, si
  * The node reads a value of a page when the peer has acknowledged all bytes of the reply that come
  * before the value, the HTTP header included. From this follows:
  *
- *   - If you set a value before the next call that takes input, the reply to this request has it.
+ *   - If you see a request, and set a value before the next call that takes input, the reply to this
+ *     request has it.
  *   - Two values of a page may be of two moments, and each costs a round trip, often 40 to 200 ms.
  *     So make one value of what belongs together, as "21.5,45.0".
  *   - Two browsers see the same values. If a value answers a request, begin it with a tag that the
@@ -882,7 +887,8 @@ uip_number uip_hits(uip_device *device, const void *name, size_t len);
  *     if (hits != seen) {                      // the file was requested
  *         uip_query_text query = uip_query(&device, UIP_TEXT("/set.html"), text, sizeof text);
  *         seen = hits;
- *         // examples/text.h: number_in; tenths_in reads 21.5, text_in a name, address_in 10.0.0.1
+ *         // examples/text.h: number_in; tenths_in reads 21.5, text_in a name, address_in 10.0.0.1;
+ *         // signed_number_in and signed_tenths_in also read a sign
  *         if (query.hit == hits && number_in(text, query.len, "level", &level) && level <= 100)
  *             set_level(level);
  *         else ..                              // no query, one that was not kept, or no such level
