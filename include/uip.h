@@ -715,7 +715,7 @@ UIP_INLINE unsigned uip_tick_datagrams(uip_device *device, unsigned char *out, s
  *   - drops damaged frames
  *   - drops frames longer than `room`, since the call would refuse them, and the loop would end
  *   - takes the check sequence off what it receives, and adds it to what it sends
- *   - pads what it sends to 60 bytes
+ *   - pads what it sends to 60 bytes, with 0
  *   - does not insert checksums of IP, ICMP or TCP: the library has written them. Turn that
  *     function of the controller off; it may check those of what it receives
  *   - may lose frames. While the link is down it drops what is to be sent: mac_send returns at once,
@@ -791,7 +791,7 @@ UIP_INLINE unsigned uip_tick_frames(uip_device *device, unsigned char *frame, si
  *
  *     for an action that                                    take
  *     is harmless at any time (lamp on)                     a link to a file of its own, and uip_hits
- *     needs a click; may come again, even late (set to 5)   a query, and uip_query
+ *     needs a click; may come again, even days later        a query, and uip_query
  *     may act at most once, and not late (open a gate)      a query with a token, and examples/token.h
  *
  * A QUERY is made when the user clicks, by a form or in onclick. Never write a query that acts into
@@ -809,7 +809,8 @@ UIP_INLINE unsigned uip_tick_frames(uip_device *device, unsigned char *frame, si
  * that also counts in a sleep.
  *
  *   - A request with a token that was used, or is old, does nothing: a second click, another browser,
- *     a page that was loaded before. Its reply shows that.
+ *     a page that was loaded before. Its reply shows that. But if the request that acted comes again,
+ *     the reply still shows what it did: each page draws a tag, and sends it with the token.
  *   - In the file its directive comes before those of the state, as the node reads values in this
  *     order: so an old state never comes with a new token.
  *   - A page that gets the state by a script gets the token with it.
