@@ -230,11 +230,12 @@ typedef char uip_needs_unsigned_of_32_bits[sizeof(unsigned) == 4 ? 1 : -1];
  *                 1 kB of many start-up files. In bytes, with examples/heap.c, on an M4, and at
  *                 most on any target ("Targets" in the guide has each one):
  *                                                uip_open  uip_open_ether  uip_close  other calls
- *                     libuip_c.a        M4          1,256               -      2,480        1,968
- *                                       at most     2,208               -      2,832        2,208
- *                     libuip_c_ether.a  M4          6,400           5,280      3,272        1,872
- *                     (calls for frames) at most    6,656           5,616      3,568        2,288
+ *                     libuip_c.a, M4                1,256               -      2,480        1,968
+ *                     libuip_c.a, at most           2,208               -      2,832        2,208
+ *                     with frames, M4               6,400           5,280      3,272        1,872
+ *                     with frames, at most          6,656           5,616      3,568        2,288
  *                     `rt lib`, aarch64             1,776           2,144         96        1,856
+ *                 "With frames" is libuip_c_ether.a and its calls for frames.
  *                 Add your interrupts if they share the stack. The stack of a sink does not add: it
  *                 runs after the library has returned. Under an RTOS a device may be opened on the
  *                 main stack, before the scheduler starts; the task then needs the last column. A
@@ -396,8 +397,8 @@ typedef struct uip_query_text { unsigned status; unsigned hit; size_t len; } uip
  *   port       the TCP port of the peer
  *   waiting    1 if a segment is sent and not yet acknowledged
  *   tries      how often this segment was sent again
- *   count      if `waiting` is 1: the ticks until it is sent again, or given up. In FIN_WAIT_2 and
- *              TIME_WAIT: the ticks spent there, of 120. Else 0
+ *   count      if `waiting` is 1: the ticks until this segment is sent again, or given up. Else, in
+ *              FIN_WAIT_2 and TIME_WAIT: the ticks spent there, of 120. Else 0
  */
 typedef struct uip_row { unsigned status, state; unsigned char peer[4]; unsigned port, tries, count, waiting; } uip_row;
 
@@ -721,8 +722,9 @@ UIP_INLINE unsigned uip_tick_datagrams(uip_device *device, unsigned char *out, s
  *   - may lose frames. While the link is down it drops what is to be sent: mac_send returns at once,
  *     and the loop makes its ticks. No call is needed when a link goes down or comes up.
  *
- * The library needs no alignment of `frame`; a DMA and a cache may. If your driver copies frames,
- * let `frame` be two bytes after a multiple of 4: then the library copies by words. In C11 that is
+ * The library needs no alignment of `frame`; a DMA and a cache may (drivers.h). If your driver
+ * copies frames, let `frame` be two bytes after a multiple of 4: then the library copies by words.
+ * In C11 that is
  *
  *     static _Alignas(4) unsigned char area[2 + UIP_MAX_FRAME];
  *     static unsigned char *const frame = area + 2;           // write UIP_MAX_FRAME for `sizeof frame`
@@ -784,13 +786,15 @@ UIP_INLINE unsigned uip_tick_frames(uip_device *device, unsigned char *frame, si
  * %! ticks, %! net-stats, %! tcp-connections and %! file-stats /x show ticks, counters, connections
  * and hits.
  *
- * A request of / gets /index.html. It has no values, as it is no .shtml: let it link to one.
+ * A request of / gets /index.html. It is no .shtml, so it has no directives: let it link to one, or
+ * fetch its values by a script, as `live.html` of that folder does.
  *
  * BUTTONS AND FORMS are files that a browser requests. It also requests files that nobody clicked:
  * it may follow a link in advance, load a page again, or restore one after days. So take
  *
  *     for an action that                                    take
- *     is harmless at any time (lamp on)                     a link to a file of its own, and uip_hits
+ *     is harmless at any time (lamp on), or must never      a link to a file of its own, and uip_hits
+ *     be refused (stop)
  *     needs a click; may come again, even days later        a query, and uip_query
  *     may act at most once, and not late (open a gate)      a query with a token, and examples/token.h
  *
@@ -866,8 +870,8 @@ unsigned uip_set_value(uip_device *device, size_t number, const void *text, size
  *
  *   Status    UIP_NO_DEVICE; UIP_OK
  *
- * A request for / counts for /index.html. An include counts none. A segment that is sent again
- * counts once.
+ * A request for / counts for /index.html, and /on.html?d=1 for /on.html. An include counts none. A
+ * segment that is sent again counts once.
  */
 uip_number uip_hits(uip_device *device, const void *name, size_t len);
 
