@@ -9,7 +9,7 @@
 
 #include <stddef.h>
 
-/* All programs; gate.c and settings_pages.c have no lamp, no temperature and no start_number */
+/* All programs; gate.c, settings_pages.c and door_pages.c have no lamp, no temperature and no start_number */
 void board_start(void);                                   /* starts clock, sensor, and port or controller */
 void lamp(unsigned percent);                              /* its brightness, 0 to 100 */
 int temperature(void);                                    /* in tenths of a degree: -55 is -5.5 */
@@ -18,7 +18,7 @@ unsigned start_number(void);                              /* a number that no ea
 void fail(unsigned status, unsigned entry, const char *word);    /* no device was opened: shows why, and never returns */
 void stop(unsigned status);                               /* records the status, and resets the processor */
 
-/* All programs but sleep.c */
+/* All programs but sleep.c, which needs it with door_pages.c: there it also counts in a sleep */
 unsigned milliseconds(void);                              /* since the start, modulo 2^32 */
 
 /* serial.c */
@@ -102,7 +102,7 @@ void sleep_until_interrupt(int is_deep);                  /* dsb, wfi; an interr
 void timer_start(void);                                   /* the timer of half a second runs again, after timer_stop */
 void timer_stop(void);
 
-/* gate.c and settings_pages.c */
+/* gate.c, settings_pages.c and door_pages.c */
 unsigned random_bits(void);                               /* 32 bits of a true random generator, such as that of the processor. If it
                                                              fails, reset: no number may come again after a start */
 
@@ -125,5 +125,18 @@ int store_settings(const struct addresses *from);         /* returns 0 if it fai
 int load_settings(struct addresses *to);                  /* those that were stored last. Returns 0, and changes nothing, if there are
                                                              none */
 int button_is_held(void);                                 /* a button or a jumper that asks for the usual addresses, at the start */
+
+/* door_pages.c
+ *
+ * store_seconds and load_seconds guarantee the same as store_settings and load_settings, with the number in the place of the addresses.
+ *
+ * pages_work locks the door at its time, so while the lock is on, each sleep of the loop ends within 0.1 s. With sleep.c door_unlock starts
+ * a timer for that, which also runs in a deep sleep. If the loop waits longer, in an erasure or in link_wait, the door locks late.
+ */
+int store_seconds(unsigned seconds);                      /* returns 0 if it failed: then load_seconds loads the old number */
+int load_seconds(unsigned *seconds);                      /* the number that was stored last. Returns 0, and changes nothing, if there is
+                                                             none */
+void door_unlock(int is_on);                              /* energises the lock, or ends that. It is off after a reset. A timer of the
+                                                             driver also ends it 61 s after the last call, whatever the loop does */
 
 #endif

@@ -619,7 +619,7 @@ void start_tasks(void (*first)(void *), void (*second)(void *)) {
 }
 
 #endif
-#if defined(PC_GATE) || defined(PC_SETTINGS)
+#if defined(PC_GATE) || defined(PC_SETTINGS) || defined(PC_DOOR)
 
 #include <sys/random.h>
 
@@ -769,6 +769,35 @@ int store_settings(const struct addresses *from) {
     if (to) fclose(to);
     if (!is_written || rename("settings.new", "settings") != 0) return 0;
     report("stored, with the last byte", from->own[3]);
+    return 1;
+}
+
+#endif
+#ifdef PC_DOOR
+
+/* door_pages.c, with ether.c and PC_ETHER. door.py wears the flash out by the file `worn`. The record is the file `seconds`. */
+struct seconds_record { unsigned seconds, sum; };
+
+void door_unlock(int is_on) { fprintf(stderr, "door %d %u\n", is_on, milliseconds()); }
+
+int load_seconds(unsigned *seconds) {
+    struct seconds_record record;
+    FILE *from = fopen("seconds", "r");
+    int is_whole = from && fread(&record, sizeof record, 1, from) == 1 && record.sum == ~record.seconds;
+    if (from) fclose(from);
+    if (is_whole) *seconds = record.seconds;
+    return is_whole;
+}
+
+/* `rename` keeps the old file or has the new one, whole. */
+int store_seconds(unsigned seconds) {
+    struct seconds_record record = {seconds, ~seconds};
+    if (access("worn", F_OK) == 0) return 0;
+    FILE *to = fopen("seconds.new", "w");
+    int is_written = to && fwrite(&record, sizeof record, 1, to) == 1 && fflush(to) == 0 && fsync(fileno(to)) == 0;
+    if (to) fclose(to);
+    if (!is_written || rename("seconds.new", "seconds") != 0) return 0;
+    report("stored", seconds);
     return 1;
 }
 

@@ -1,6 +1,6 @@
 #!/bin/sh
 # Builds the programs of this folder for this machine, with its input and output in the place of a board's (pc.c), and uses their pages
-# by Linux's own TCP: buttons, a form, a restart, a gate whose button acts once, and a page that changes the address.
+# by Linux's own TCP: buttons, a form, a restart, a gate whose button acts once, a page that changes the address, and a door.
 #
 #     sh examples/firmware/run.sh
 #
@@ -22,6 +22,7 @@ if [ "$1" = inside ]; then
         fail "no ${kind}0 was made"
     [ "$2" != gate ] || exec python3 "$here/gate.py" "$out/gate" "$out/gate.log"
     [ "$2" != settings ] || { ip addr add 192.168.7.1/24 dev tap0 && exec python3 "$here/settings.py" "$out/settings" "$out/settings.log"; }
+    [ "$2" != door ] || exec python3 "$here/door.py" "$out/door" "$out/door.log"
     "$out/$2" 2>"$out/$2.log" &
     python3 "$here/client.py" "$3" || fail "the last line of $2 is: $(tail -1 "$out/$2.log")"
     wait $! || fail "$2 did not end with 0: $(tail -1 "$out/$2.log")"
@@ -52,6 +53,10 @@ done
 mkdir -p "$out/settings_site"
 python3 "$top/tools/pack.py" "$here/settings_site" "$out/settings_site/site.c" || fail "the site of the settings was not packed"
 "$cc" $strict -fsyntax-only -I"$top/include" "$here/settings_pages.c" || fail "settings_pages.c does not compile"
+mkdir -p "$out/door_site"
+python3 "$top/tools/pack.py" "$here/door_site" "$out/door_site/site.c" /state.shtml=application/json ||
+    fail "the site of the door was not packed"
+"$cc" $strict -fsyntax-only -I"$top/include" "$here/door_pages.c" || fail "door_pages.c does not compile"
 [ -f "$library" ] || skip "library at $library: run rt lib in crates/uip_c"
 # build NAME KIND WORDS: a program of this folder, with further files.
 build() {
@@ -73,6 +78,8 @@ build rtos PC_RTOS
     "$here/gate_pages.c" "$here/gate_control.c" "$here/pc.c" "$library" -o "$out/gate" || fail "gate was not built"
 "$cc" -std=gnu11 -O2 -Wall -Wextra -Werror -DPC_ETHER -DPC_SETTINGS -DTOKEN_MS=2000 -pthread -I"$top/include" -I"$out/settings_site" \
     "$here/ether.c" "$here/settings_pages.c" "$here/pc.c" "$library" -o "$out/settings" || fail "settings was not built"
+"$cc" -std=gnu11 -O2 -Wall -Wextra -Werror -DPC_ETHER -DPC_DOOR -DOPEN_MS=2000 -DSET_MS=4000 -pthread -I"$top/include" -I"$out/door_site" \
+    "$here/ether.c" "$here/door_pages.c" "$here/pc.c" "$library" -o "$out/door" || fail "door was not built"
 
 for command in ip unshare; do command -v $command >/dev/null || skip "command $command"; done
 [ -w /dev/net/tun ] || skip "/dev/net/tun that can be opened"
@@ -102,3 +109,5 @@ unshare -rn sh "$0" inside gate >"$out/gate.told" 2>&1 || fail "gate: $(cat "$ou
 echo "gate: $(grep -a 'acted once' "$out/gate.told")"
 unshare -rn sh "$0" inside settings >"$out/settings.told" 2>&1 || fail "settings: $(cat "$out/settings.told")"
 echo "settings: $(grep -a 'address' "$out/settings.told")"
+unshare -rn sh "$0" inside door >"$out/door.told" 2>&1 || fail "door: $(cat "$out/door.told")"
+echo "door: $(grep -a 'unlocked once' "$out/door.told")"
