@@ -8,8 +8,7 @@
  *     next one, together with the state. Without a script the button works for at least 20 s after its page was loaded.
  *   - That of the form is valid for 10 to 20 minutes. That suffices for the form, so it needs no script.
  *   - A change of the number ends both: the pages show the old one, and the button would unlock the door for another time.
- *   - A change of the door ends none. In each state the button does the same, since the time begins anew. And the seconds that are left
- *     change all the time.
+ *   - A change of the door ends none. In each state the button does the same, as the time begins anew; and the page shows that time.
  *   - They are random, since a page of another site must not guess them.
  *
  * TAGS. A page draws a tag for each click. An outcome is shown with the tag of its request, as two browsers see the same values. If the
@@ -19,8 +18,7 @@
  * FLASH. The pass that accepts a number also stores it, if it differs from the present one. It holds at once, without a restart. Each
  * erasure takes a token: only who has loaded the page causes one.
  *
- * TIME. It is that of milliseconds(), not in ticks, since a device that sleeps leaves them out. A new number does not change a time that
- * has begun.
+ * TIME is that of milliseconds(), as a device that sleeps leaves out ticks. A new number does not change a time that has begun.
  *
  * No status is checked here: each call returns UIP_OK, since the device is open and the arguments are in range.
  *
@@ -33,7 +31,7 @@
 #include "../token.h"
 
 enum { OPEN_TOKEN = 1, SET_TOKEN = 2, OPEN_OUTCOME = 3, SET_OUTCOME = 4, DOOR = 5, SECONDS = 6 };    /* values */
-enum { TAG_LEN = 8 };                          /* a tag of 1 to 8 characters */
+enum { TAG_LEN = 8, MOST_SECONDS = 60 };
 #ifndef OPEN_MS
 #define OPEN_MS 20000                          /* a token of the button is valid for this time to twice as long, in milliseconds */
 #define SET_MS 600000                          /* the same for the form */
@@ -52,7 +50,7 @@ struct form {
 #define NONE {"-", 1, "none"}
 static struct form open_form = {UIP_TEXT("/open.shtml"), OPEN_TOKEN, OPEN_OUTCOME, {.period = OPEN_MS}, NONE, NONE, 0};
 static struct form set_form = {UIP_TEXT("/set.shtml"), SET_TOKEN, SET_OUTCOME, {.period = SET_MS}, NONE, NONE, 0};
-static unsigned seconds = 5, shown;            /* the number, and the one that the pages show: 0 before the first */
+static unsigned seconds = 5, shown;            /* the number, 1 to 60, and the one that the pages show: 0 before the first */
 static unsigned unlocked_at, unlocked_ms;      /* when the time began, and its length: 0 while the door is locked */
 static unsigned segments_seen;
 
@@ -63,7 +61,7 @@ static const char *unlock(void) {
     return NULL;
 }
 
-static int is_in_range(unsigned number) { return number >= 1 && number <= 60; }
+static int is_in_range(unsigned number) { return number >= 1 && number <= MOST_SECONDS; }
 
 /* Sets the number of a query, or returns why not. */
 static const char *set(const unsigned char *query, size_t len) {
@@ -96,13 +94,11 @@ static struct outcome outcome_of(const unsigned char *query, size_t len, const c
     struct outcome outcome = {"-", 1, word};
     size_t size = 0;
     const unsigned char *tag = field_in(query, len, "d", &size);
+    const unsigned char *end = size > 0 ? tag + size : query + len;
     if (len == 0) return outcome;
-    if (size == 0) {
-        tag = query;
-        size = len;
-    }
+    if (size == 0) size = len;
     outcome.len = size < TAG_LEN ? size : TAG_LEN;
-    memcpy(outcome.tag, tag + size - outcome.len, outcome.len);
+    memcpy(outcome.tag, end - outcome.len, outcome.len);
     return outcome;
 }
 
@@ -156,10 +152,9 @@ static void show(void) {
 
 struct addresses pages_addresses(struct addresses usual) { return usual; }
 
-/* If no number was stored, the usual one stays. */
 void pages_start(void) {
     unsigned stored;
-    if (load_seconds(&stored) && is_in_range(stored)) seconds = stored;
+    if (load_seconds(&stored) && is_in_range(stored)) seconds = stored;    /* else the usual number stays */
     segments_seen = open_form.hits_seen = set_form.hits_seen = shown = 0;
     show_outcomes(&open_form, 0);
     show_outcomes(&set_form, 0);
