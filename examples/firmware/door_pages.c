@@ -1,6 +1,6 @@
 /*
- * The pages of a door opener (the folder door_site), on any link and without tasks. A button unlocks the door for a number of seconds,
- * and a form sets that number. In the place of pages.c.
+ * The pages of a door opener (the folder door_site), on any link and without tasks. A button unlocks the door for a number of seconds.
+ * A form sets that number, which holds at once, and after a restart. In the place of pages.c.
  *
  * TOKENS. The button and the form have a token each. The first request that brings it uses it up, whatever comes of it.
  *
@@ -15,9 +15,7 @@
  * request that was accepted comes again, its outcome stays "accepted", and nothing else happens: the reply may be loaded again. The newer
  * outcome comes first. Without a script the tag is the end of the query.
  *
- * FLASH. The pass that accepts a number also stores it, if it differs from the present one. It holds at once, without a restart. Each
- * erasure takes a token: only who has loaded the page causes one.
- *
+ * FLASH. The pass that accepts a number stores it if it differs. Each erasure takes a token: only who has loaded the page causes one.
  * TIME is that of milliseconds(), as a device that sleeps leaves out ticks. A new number does not change a time that has begun.
  *
  * No status is checked here: each call returns UIP_OK, since the device is open and the arguments are in range.
@@ -50,10 +48,10 @@ struct form {
 #define NONE {"-", 1, "none"}
 static struct form open_form = {UIP_TEXT("/open.shtml"), OPEN_TOKEN, OPEN_OUTCOME, {.period = OPEN_MS}, NONE, NONE, 0};
 static struct form set_form = {UIP_TEXT("/set.shtml"), SET_TOKEN, SET_OUTCOME, {.period = SET_MS}, NONE, NONE, 0};
-static unsigned seconds = 5, shown;            /* the number, 1 to 60, and the one that the pages show: 0 before the first */
-static unsigned unlocked_at, unlocked_ms;      /* when the time began, and its length: 0 while the door is locked */
-static unsigned segments_seen;
+static unsigned segments_seen, seconds = 5, shown;    /* `seconds` is the number, and `shown` the one that the pages show; 0: none */
+static unsigned unlocked_at, unlocked_ms;             /* when the time began, and its length: 0 while the door is locked */
 
+/* This and `set` return why they refuse the request, or null. */
 static const char *unlock(void) {
     unlocked_at = milliseconds();
     unlocked_ms = seconds * 1000;
@@ -63,7 +61,6 @@ static const char *unlock(void) {
 
 static int is_in_range(unsigned number) { return number >= 1 && number <= MOST_SECONDS; }
 
-/* Sets the number of a query, or returns why not. */
 static const char *set(const unsigned char *query, size_t len) {
     unsigned number;
     if (!number_in(query, len, "s", &number) || !is_in_range(number)) return "range";
