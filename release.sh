@@ -77,6 +77,7 @@ examples() {
     put examples/firmware/site examples/firmware/site/*
     put examples/firmware/gate_site examples/firmware/gate_site/*
     put examples/firmware/settings_site examples/firmware/settings_site/*
+    put examples/firmware/door_site examples/firmware/door_site/*
     put examples/common examples/board/main.c examples/board/state.c examples/board/ether.c examples/board/app.c examples/board/both.c \
         examples/board/answer.c examples/board/answer.h examples/board/alarm.h examples/board/board.h examples/board/ring.h \
         examples/board/ring.c examples/board/runtime.c examples/board/site.S examples/board/link.ld \

@@ -819,8 +819,9 @@ UIP_INLINE unsigned uip_tick_frames(uip_device *device, unsigned char *frame, si
  *     order: so an old state never comes with a new token.
  *   - A page that gets the state by a script gets the token with it.
  *   - It is made of random numbers, or of a number that no earlier start had and a count.
- *   - token.h has the functions. settings_pages.c is an example, and gate.c one for two tasks. "Once"
- *     in PAGES.md explains all of it, also for a state that an interrupt keeps.
+ *   - token.h has the functions. In examples/firmware door_pages.c is an example for any link, with a
+ *     button, a form and a setting that is kept over a restart; gate.c is one for two tasks. "Once" in
+ *     PAGES.md explains all of it, also for a state that an interrupt keeps.
  *
  * WHEN TO LOOK at hits and queries: after each request, as a later query replaces the one before.
  *
@@ -908,8 +909,7 @@ uip_number uip_hits(uip_device *device, const void *name, size_t len);
  *
  * A request with another query is served and counted, and the query before it stays. A browser sends
  * most other bytes of a text as three (%C3), and nothing is decoded: text_in does that. Anyone who
- * reaches the node can send a query: check it. "Forms" in docs/PAGES.md has how to keep a setting over
- * a restart.
+ * reaches the node can send a query: check it. door_pages.c keeps a setting over a restart.
  */
 uip_query_text uip_query(uip_device *device, const void *name, size_t len, void *out, size_t room);
 

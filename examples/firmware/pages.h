@@ -1,4 +1,4 @@
-/* What the device does with its pages: see pages.c, or settings_pages.c. */
+/* What the device does with its pages: see pages.c, settings_pages.c or door_pages.c. */
 #ifndef PAGES_H
 #define PAGES_H
 
