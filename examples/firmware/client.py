@@ -1,7 +1,7 @@
 #!/usr/bin/env python3
 """Uses the pages of a program of this folder at 10.0.0.1, as a browser would: run.sh runs it. The status is 0 if all is as it should be.
 
-    python3 examples/firmware/client.py NOTE      NOTE is 1 if another task sets a value (rtos.c, rtos_serial.c), else 0
+    python3 examples/firmware/client.py NOTE      NOTE is 1 if another task sets a value (rtos.c and rtos_..), else 0
 
 At the end it restarts the device.
 """

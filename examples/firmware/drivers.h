@@ -33,7 +33,7 @@ size_t datagram_receive(unsigned char *bytes, size_t room);    /* copies a recei
                                                                   is none. It drops a longer one. It may wait, at most 20 ms */
 void datagram_send(void *to, const unsigned char *bytes, size_t len);    /* sends a datagram; it may wait, or drop it */
 
-/* ether.c, ether_dma.c, rtos.c and gate.c */
+/* ether.c, ether_dma.c, rtos.c, rtos_dma.c and gate.c */
 extern const unsigned char mac[6];                        /* the hardware address */
 
 /* ether.c, rtos.c and gate.c */
@@ -42,9 +42,9 @@ size_t mac_receive(unsigned char *frame, size_t room);    /* copies a received f
 void mac_send(void *to, const unsigned char *frame, size_t len);    /* sends a frame, padded to 60 bytes. When it returns,
                                                                        `frame` is no longer used */
 
-/* ether_dma.c
+/* ether_dma.c and rtos_dma.c
  *
- * No function waits or fails. The main loop alone calls them, and no interrupt touches a buffer, a descriptor or a list of buffers.
+ * No function waits or fails. The loop alone calls them, and no interrupt touches a buffer, a descriptor or a list of buffers.
  *
  * BUFFERS. Some, such as eight, are for the receive ring, and one or two are spare. One of each would do, with more losses. While a reply
  * is sent, its buffer is missing in the ring. If the ring is empty, the controller drops what arrives, and TCP repairs it. The transmit
@@ -84,8 +84,13 @@ unsigned char *mac_take_spare(void);                      /* a free spare buffer
                                                              MAC_ROOM bytes with any contents, until mac_send_spare */
 void mac_send_spare(unsigned char *spare, size_t len);    /* sends from a buffer of mac_take_spare, as mac_reply does. The driver owns
                                                              the buffer: when the frame is sent, it is free */
-extern volatile unsigned events;                          /* of the program. The interrupts of the controller, for a received frame and
-                                                             for a sent one, clear their flag and add 1, and do nothing else */
+extern volatile unsigned events;                          /* of ether_dma.c. The interrupts of the controller, for a received frame and
+                                                             for a sent one, clear their flag and add 1, and do nothing else. With
+                                                             rtos_dma.c they call give_from_interrupt in place of adding */
+
+/* rtos_dma.c */
+void mac_interrupts_on(void);                             /* turns the interrupts of the controller on, which board_start leaves off. If
+                                                             a frame has come meanwhile, its interrupt may come at once */
 
 /* sleep.c and rtos_serial.c: what port.h, port_dma.h or port_cdc.h lists, too */
 

@@ -1,7 +1,8 @@
 /*
- * A test of ether_dma.c without the library: the order of its calls, and the owner of each buffer. The library and the drivers are
- * here. Each line of `passes` has what happens in a pass of the loop, and the calls that are expected then. The loop ends by a call that
- * is refused: that of a received frame, or with ENDS_BY_TICK a periodic one. It prints nothing and returns 0 if all is as it should be.
+ * A test of ether_dma.c, or with TEST_rtos_dma of rtos_dma.c, and of ether_loop.c, without the library: the order of the calls, and the
+ * owner of each buffer. The library, the drivers and the RTOS are here. Each line of `passes` has what happens in a pass of the loop, and
+ * the calls that are expected then. The loop ends by a call that is refused: that of a received frame, or with ENDS_BY_TICK a periodic
+ * one. It prints nothing and returns 0 if all is as it should be.
  *
  * SPDX-License-Identifier: MIT OR Apache-2.0
  * Copyright 2026 The Lowunbisa authors
@@ -11,6 +12,12 @@
 #include <string.h>
 #include "pages.h"
 #include "drivers.h"
+#ifdef TEST_rtos_dma
+#include "rtos.h"
+#define PROGRAM_NAME "rtos_dma.c"
+#else
+#define PROGRAM_NAME "ether_dma.c"
+#endif
 
 /* What happens                                            The calls
  *     r    a frame comes, and gets a reply                    f or -    mac_take_received, which returns a frame or NULL
@@ -20,17 +27,22 @@
  *     s    the periodic call writes a frame                   t or n    mac_take_spare, which returns a buffer or NULL
  *     b    the periodic call is refused                       0 to 9    uip_periodic_frame of that slot
  *     e    the frame of the spare buffer is sent after n      s         mac_send_spare
- *     c    a frame comes just after mac_take_received         z         sleep_until_interrupt: the frame of the spare buffer is sent
- *                                                             ?         a call with a wrong buffer or length
+ *     c    a frame comes just after mac_take_received         z         sleep_until_interrupt or take_for, which waits: the frame of the
+ *                                                                       spare buffer is sent
+ *                                                             v         uip_set_value: the value of the other task
+ *                                                             ?         a call with a wrong argument, or at a wrong time
  */
 static const struct pass { const char *happens, *calls; } passes[] = {
+#ifdef TEST_rtos_dma
+    {"", "-vw"},                               /* the other task has given the semaphore: the wait ends at once */
+#endif
     {"", "-wz"}, {"r", "firw"}, {"g", "figw"}, {"", "-wz"},
-    {"h", "-wt0"}, {"", "-w1"}, {"rs", "firw2s"}, {"g", "figwn"}, {"", "-wnz"}, {"s", "-wt3s"}, {"e", "-wn"}, {"hs", "-wt4s"},
-    {"re", "firwn"}, {"s", "-wt5s"}, {"c", "-wn"}, {"r", "firwn"}, {"", "-wnz"}, {"", "-wt6"}, {"g", "figw7"}, {"", "-w8"}, {"", "-w9"},
-    {"", "-w0"}, {"", "-w1"}, {"", "-w2"}, {"", "-w3"}, {"", "-w4"}, {"", "-w5"}, {"", "-w6"}, {"", "-w7"}, {"", "-w8"}, {"s", "-w9s"},
+    {"h", "-t0w"}, {"", "-1w"}, {"rs", "fir2sw"}, {"g", "fignw"}, {"", "-nwz"}, {"s", "-t3sw"}, {"e", "-nw"}, {"hs", "-t4sw"},
+    {"re", "firnw"}, {"s", "-t5sw"}, {"c", "-nw"}, {"r", "firnw"}, {"", "-nwz"}, {"", "-t6w"}, {"g", "fig7w"}, {"", "-8w"}, {"", "-9w"},
+    {"", "-0w"}, {"", "-1w"}, {"", "-2w"}, {"", "-3w"}, {"", "-4w"}, {"", "-5w"}, {"", "-6w"}, {"", "-7w"}, {"", "-8w"}, {"s", "-9sw"},
     {"c", "-w"}, {"r", "firw"}, {"", "-wz"},
 #ifdef ENDS_BY_TICK
-    {"h", "-wt0"}, {"b", "-w1"}
+    {"h", "-t0w"}, {"b", "-1"}
 #else
     {"x", "fig"}
 #endif
@@ -44,11 +56,18 @@ static enum owner frame_owner, spare_owner;
 static size_t pass = PASSES;                   /* PASSES before the first */
 static char calls[32];
 static unsigned now;
-static int are_interrupts_off;
+static int are_interrupts_off;                 /* those of the program, by interrupts_off */
 
 const unsigned char mac[6] = {2, 0, 0, 0, 0, 1};
 
 static int happens(char what) { return strchr(passes[pass].happens, what) != NULL; }
+
+#ifdef TEST_rtos_dma
+static int is_given;
+static void interrupt(void) { give_from_interrupt(); }
+#else
+static void interrupt(void) { events++; }
+#endif
 
 static void note(int is_right, char call) {
     size_t len = strlen(calls);
@@ -57,7 +76,7 @@ static void note(int is_right, char call) {
 
 static void end_pass(void) {
     if (strcmp(calls, passes[pass].calls) == 0) return;
-    printf("ether_dma.c: pass %u: %s in place of %s\n", (unsigned)pass, calls, passes[pass].calls);
+    printf(PROGRAM_NAME ": pass %u: %s in place of %s\n", (unsigned)pass, calls, passes[pass].calls);
     exit(1);
 }
 
@@ -77,6 +96,22 @@ static int is_kept(void) {
     return is_same;
 }
 
+/* What the program does before its loop: each is called once, in this order. */
+static void start(char call) {
+#ifdef TEST_rtos_dma
+    static const char *expected = "obpvsit";   /* uip_open_ether, board_start, pages_start, uip_set_value, make_semaphore,
+                                                  mac_interrupts_on, start_tasks */
+#else
+    static const char *expected = "obp";
+#endif
+    if (*expected == call) {
+        expected++;
+        return;
+    }
+    printf(PROGRAM_NAME ": at the start %c in place of %c\n", call, *expected);
+    exit(1);
+}
+
 /* ---- the driver ---- */
 
 unsigned char *mac_take_received(size_t *len) {
@@ -87,7 +122,7 @@ unsigned char *mac_take_received(size_t *len) {
     if (happens('h')) now += 500;
     int has_frame = happens('r') || happens('g') || happens('x');
     note(frame_owner == DRIVER && is_kept() && !are_interrupts_off, has_frame ? 'f' : '-');
-    if (happens('c')) events++;
+    if (happens('c')) interrupt();
     if (!has_frame) return NULL;
     frame_owner = PROGRAM;
     *len = 60;
@@ -110,7 +145,7 @@ unsigned char *mac_take_spare(void) {
     int is_free = spare_owner == DRIVER;
     note(spare_owner != PROGRAM, is_free ? 't' : 'n');
     if (is_free) spare_owner = PROGRAM;
-    if (!is_free && happens('e')) spare_owner = DRIVER, events++;
+    if (!is_free && happens('e')) spare_owner = DRIVER, interrupt();
     return is_free ? spare : NULL;
 }
 
@@ -120,12 +155,10 @@ void mac_send_spare(unsigned char *bytes, size_t len) {
     spare_owner = SENDER;
 }
 
-void interrupts_off(void) { are_interrupts_off = 1; }
-void interrupts_on(void) { are_interrupts_off = 0; }
-
-void sleep_until_interrupt(int is_deep) {
-    note(are_interrupts_off && !is_deep, 'z');
-    if (spare_owner == SENDER) spare_owner = DRIVER, events++;
+/* The end of a wait that no interrupt had ended before. */
+static void wait_for_sent(int is_right) {
+    note(is_right, 'z');
+    if (spare_owner == SENDER) spare_owner = DRIVER, interrupt();
 }
 
 unsigned milliseconds(void) { return now; }
@@ -133,10 +166,11 @@ unsigned milliseconds(void) { return now; }
 void board_start(void) {
     memset(frame, UNUSED, MAC_ROOM);
     memset(spare, UNUSED, MAC_ROOM);
+    start('b');
 }
 
 void fail(unsigned status, unsigned entry, const char *word) {
-    printf("ether_dma.c: %u %u %s\n", status, entry, word);
+    printf(PROGRAM_NAME ": %u %u %s\n", status, entry, word);
     exit(1);
 }
 
@@ -145,13 +179,60 @@ void stop(unsigned status) {
     exit(pass != PASSES - 1 || status != UIP_BAD_ARGUMENT || frame_owner == PROGRAM);
 }
 
+#ifdef TEST_rtos_dma
+
+/* ---- the RTOS ---- */
+
+static void (*network_task)(void *);
+
+void mac_interrupts_on(void) { start('i'); }
+void make_semaphore(void) { start('s'); }
+void give_from_interrupt(void) { is_given = 1; }
+
+void take_for(unsigned limit) {
+    if (!is_given) wait_for_sent(limit == 20);
+    is_given = 0;
+}
+
+/* The second task begins. When it gives the semaphore, the first one runs at once, and does not return. */
+void start_tasks(void (*first)(void *), void (*second)(void *)) {
+    start('t');
+    network_task = first;
+    second(NULL);
+}
+
+void sleep_one_second(void) {
+    static unsigned seconds;
+    if (++seconds == 2) exit(1);               /* it did not give the semaphore */
+}
+
+void give(void) {
+    is_given = 1;
+    network_task(NULL);
+}
+
+#else
+
+void interrupts_off(void) { are_interrupts_off = 1; }
+void interrupts_on(void) { are_interrupts_off = 0; }
+void sleep_until_interrupt(int is_deep) { wait_for_sent(are_interrupts_off && !is_deep); }
+
+#endif
+
 /* ---- the library, and the pages ---- */
 
 uip_opened uip_open_ether(uip_device *opened, const unsigned char *image, size_t len, const unsigned char own[4],
                           const unsigned char own_mac[6], const unsigned char mask[4], const unsigned char router[4]) {
     uip_opened made = {UIP_OK, 0, ""};
     if (opened != &device || !image || len == 0 || own[0] != 10 || own_mac != mac || mask[0] != 255 || router[0] != 10) exit(1);
+    start('o');
     return made;
+}
+
+unsigned uip_set_value(uip_device *of, size_t number, const void *text, size_t len) {
+    if (pass == PASSES) start('v');
+    else note(of == &device && number == 7 && len == 1 && memcmp(text, "1", 1) == 0, 'v');
+    return UIP_OK;
 }
 
 uip_result uip_input_frame_area(uip_device *of, unsigned char *at, size_t room, size_t len) {
@@ -168,5 +249,5 @@ uip_result uip_periodic_frame(uip_device *of, size_t slot, unsigned char *at, si
     return result(UIP_OK, 0, happens('s') ? 88 : 0);
 }
 
-void pages_start(void) {}
+void pages_start(void) { start('p'); }
 void pages_work(void) { note(frame_owner == DRIVER && is_kept(), 'w'); }

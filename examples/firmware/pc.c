@@ -2,7 +2,7 @@
  * The drivers of this folder on a PC, so that its programs can be tried and tested: standard input and output in the place of a
  * serial port, threads in the place of interrupts and tasks, and an interface of Linux in the place of an Ethernet controller (tap0)
  * or a link of datagrams (tun0). PC_SERIAL, PC_SLEEP, PC_RTOS_SERIAL, PC_DATAGRAMS, PC_ETHER, PC_ETHER_DMA or PC_RTOS names the program;
- * gate.c has PC_RTOS and PC_GATE. With PC_RTOS_SERIAL also PC_DMA and PC_CDC name the port.
+ * gate.c has PC_RTOS and PC_GATE, and rtos_dma.c PC_ETHER_DMA and PC_RTOS_DMA. With PC_RTOS_SERIAL also PC_DMA and PC_CDC name the port.
  *
  * SPDX-License-Identifier: MIT OR Apache-2.0
  * Copyright 2026 The Lowunbisa authors
@@ -44,6 +44,44 @@ unsigned milliseconds(void) {
     return (unsigned)(now.tv_sec * 1000 + now.tv_nsec / 1000000);
 }
 
+#if defined(PC_RTOS_SERIAL) || defined(PC_ETHER_DMA) || defined(PC_GATE)
+
+static struct timespec after_milliseconds(unsigned limit) {
+    struct timespec end;
+    clock_gettime(CLOCK_REALTIME, &end);
+    end.tv_nsec += (long)limit * 1000000;
+    if (end.tv_nsec >= 1000000000) end.tv_sec++, end.tv_nsec -= 1000000000;
+    return end;
+}
+
+#endif
+#if defined(PC_RTOS_SERIAL) || defined(PC_RTOS_DMA)
+
+#include "rtos.h"
+
+static sem_t semaphore;
+static int is_semaphore_made;
+
+void make_semaphore(void) { is_semaphore_made = sem_init(&semaphore, 0, 0) == 0; }
+
+void give(void) {
+    if (!is_semaphore_made) {
+        fprintf(stderr, "broken: the semaphore was given before it was made\n");
+        abort();
+    }
+    sem_post(&semaphore);
+}
+
+void give_from_interrupt(void) { give(); }
+
+/* A binary semaphore counts no further than 1: one take takes all that was given. */
+void take_for(unsigned limit) {
+    struct timespec end = after_milliseconds(limit);
+    if (sem_timedwait(&semaphore, &end) == 0)
+        while (sem_trywait(&semaphore) == 0) continue;
+}
+
+#endif
 #if !defined(PC_SLEEP) && !defined(PC_RTOS_SERIAL) && !defined(PC_ETHER_DMA)
 
 static int has_input(int descriptor, int wait) {
@@ -133,25 +171,12 @@ static void *timer(void *unused) {
 void interrupt_received(void);
 void interrupt_sent(void);
 
-static sem_t semaphore;
-void make_semaphore(void) { sem_init(&semaphore, 0, 0); }
 #if !defined(PC_DMA) && !defined(PC_CDC)
 static void on_received(void) { interrupt_received(); }
 #endif
 #ifndef PC_CDC
 static void on_sent(void) { interrupt_sent(); }
 #endif
-void give(void) { sem_post(&semaphore); }
-void give_from_interrupt(void) { sem_post(&semaphore); }
-
-void take_for_100_ms(void) {
-    struct timespec end;
-    clock_gettime(CLOCK_REALTIME, &end);
-    end.tv_nsec += 100000000;
-    if (end.tv_nsec >= 1000000000) end.tv_sec++, end.tv_nsec -= 1000000000;
-    if (sem_timedwait(&semaphore, &end) == 0)
-        while (sem_trywait(&semaphore) == 0) continue;
-}
 
 #endif
 
@@ -443,7 +468,7 @@ static struct line {
 } ring, received, to_send, spares;
 
 static pthread_mutex_t interrupts = PTHREAD_MUTEX_INITIALIZER;    /* an interrupt holds it, each mac_.., and interrupts_off */
-static pthread_cond_t interrupt = PTHREAD_COND_INITIALIZER, begun = PTHREAD_COND_INITIALIZER;
+static pthread_cond_t begun = PTHREAD_COND_INITIALIZER;
 
 static void broken(const char *rule) {
     fprintf(stderr, "broken: %s\n", rule);
@@ -476,7 +501,7 @@ static unsigned char *take(struct line *from, int is_spare, size_t *len) {
     unsigned k;
     pthread_mutex_lock(&interrupts);
     struct buffer *it = get(from);
-    for (k = 0; k < BUFFERS; k++)              /* ether_dma.c takes one only if it has none of that kind */
+    for (k = 0; k < BUFFERS; k++)              /* ether_loop.c takes one only if it has none of that kind */
         if (&buffers[k] != it && !buffers[k].in && buffers[k].is_spare == is_spare) broken("the program lost a buffer");
     if (it && len) *len = it->len;
     pthread_mutex_unlock(&interrupts);
@@ -536,6 +561,53 @@ void mac_give_back(unsigned char *bytes) {
     pthread_mutex_unlock(&interrupts);
 }
 
+#ifdef PC_RTOS_DMA
+
+/* FreeRTOS masks interrupts from make_semaphore to start_tasks. One that comes meanwhile is held back. */
+static int are_masked, are_on, is_held_back;
+
+static void interrupt_of_controller(void) {
+    is_held_back = are_masked || !are_on;
+    if (!is_held_back) give_from_interrupt();
+}
+
+/* A frame may have come already: then its interrupt comes when nothing holds it back any longer. */
+void mac_interrupts_on(void) {
+    pthread_mutex_lock(&interrupts);
+    are_masked = is_semaphore_made;
+    are_on = 1;
+    interrupt_of_controller();
+    pthread_mutex_unlock(&interrupts);
+}
+
+static void scheduler_starts(void) {
+    pthread_mutex_lock(&interrupts);
+    are_masked = 0;
+    if (is_held_back) interrupt_of_controller();
+    pthread_mutex_unlock(&interrupts);
+}
+
+#else
+
+static pthread_cond_t interrupt = PTHREAD_COND_INITIALIZER;
+
+static void interrupt_of_controller(void) {
+    events++;
+    pthread_cond_signal(&interrupt);
+}
+
+void interrupts_off(void) { pthread_mutex_lock(&interrupts); }
+void interrupts_on(void) { pthread_mutex_unlock(&interrupts); }
+
+/* A clock ends the sleep after 20 ms. */
+void sleep_until_interrupt(int is_deep) {
+    struct timespec end = after_milliseconds(20);
+    pthread_cond_timedwait(&interrupt, &interrupts, &end);
+    (void)is_deep;
+}
+
+#endif
+
 static void *receiver(void *unused) {
     static unsigned char frame[MAC_ROOM];
     ssize_t len;
@@ -546,8 +618,7 @@ static void *receiver(void *unused) {
             memcpy(it->bytes, frame, (size_t)len);
             it->len = len < 60 ? 60 : (size_t)len;
             put(&received, it);
-            events++;
-            pthread_cond_signal(&interrupt);
+            interrupt_of_controller();
         }
         pthread_mutex_unlock(&interrupts);
     }
@@ -566,29 +637,18 @@ static void *sender(void *unused) {
         if (write(interface, it->bytes, it->len) != (ssize_t)it->len) report("one was lost, of bytes", (unsigned)it->len);
         pthread_mutex_lock(&interrupts);
         put_empty(get(&to_send));
-        events++;
-        pthread_cond_signal(&interrupt);
+        interrupt_of_controller();
         pthread_mutex_unlock(&interrupts);
     }
     return unused;
 }
 
-void interrupts_off(void) { pthread_mutex_lock(&interrupts); }
-void interrupts_on(void) { pthread_mutex_unlock(&interrupts); }
-
-/* A clock ends the sleep after 20 ms. */
-void sleep_until_interrupt(int is_deep) {
-    struct timespec end;
-    clock_gettime(CLOCK_REALTIME, &end);
-    end.tv_nsec += 20000000;
-    if (end.tv_nsec >= 1000000000) end.tv_sec++, end.tv_nsec -= 1000000000;
-    pthread_cond_timedwait(&interrupt, &interrupts, &end);
-    (void)is_deep;
-}
-
 void board_start(void) {
     pthread_t thread;
     unsigned k;
+#ifdef PC_RTOS_DMA
+    if (is_semaphore_made) broken("board_start may wait for an interrupt, which is masked after make_semaphore");
+#endif
     interface_open();
     for (k = 0; k < BUFFERS; k++) {
         buffers[k].is_spare = k >= RECEIVE_BUFFERS;
@@ -598,7 +658,7 @@ void board_start(void) {
 }
 
 #endif
-#if defined(PC_RTOS) || defined(PC_RTOS_SERIAL)
+#if defined(PC_RTOS) || defined(PC_RTOS_SERIAL) || defined(PC_RTOS_DMA)
 
 #include "rtos.h"
 
@@ -615,6 +675,9 @@ void start_tasks(void (*first)(void *), void (*second)(void *)) {
     pthread_t thread;
     second_task = second;
     if (pthread_create(&thread, NULL, run_second, NULL) != 0) exit(2);
+#ifdef PC_RTOS_DMA
+    scheduler_starts();
+#endif
     first(NULL);
 }
 
@@ -665,10 +728,7 @@ int queue_put(queue to, const void *item) { return put(to, item, 0); }
 void queue_overwrite(queue to, const void *item) { put(to, item, 1); }
 
 int queue_get(queue from, void *item, unsigned limit) {
-    struct timespec end;
-    clock_gettime(CLOCK_REALTIME, &end);
-    end.tv_nsec += (long)limit * 1000000;
-    if (end.tv_nsec >= 1000000000) end.tv_sec++, end.tv_nsec -= 1000000000;
+    struct timespec end = after_milliseconds(limit);
     pthread_mutex_lock(&from->lock);
     while (!from->is_full && limit > 0)
         if (pthread_cond_timedwait(&from->put, &from->lock, &end) != 0) break;

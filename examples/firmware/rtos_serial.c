@@ -44,7 +44,7 @@ void interrupt_sent(void) {
 /* The semaphore remembers an interrupt that comes before the wait. So nothing has to hold interrupts back. */
 void interrupts_off(void) {}
 void interrupts_on(void) {}
-void wfi(void) { take_for_100_ms(); }
+void wfi(void) { take_for(100); }
 
 int half_a_second_passed(void) { return tick_is_due_at(milliseconds()); }
 

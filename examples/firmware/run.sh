@@ -34,16 +34,18 @@ command -v python3 >/dev/null || skip "python3"
 mkdir -p "$out"
 python3 "$top/tools/pack.py" "$here/site" "$out/site.c" /state.shtml=application/json || fail "the site was not packed"
 strict="-std=c11 -pedantic -Wall -Wextra -Wconversion -Werror"
-for name in serial sleep rtos_serial datagrams ether ether_dma rtos pages port port_dma port_cdc; do
+for name in serial sleep rtos_serial datagrams ether ether_dma ether_loop rtos rtos_dma pages port port_dma port_cdc; do
     "$cc" $strict -fsyntax-only -I"$top/include" -I"$out" "$here/$name.c" || fail "$name.c does not compile"
 done
 "$cc" $strict -DRING=16 -I"$top/include" "$here/dma_test.c" "$here/port_dma.c" -o "$out/dma_test" && "$out/dma_test" ||
     fail "port_dma.c takes other bytes than the DMA wrote"
 "$cc" $strict -I"$top/include" "$here/cdc_test.c" "$here/port_cdc.c" -o "$out/cdc_test" && "$out/cdc_test" ||
     fail "port_cdc.c works otherwise than a USB host needs"
-for end in FRAME TICK; do
-    "$cc" $strict -DENDS_BY_$end -I"$top/include" -I"$out" "$here/ether_dma_test.c" "$here/ether_dma.c" -o "$out/ether_dma_test" &&
-        "$out/ether_dma_test" || fail "ether_dma.c makes other calls, or breaks the ownership of a buffer"
+for name in ether_dma rtos_dma; do
+    for end in FRAME TICK; do
+        "$cc" $strict -DTEST_$name -DENDS_BY_$end -I"$top/include" -I"$out" "$here/ether_dma_test.c" "$here/$name.c" "$here/ether_loop.c" \
+            -o "$out/ether_dma_test" && "$out/ether_dma_test" || fail "$name.c makes other calls, or breaks the ownership of a buffer"
+    done
 done
 mkdir -p "$out/gate_site"
 python3 "$top/tools/pack.py" "$here/gate_site" "$out/gate_site/site.c" /state.shtml=application/json || fail "the site of the gate was not packed"
@@ -67,13 +69,15 @@ build serial PC_SERIAL
 build sleep PC_SLEEP "$here/port.c $top/examples/step.c"
 build rtos_serial PC_RTOS_SERIAL "$here/port.c $top/examples/step.c"
 "$cc" -std=gnu11 -O2 -Wall -Wextra -Werror -DPC_RTOS_SERIAL -DPC_DMA -DRING=2048 -pthread -I"$top/include" -I"$out" "$here/rtos_serial.c" \
-    "$here/pages.c" "$here/pc.c" "$here/port_dma.c" "$top/examples/step.c" "$library" -o "$out/rtos_dma" || fail "rtos_dma was not built"
+    "$here/pages.c" "$here/pc.c" "$here/port_dma.c" "$top/examples/step.c" "$library" -o "$out/rtos_serial_dma" ||
+    fail "rtos_serial_dma was not built"
 "$cc" -std=gnu11 -O2 -Wall -Wextra -Werror -DPC_RTOS_SERIAL -DPC_CDC -pthread -I"$top/include" -I"$out" "$here/rtos_serial.c" "$here/pages.c" \
-    "$here/pc.c" "$here/port_cdc.c" "$top/examples/step.c" "$library" -o "$out/rtos_cdc" || fail "rtos_cdc was not built"
+    "$here/pc.c" "$here/port_cdc.c" "$top/examples/step.c" "$library" -o "$out/rtos_serial_cdc" || fail "rtos_serial_cdc was not built"
 build datagrams PC_DATAGRAMS
 build ether PC_ETHER
-build ether_dma PC_ETHER_DMA
+build ether_dma PC_ETHER_DMA "$here/ether_loop.c"
 build rtos PC_RTOS
+build rtos_dma PC_ETHER_DMA "-DPC_RTOS_DMA $here/ether_loop.c"
 "$cc" -std=gnu11 -O2 -Wall -Wextra -Werror -DPC_RTOS -DPC_GATE -DTOKEN_MS=5000 -pthread -I"$top/include" -I"$out/gate_site" "$here/gate.c" \
     "$here/gate_pages.c" "$here/gate_control.c" "$here/pc.c" "$library" -o "$out/gate" || fail "gate was not built"
 "$cc" -std=gnu11 -O2 -Wall -Wextra -Werror -DPC_ETHER -DPC_SETTINGS -DTOKEN_MS=2000 -pthread -I"$top/include" -I"$out/settings_site" \
@@ -88,20 +92,20 @@ lamps() {
     [ "$(sed -n 's/^lamp //p' "$out/$1.log" | uniq | tr '\n' ' ')" = "0 100 0 42 " ] || fail "$1 switched its lamp otherwise"
     grep -aq '^stopped 0$' "$out/$1.log" || fail "$1 did not restart"
 }
-for name in serial sleep rtos_serial rtos_dma rtos_cdc; do
+for name in serial sleep rtos_serial rtos_serial_dma rtos_serial_cdc; do
     note=0; case $name in rtos_*) note=1;; esac
     python3 "$here/line.py" "$out/$name" "$out/$name.log" $note >"$out/$name.told" 2>&1 || fail "$name: $(cat "$out/$name.told")"
     lamps $name
-    [ $name != rtos_cdc ] || grep -aq '^the piece was given up' "$out/rtos_cdc.log" || fail "rtos_cdc did not give a piece up"
-    [ $name != rtos_cdc ] || grep -aq '^the bus was reset' "$out/rtos_cdc.log" || fail "there was no bus reset"
+    [ $name != rtos_serial_cdc ] || grep -aq '^the piece was given up' "$out/$name.log" || fail "$name did not give a piece up"
+    [ $name != rtos_serial_cdc ] || grep -aq '^the bus was reset' "$out/$name.log" || fail "there was no bus reset"
     [ $name != sleep ] || grep -aq '^the timer stopped' "$out/sleep.log" || fail "sleep did not stop its timer"
     echo "$name: $(grep -a 'pages are' "$out/$name.told")"
 done
-for name in datagrams ether ether_dma rtos; do
-    note=0; [ $name != rtos ] || note=1
+for name in datagrams ether ether_dma rtos rtos_dma; do
+    note=0; case $name in rtos*) note=1;; esac
     unshare -rn sh "$0" inside $name $note >"$out/$name.told" 2>&1 || fail "$name: $(cat "$out/$name.told")"
     [ $name != datagrams ] || grep -aq '^the link was down 1$' "$out/$name.log" || fail "datagrams was not opened again"
-    [ $name != ether_dma ] || grep -aq '^a tick sent' "$out/$name.log" || fail "no tick of ether_dma sent a frame"
+    case $name in *_dma) grep -aq '^a tick sent' "$out/$name.log" || fail "no tick of $name sent a frame";; esac
     lamps $name
     echo "$name: $(grep -a 'pages are' "$out/$name.told")"
 done
