@@ -44,7 +44,7 @@ static const struct pass { const char *happens, *calls; } passes[] = {
 #ifdef ENDS_BY_TICK
     {"h", "-t0w"}, {"b", "-1"}
 #else
-    {"x", "fig"}
+    {"xh", "fig"}
 #endif
 };
 enum { PASSES = sizeof passes / sizeof passes[0] };

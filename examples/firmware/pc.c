@@ -582,6 +582,7 @@ void mac_interrupts_on(void) {
 
 static void scheduler_starts(void) {
     pthread_mutex_lock(&interrupts);
+    if (!are_on) broken("the scheduler starts, and the interrupts of the controller are off");
     are_masked = 0;
     if (is_held_back) interrupt_of_controller();
     pthread_mutex_unlock(&interrupts);
