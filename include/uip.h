@@ -131,17 +131,18 @@ extern "C" {
  * This loop waits while it sends, and never sleeps. It is for a trial. For a product take a program
  * of examples/firmware:
  *
- *     link                  program        opens by        what arrives       each half second
- *     serial line           sleep.c        uip_open        examples/step.c makes all calls
- *     serial line, RTOS     rtos_serial.c  uip_open        examples/step.c makes all calls
- *     datagrams             datagrams.c    uip_open        uip_input          uip_tick_datagrams
- *     Ethernet              ether.c        uip_open_ether  uip_input_frame    uip_tick_frames
- *     Ethernet, RTOS        rtos.c, gate.c uip_open_ether  uip_input_frame    uip_tick_frames
- *     Ethernet, no copies   ether_dma.c    uip_open_ether  uip_input_frame    uip_periodic_frame
+ *     link                  program         opens by        what arrives       each half second
+ *     serial line           sleep.c         uip_open        examples/step.c makes all calls
+ *     serial line, RTOS     rtos_serial.c   uip_open        examples/step.c makes all calls
+ *     datagrams             datagrams.c     uip_open        uip_input          uip_tick_datagrams
+ *     Ethernet              ether.c         uip_open_ether  uip_input_frame    uip_tick_frames
+ *     Ethernet, RTOS        rtos.c, gate.c  uip_open_ether  uip_input_frame    uip_tick_frames
+ *     Ethernet, DMA         ether_dma.c     uip_open_ether  uip_input_frame    uip_periodic_frame
+ *     Ethernet, DMA, RTOS   rtos_dma.c      uip_open_ether  uip_input_frame    uip_periodic_frame
  *
- * sleep.c, rtos_serial.c and ether_dma.c never wait for their controller. ether.c, rtos.c and gate.c
- * wait until a frame is sent, some 0.1 ms at 100 Mbit/s. Under an RTOS ether_dma.c waits for a
- * semaphore in place of its sleep, for at most 20 ms; its two interrupts give it.
+ * ether.c, rtos.c and gate.c wait until a frame is sent, some 0.1 ms at 100 Mbit/s. The others but
+ * datagrams.c never wait for their controller. Those with DMA use its buffers in place: no frame is
+ * copied. Under an RTOS take the order at the start of rtos_dma.c.
  *
  * On Ethernet link libuip_c_ether.a, which has all calls; otherwise libuip_c.a. (The libraries of
  * `rt lib`, the kit's command for aarch64 and x86-64, have all calls in libuip_c.a.)
@@ -152,7 +153,8 @@ extern "C" {
  *
  * BUILD, for a Cortex-M4. startup.c, drivers.c and board.ld are yours. main.c includes site.c and
  * heap.c: do not compile these two by themselves. With step.c also compile examples/step.c, and
- * from examples/firmware port.c, port_dma.c or port_cdc.c (section 7).
+ * from examples/firmware port.c, port_dma.c or port_cdc.c (section 7); with ether_dma.c or rtos_dma.c
+ * ether_loop.c there.
  *
  *     sh ports/run.sh m4 library               # makes the libraries, with the Rattle kit
  *     python3 tools/pack.py FOLDER site.c      # for JSON add its type: /state.shtml=application/json
@@ -686,8 +688,9 @@ UIP_INLINE unsigned uip_tick_datagrams(uip_device *device, unsigned char *out, s
 /* ---- 9 Ethernet --------------------------------------------------------------------------------
  *
  * One area has the received frame, and in its place the reply. This is the loop of
- * examples/firmware/ether.c. rtos.c there has it under an RTOS. ether_dma.c has a loop that never
- * waits, over the buffers of a DMA; drivers.h beside it explains who owns each buffer.
+ * examples/firmware/ether.c. rtos.c there has it under an RTOS. ether_loop.c is a loop that never
+ * waits, over the buffers of a DMA, for ether_dma.c and, under an RTOS, rtos_dma.c: it and drivers.h
+ * explain who owns each buffer.
  *
  *     // Copies a received frame. Returns its length, or 0 if there is none. It may wait for one;
  *     // ticks and values are then late, so wait for 20 ms at most, for example.
@@ -729,7 +732,7 @@ UIP_INLINE unsigned uip_tick_datagrams(uip_device *device, unsigned char *out, s
  *     static _Alignas(4) unsigned char area[2 + UIP_MAX_FRAME];
  *     static unsigned char *const frame = area + 2;           // write UIP_MAX_FRAME for `sizeof frame`
  *
- * "The Ethernet controller" in the guide has caches, barriers, the driver functions of ether_dma.c
+ * "The Ethernet controller" in the guide has caches, barriers, the driver functions of ether_loop.c
  * over the descriptors of an STM32F4 or F7 (not tried), and some settings of other controllers.
  */
 
