@@ -70,7 +70,7 @@ page() {
 
 examples() {
     put examples examples/browse.py examples/heap.c examples/step.c examples/step.h examples/text.h examples/ticks.h \
-        examples/token.h
+        examples/token.h examples/outcome.h
     put tools tools/pack.py
     put examples/site examples/site/*
     put examples/firmware examples/firmware/*.[ch]

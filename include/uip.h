@@ -100,7 +100,7 @@ extern "C" {
  *     // Sends all bytes. It may wait.
  *     void write_serial(void *to, const unsigned char *bytes, size_t len);
  *     unsigned milliseconds(void);             // since the start, modulo 2^32
- *     void lamp(int is_on);
+ *     void set_lamp(int is_on);
  *     void fail(unsigned status, unsigned entry, const char *word);   // shows why, and never returns
  *     void stop(unsigned status);              // records the status, and resets the processor
  *
@@ -121,7 +121,7 @@ extern "C" {
  *
  *             uip_set_value(&device, 3, UIP_TEXT("21.5"));            // a page shows it: section 10
  *             hits = uip_hits(&device, UIP_TEXT("/on.html")).number;
- *             if (hits != seen) lamp(1);                              // the file was requested
+ *             if (hits != seen) set_lamp(1);                          // the file was requested
  *             seen = hits;
  *         }
  *         stop(status);
@@ -140,9 +140,12 @@ extern "C" {
  *     Ethernet, DMA         ether_dma.c     uip_open_ether  uip_input_frame    uip_periodic_frame
  *     Ethernet, DMA, RTOS   rtos_dma.c      uip_open_ether  uip_input_frame    uip_periodic_frame
  *
- * ether.c, rtos.c and gate.c wait until a frame is sent, some 0.1 ms at 100 Mbit/s. The others but
- * datagrams.c never wait for their controller. Those with DMA use its buffers in place: no frame is
- * copied. Under an RTOS take the order at the start of rtos_dma.c.
+ * ether.c, rtos.c and gate.c wait until a frame is sent, some 0.1 ms at 100 Mbit/s. datagrams.c waits
+ * for its link. The other four never wait for their controller. Those with DMA use its buffers in
+ * place: no frame is copied. Under an RTOS take the order of calls in `main` of rtos_dma.c.
+ *
+ * The pages are a second file, pages.c or another of that folder: pages_start, pages_work. For a
+ * program with the pages of gate.c take its two queues, and the loop of rtos_dma.c.
  *
  * On Ethernet link libuip_c_ether.a, which has all calls; otherwise libuip_c.a. (The libraries of
  * `rt lib`, the kit's command for aarch64 and x86-64, have all calls in libuip_c.a.)
@@ -152,9 +155,11 @@ extern "C" {
  * is sent again and no connection times out. tick_is_due_at keeps these rules.
  *
  * BUILD, for a Cortex-M4. startup.c, drivers.c and board.ld are yours. main.c includes site.c and
- * heap.c: do not compile these two by themselves. With step.c also compile examples/step.c, and
- * from examples/firmware port.c, port_dma.c or port_cdc.c (section 7); with ether_dma.c or rtos_dma.c
- * ether_loop.c there.
+ * heap.c: do not compile these two by themselves. For a program of examples/firmware also compile its
+ * pages (pages.c) and
+ *
+ *     with step.c                     examples/step.c, and port.c, port_dma.c or port_cdc.c (section 7)
+ *     with ether_dma.c, rtos_dma.c    ether_loop.c
  *
  *     sh ports/run.sh m4 library               # makes the libraries, with the Rattle kit
  *     python3 tools/pack.py FOLDER site.c      # for JSON add its type: /state.shtml=application/json
@@ -240,7 +245,7 @@ typedef char uip_needs_unsigned_of_32_bits[sizeof(unsigned) == 4 ? 1 : -1];
  *                 "With frames" is libuip_c_ether.a and its calls for frames.
  *                 Add your interrupts if they share the stack. The stack of a sink does not add: it
  *                 runs after the library has returned. Under an RTOS a device may be opened on the
- *                 main stack, before the scheduler starts; the task then needs the last column. A
+ *                 main stack, before the scheduler starts; the task then needs the last column, if it does not close or open. A
  *                 task that makes only uip_set_value, uip_hits, uip_query, uip_ticks or uip_counter
  *                 needs at most 296. The figures of x86-64 and WebAssembly are not known.
  *
@@ -277,10 +282,10 @@ typedef char uip_needs_unsigned_of_32_bits[sizeof(unsigned) == 4 ? 1 : -1];
  * (section 9).
  *
  * If there is a watchdog, feed it before opening, in each pass (with step.c in `work`), and in a
- * sink that waits. The watchdog's time-out is longer than the longest sleep. A task with a deadline makes no
- * call, and takes no mutex of the device. It exchanges values and commands with the task that makes
- * the calls, by queues, as in examples/firmware/gate.c. "A state in another task" in docs/PAGES.md
- * explains it.
+ * sink that waits. Its time-out is longer than the longest sleep; if a sleep has no limit, stop the
+ * watchdog for it. A task with a deadline makes no call, and takes no mutex of the device. It
+ * exchanges values and commands with the task that makes the calls, by queues, as in
+ * examples/firmware/gate.c. "A state in another task" in docs/PAGES.md explains it.
  */
 
 /* ---- 3 Statuses --------------------------------------------------------------------------------
@@ -295,7 +300,7 @@ typedef char uip_needs_unsigned_of_32_bits[sizeof(unsigned) == 4 ? 1 : -1];
  * fields are 0. (uip_opened also names the fault of an image. uip_drain_all may have called its
  * sink.)
  *
- * Nothing that arrives causes an error. So after opening treat any status but UIP_OK as a failed
+ * Nothing that arrives causes an error, if your driver drops what is too long. So after opening treat any status but UIP_OK as a failed
  * assertion: record it, and reset or make no more calls. Each call lists its statuses in the order
  * in which it checks for them.
  */
@@ -445,7 +450,8 @@ typedef void (*uip_sink)(void *to, const unsigned char *bytes, size_t len);
  *
  * TO CHANGE THE ADDRESS, store the new one, and let the reply be delivered: go through the loop until
  * uip_needs_ticks is 0, but for at most six ticks. Refuse further changes meanwhile, and leave the
- * values of the reply. Then reset the processor, or close the device and open it with the new address.
+ * values of the reply. Then reset the processor or, if another task must not stop for that, close the
+ * device and open it with the new address.
  * examples/firmware/settings_pages.c does it by a reset, with the checks and a way back. An erasure
  * may stop the processor for a second. If that is too long for the loop or for another task, erase at
  * the start, and append records.
@@ -488,8 +494,8 @@ uip_opened uip_open_ether(uip_device *device, const unsigned char *image, size_t
  *
  * If you open again, set all values again, and set to 0 what your program remembers of uip_hits,
  * uip_query, uip_ticks and uip_counter: all begin at 0. With step.c call reset_step between the two
- * calls; a loop of your own begins the next tick at slot 0. The port may send and receive
- * meanwhile. If opening fails, the device is closed: call `fail`, as section 1 does.
+ * calls; with ether_loop.c call reset_ether_loop. A loop of your own begins the next
+ * tick at slot 0. The port may send and receive meanwhile. If opening fails, the device is closed: call `fail`, as section 1 does.
  */
 unsigned uip_close(uip_device *device);
 
@@ -535,16 +541,22 @@ unsigned uip_close(uip_device *device);
  *
  * In place of port.c take port_dma.c if a circular DMA receives, or port_cdc.c for USB CDC. step.h
  * has what each needs, and how to write another port. For a device that also stops its timer in a
- * sleep copy all of sleep.c but `main` and `work`.
+ * sleep copy sleep.c: pages_may_stop_timer returns 0 while something of yours needs a clock.
  *
  * RECEIVE WHILE YOU SEND. No call reads the port. While your program sends, an interrupt or a DMA
  * stores in a ring what arrives. If the ring overflows, bytes are lost, and a page comes some
- * seconds later. For a trial take 512 bytes. The rings of port.c (8,192 bytes) and port_dma.c
- * (16,384) suit 115,200 bits a second, if `work` and one call take at most 5 ms together; one of 40
- * ms now and then does no harm. With port_dma.c 8,192 bytes (-DRING=8192, for all files) suit it if a
- * clock ends wfi within 100 ms, and `work` and one call take at most 3 ms. "The ring" in the guide
- * computes all this, also for other rates. With port.c an erasure of flash that stops the processor
- * loses bytes, whatever the ring.
+ * seconds later. At 115,200 bits a second take
+ *
+ *     port.c       8,192 bytes      if `work` and one call take at most 5 ms together; one of 40 ms now and
+ *                                   then does no harm
+ *     port_dma.c   16,384 bytes     the same. This suffices also if only the DMA ends wfi
+ *     port_dma.c   8,192 bytes      if a clock ends wfi within 100 ms, and `work` and one call take at most
+ *                                   3 ms; -DRING=8192 for all files
+ *     port_cdc.c   none
+ *     for a trial  512 bytes
+ *
+ * "The ring" in the guide computes them, also for other rates. With port.c an erasure of flash that
+ * stops the processor loses bytes, whatever the ring.
  *
  * SLOW LINES. The node sends a segment again if it is not acknowledged after 4 ticks, 2 s. If the line
  * has less than 38,400 bits a second, or a round trip takes longer, read "Slow lines" in the guide.
@@ -770,7 +782,7 @@ UIP_INLINE unsigned uip_tick_frames(uip_device *device, unsigned char *frame, si
 
 /* ---- 10 Pages ----------------------------------------------------------------------------------
  *
- * This is the short form. docs/PAGES.md is the guide, with the HTML and C of each case, also for
+ * This is the short form. docs/PAGES.md explains pages, with the HTML and C of each case, also for
  * JSON and live pages. examples/firmware/pages.c and its folder `site` have most of it in one
  * place.
  *
@@ -799,7 +811,8 @@ UIP_INLINE unsigned uip_tick_frames(uip_device *device, unsigned char *frame, si
  *     is harmless at any time (lamp on), or must never      a link to a file of its own, and uip_hits
  *     be refused (stop)
  *     needs a click; may come again, even days later        a query, and uip_query
- *     may act at most once, and not late (open a gate)      a query with a token, and examples/token.h
+ *     may act at most once, and not late (open a gate),     a query with a token, and examples/token.h
+ *     or is stored in flash
  *
  * A QUERY is made when the user clicks, by a form or in onclick. Never write a query that acts into
  * the href of a link, as a browser may follow it in advance.
@@ -816,12 +829,14 @@ UIP_INLINE unsigned uip_tick_frames(uip_device *device, unsigned char *frame, si
  * that also counts in a sleep.
  *
  *   - A request with a token that was used, or is old, does nothing: a second click, another browser,
- *     a page that was loaded before. Its reply shows that. But if the request that acted comes again,
- *     the reply still shows what it did: each page draws a tag, and sends it with the token.
+ *     a page that was loaded before. Its reply shows that.
+ *   - But if the request that acted comes again, as when its reply is loaded again, the reply still has
+ *     to show what it did. For this each page draws a tag, and your program keeps the last accepted and
+ *     the last refused outcome, each with its tag: examples/outcome.h.
  *   - In the file its directive comes before those of the state, as the node reads values in this
  *     order: so an old state never comes with a new token.
  *   - A page that gets the state by a script gets the token with it.
- *   - It is made of random numbers, or of a number that no earlier start had and a count.
+ *   - A token is made of random numbers, or of a number that no earlier start had and a count.
  *   - token.h has the functions. In examples/firmware door_pages.c is an example for any link, with a
  *     button, a form and a setting that is kept over a restart; gate.c is one for two tasks. "Once" in
  *     PAGES.md explains all of it, also for a state that an interrupt keeps.
@@ -940,7 +955,7 @@ uip_number uip_is_idle(uip_device *device);
  * arrives. That prolongs TIME_WAIT. All new connections have one and the same initial sequence
  * number until the next tick. uip_ticks does not rise, and on Ethernet ARP entries do not age.
  *
- * With step.c copy all of sleep.c but `main` and `work`: "Sleep" in the guide explains it.
+ * With step.c copy sleep.c, which has this: "Sleep" in the guide explains it.
  * With datagrams or on Ethernet the function that receives may wait until something arrives.
  * "Sleep" has more: a receiver that is off, and what Linux sends unasked.
  */

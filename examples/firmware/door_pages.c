@@ -12,8 +12,7 @@
  *   - They are random, since a page of another site must not guess them.
  *
  * TAGS. A page draws a tag for each click. An outcome is shown with the tag of its request, as two browsers see the same values. If the
- * request that was accepted comes again, its outcome stays "accepted", and nothing else happens: the reply may be loaded again. The newer
- * outcome comes first. Without a script the tag is the end of the query.
+ * request that was accepted comes again, its outcome stays "accepted", and nothing else happens: ../outcome.h does that.
  *
  * FLASH. The pass that accepts a number stores it if it differs. Each erasure takes a token: only who has loaded the page causes one.
  * TIME is that of milliseconds(), as a device that sleeps leaves out ticks. A new number does not change a time that has begun.
@@ -23,31 +22,28 @@
  * SPDX-License-Identifier: MIT OR Apache-2.0
  * Copyright 2026 The Lowunbisa authors
  */
-#include <string.h>
 #include "pages.h"
 #include "drivers.h"
+#include "../outcome.h"
 #include "../token.h"
 
 enum { OPEN_TOKEN = 1, SET_TOKEN = 2, OPEN_OUTCOME = 3, SET_OUTCOME = 4, DOOR = 5, SECONDS = 6 };    /* values */
-enum { TAG_LEN = 8, MOST_SECONDS = 60 };
+enum { MOST_SECONDS = 60 };
 #ifndef OPEN_MS
 #define OPEN_MS 20000                          /* a token of the button is valid for this time to twice as long, in milliseconds */
 #define SET_MS 600000                          /* the same for the form */
 #endif
 
-struct outcome { char tag[TAG_LEN]; size_t len; const char *word; };    /* the word has at most 8 characters; of `refused` 5 */
-
 struct form {
     const char *file;
     size_t file_len, token_value, outcome_value;
     struct token_pair token;
-    struct outcome accepted, refused;          /* the last of each kind */
+    struct outcomes outcomes;
     unsigned hits_seen;
 };
 
-#define NONE {"-", 1, "none"}
-static struct form open_form = {UIP_TEXT("/open.shtml"), OPEN_TOKEN, OPEN_OUTCOME, {.period = OPEN_MS}, NONE, NONE, 0};
-static struct form set_form = {UIP_TEXT("/set.shtml"), SET_TOKEN, SET_OUTCOME, {.period = SET_MS}, NONE, NONE, 0};
+static struct form open_form = {UIP_TEXT("/open.shtml"), OPEN_TOKEN, OPEN_OUTCOME, {.period = OPEN_MS}, NO_OUTCOMES, 0};
+static struct form set_form = {UIP_TEXT("/set.shtml"), SET_TOKEN, SET_OUTCOME, {.period = SET_MS}, NO_OUTCOMES, 0};
 static unsigned segments_seen, seconds = 5, shown;    /* `seconds` is the number, and `shown` the one that the pages show; 0: none */
 static unsigned unlocked_at, unlocked_ms;             /* when the time began, and its length: 0 while the door is locked */
 
@@ -69,34 +65,10 @@ static const char *set(const unsigned char *query, size_t len) {
     return NULL;
 }
 
-static size_t add(char *to, const struct outcome *outcome) {
-    size_t size = strlen(outcome->word);
-    memcpy(to, outcome->tag, outcome->len);
-    to[outcome->len] = ' ';
-    memcpy(to + outcome->len + 1, outcome->word, size);
-    return outcome->len + 1 + size;
-}
-
-/* One value, so of one moment: 3f9a0c71 accepted 00c2d1e4 range. It has at most 32 bytes. */
-static void show_outcomes(const struct form *form, int is_refused) {
+/* One value, so of one moment. */
+static void show_outcomes(const struct form *form) {
     char text[UIP_MAX_VALUE];
-    size_t len = add(text, is_refused ? &form->refused : &form->accepted);
-    text[len++] = ' ';
-    len += add(text + len, is_refused ? &form->accepted : &form->refused);
-    uip_set_value(&device, form->outcome_value, text, len);
-}
-
-/* The tag is the end of the field d or, without a script, of the query. */
-static struct outcome outcome_of(const unsigned char *query, size_t len, const char *word) {
-    struct outcome outcome = {"-", 1, word};
-    size_t size = 0;
-    const unsigned char *tag = field_in(query, len, "d", &size);
-    const unsigned char *end = size > 0 ? tag + size : query + len;
-    if (len == 0) return outcome;
-    if (size == 0) size = len;
-    outcome.len = size < TAG_LEN ? size : TAG_LEN;
-    memcpy(outcome.tag, end - outcome.len, outcome.len);
-    return outcome;
+    uip_set_value(&device, form->outcome_value, text, outcome_text(&form->outcomes, text));
 }
 
 /* The query d=TAG&n=TOKEN, with &s=SECONDS of /set.shtml. If the request brought none, or none that is kept, it counts as empty. */
@@ -109,11 +81,8 @@ static void look_at(struct form *form) {
     const char *refused = "old";
     form->hits_seen = hits;
     if (token_take(&form->token, milliseconds(), text, len, "n")) refused = form == &set_form ? set(text, len) : unlock();
-    struct outcome outcome = outcome_of(text, len, refused ? refused : "accepted");
-    int is_again = len > 0 && outcome.len == form->accepted.len && memcmp(outcome.tag, form->accepted.tag, outcome.len) == 0;
-    if (!refused) form->accepted = outcome;
-    else if (!is_again) form->refused = outcome;
-    show_outcomes(form, refused && !is_again);
+    outcome_add(&form->outcomes, text, len, refused);
+    show_outcomes(form);
 }
 
 static void show_token(struct form *form) {
@@ -149,12 +118,14 @@ static void show(void) {
 
 struct addresses pages_addresses(struct addresses usual) { return usual; }
 
+int pages_may_stop_timer(void) { return unlocked_ms == 0; }    /* the door is locked at its time */
+
 void pages_start(void) {
     unsigned stored;
     if (load_seconds(&stored) && is_in_range(stored)) seconds = stored;    /* else the usual number stays */
     segments_seen = open_form.hits_seen = set_form.hits_seen = shown = 0;
-    show_outcomes(&open_form, 0);
-    show_outcomes(&set_form, 0);
+    show_outcomes(&open_form);
+    show_outcomes(&set_form);
     show();
 }
 

@@ -104,7 +104,8 @@ void sleep_until_interrupt(int is_deep);                  /* dsb, wfi; an interr
                                                              a clock, such as that of `milliseconds`, that ends each sleep in 20 ms */
 
 /* sleep.c */
-void timer_start(void);                                   /* the timer of half a second runs again, after timer_stop */
+void timer_start(void);                                   /* the timer of half a second, whose interrupt calls on_half_second, runs again
+                                                             after timer_stop. board_start starts it first */
 void timer_stop(void);
 
 /* gate.c, settings_pages.c and door_pages.c */

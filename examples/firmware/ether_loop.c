@@ -46,6 +46,8 @@ static unsigned tick(int *is_idle) {
     return done.status;
 }
 
+void reset_ether_loop(void) { slot = UIP_SLOTS; }
+
 unsigned ether_pass(int *is_idle) {
     *is_idle = 1;
     unsigned status = receive(is_idle);

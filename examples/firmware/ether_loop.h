@@ -18,4 +18,7 @@ extern uip_device device;              /* of the program: not static, and open *
  */
 unsigned ether_pass(int *is_idle);
 
+void reset_ether_loop(void);           /* between uip_close and the next opening: the next tick begins at slot 0. A spare buffer stays, and
+                                          buffers that are being sent return as usual */
+
 #endif

@@ -126,6 +126,8 @@ static void look_at_command(void) {
     else note(&last_sent, text, len, "sent");
 }
 
+int pages_may_stop_timer(void) { return 1; }
+
 void pages_start(void) {
     segments_seen = hits_seen = 0;
     show_outcomes();

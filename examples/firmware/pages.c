@@ -90,6 +90,8 @@ static void look_at_temperature(void) {
 
 struct addresses pages_addresses(struct addresses usual) { return usual; }
 
+int pages_may_stop_timer(void) { return 1; }
+
 void pages_start(void) {
     segments_seen = hits_on = hits_off = hits_set = hits_restart = 0;
     is_restarting = 0;

@@ -1,5 +1,23 @@
 /* The ring and the interrupt of port_dma.c, and what it needs.
  *
+ * The interrupts of an STM32F4, with USART2 and stream 5 of DMA1 (not tried). If both flags of the DMA are set, both calls are right:
+ *
+ *     unsigned dma_place(void) { return (RING - DMA1_Stream5->NDTR) % RING; }
+ *
+ *     void DMA1_Stream5_IRQHandler(void) {
+ *         unsigned flags = DMA1->HISR & (DMA_HISR_HTIF5 | DMA_HISR_TCIF5);
+ *         DMA1->HIFCR = flags;                           // these flags have the same places in both registers
+ *         if (flags & DMA_HISR_HTIF5) on_dma(0);
+ *         if (flags & DMA_HISR_TCIF5) on_dma(1);
+ *     }
+ *
+ *     void USART2_IRQHandler(void) {
+ *         if (USART2->SR & USART_SR_IDLE) {
+ *             (void)USART2->DR;                          // clears it
+ *             on_dma(0);
+ *         }
+ *     }
+ *
  * SPDX-License-Identifier: MIT OR Apache-2.0
  * Copyright 2026 The Lowunbisa authors
  */

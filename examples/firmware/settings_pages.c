@@ -118,6 +118,8 @@ struct addresses pages_addresses(struct addresses usual) {
     return present;
 }
 
+int pages_may_stop_timer(void) { return 1; }
+
 void pages_start(void) {
     segments_seen = hits_seen = 0;
     is_restarting = 0;

@@ -43,11 +43,11 @@ int half_a_second_passed(void) {
 
 /* Sleeps until an interrupt. The loop calls it with interrupts held back, in a pass that had nothing to do. Each half second it looks
  * whether the device needs ticks, with interrupts on, since that takes some time; the loop then makes another pass. If it needs none
- * and the port does not send, no output is pending either, and the timer stops: then only a received byte ends the sleep. If something
- * of yours has to be done at its time, let the timer run.
+ * and the port does not send, no output is pending either. If pages_may_stop_timer allows it, the timer then stops, and only a received byte
+ * ends the sleep. Else the sleep ends each half second, and all clocks run.
  */
 void wfi(void) {
-    int is_deep = is_quiet() && !dma_is_busy();
+    int is_deep = is_quiet() && !dma_is_busy() && pages_may_stop_timer();
     if (halves != halves_checked && !dma_is_busy()) {
         halves_checked = halves;
         bytes_checked = bytes_received;

@@ -44,6 +44,8 @@ build serve "$here/heap.c" uip_serve
 build state "$here/heap.c" uip_state
 "$cc" -O2 -Wall -Wextra -I"$top/include" "$here/text_test.c" -o "$here/out/text_test" && "$here/out/text_test" || fail "examples/text.h does not do what it states"
 "$cc" -O2 -Wall -Wextra -I"$top/include" "$here/token_test.c" -o "$here/out/token_test" && "$here/out/token_test" || fail "examples/token.h does not do what it states"
+"$cc" -O2 -Wall -Wextra -I"$top/include" "$here/outcome_test.c" -o "$here/out/outcome_test" && "$here/out/outcome_test" ||
+    fail "examples/outcome.h does not do what it states"
 build step "$here/heap.c" uip_step "$top/examples/step.c"
 build each_call "$here/heap.c" uip_each_call
 build each_call "$top/examples/heap.c" uip_each_call_array "-DUIP_HEAP_SIZE=UIP_MEMORY(1)"
