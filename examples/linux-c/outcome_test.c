@@ -47,5 +47,9 @@ int main(void) {
     adds("", NULL);
     adds("", "range");
     shows("no query is never the same request", "- range - accepted");
+    adds("d=eeee0005&n=1", NULL);
+    shows("the field d is not the last one", "eeee0005 accepted - range");
+    adds("n=1&d=eeee", "old");
+    shows("the start of the accepted tag is another one", "eeee old eeee0005 accepted");
     return wrong != 0;
 }
