@@ -140,12 +140,13 @@ extern "C" {
  *     Ethernet, DMA         ether_dma.c     uip_open_ether  uip_input_frame    uip_periodic_frame
  *     Ethernet, DMA, RTOS   rtos_dma.c      uip_open_ether  uip_input_frame    uip_periodic_frame
  *
- * ether.c, rtos.c and gate.c wait until a frame is sent, some 0.1 ms at 100 Mbit/s. datagrams.c waits
- * for its link. The other four never wait for their controller. Those with DMA use its buffers in
- * place: no frame is copied. Under an RTOS take the order of calls in `main` of rtos_dma.c.
+ * ether.c, rtos.c and gate.c wait until a frame is sent, some 0.1 ms at 100 Mbit/s. datagrams.c
+ * waits for its link. The other four never wait for their controller. Those with DMA use its
+ * buffers in place: no frame is copied. Under an RTOS take the order of calls in `main` of
+ * rtos_dma.c.
  *
- * The pages are a second file, pages.c or another of that folder: pages_start, pages_work. For a
- * program with the pages of gate.c take its two queues, and the loop of rtos_dma.c.
+ * What a program does with its pages is a second file: pages.c or door_pages.c. settings_pages.c is
+ * for ether.c, and gate_pages.c for gate.c. examples/firmware/README.md has all of them.
  *
  * On Ethernet link libuip_c_ether.a, which has all calls; otherwise libuip_c.a. (The libraries of
  * `rt lib`, the kit's command for aarch64 and x86-64, have all calls in libuip_c.a.)
@@ -155,8 +156,8 @@ extern "C" {
  * is sent again and no connection times out. tick_is_due_at keeps these rules.
  *
  * BUILD, for a Cortex-M4. startup.c, drivers.c and board.ld are yours. main.c includes site.c and
- * heap.c: do not compile these two by themselves. For a program of examples/firmware also compile its
- * pages (pages.c) and
+ * heap.c: do not compile these two by themselves. For a program of examples/firmware also compile
+ * its pages (pages.c) and
  *
  *     with step.c                     examples/step.c, and port.c, port_dma.c or port_cdc.c (section 7)
  *     with ether_dma.c, rtos_dma.c    ether_loop.c
@@ -164,7 +165,7 @@ extern "C" {
  *     sh ports/run.sh m4 library               # makes the libraries, with the Rattle kit
  *     python3 tools/pack.py FOLDER site.c      # for JSON add its type: /state.shtml=application/json
  *     arm-none-eabi-gcc -mcpu=cortex-m4 -mthumb -Os -nostartfiles -Iinclude -Iexamples -T board.ld \
- *         startup.c drivers.c main.c ports/out/m4/libuip_c.a -lc -lgcc -o firmware.elf
+ *         -I. startup.c drivers.c main.c ports/out/m4/libuip_c.a -lc -lgcc -o firmware.elf
  *
  * TRY IT from a PC with Linux. Without --silent browse.py fills the silence of the line with END,
  * and a firmware would not sleep. If the address of the node is not 10.0.0.1, pass it.
@@ -242,12 +243,14 @@ typedef char uip_needs_unsigned_of_32_bits[sizeof(unsigned) == 4 ? 1 : -1];
  *                     with frames, M4               6,400           5,280      3,272        1,872
  *                     with frames, at most          6,656           5,616      3,568        2,288
  *                     `rt lib`, aarch64             1,776           2,144         96        1,856
- *                 "With frames" is libuip_c_ether.a and its calls for frames.
+ *                 "With frames" is libuip_c_ether.a and its calls for frames; its uip_open is for a
+ *                 serial line.
  *                 Add your interrupts if they share the stack. The stack of a sink does not add: it
  *                 runs after the library has returned. Under an RTOS a device may be opened on the
- *                 main stack, before the scheduler starts; the task then needs the last column, if it does not close or open. A
- *                 task that makes only uip_set_value, uip_hits, uip_query, uip_ticks or uip_counter
- *                 needs at most 296. The figures of x86-64 and WebAssembly are not known.
+ *                 main stack, before the scheduler starts. Then a task that neither opens nor closes
+ *                 needs the last column, and what the RTOS saves. A task that makes only
+ *                 uip_set_value, uip_hits, uip_query, uip_ticks or uip_counter needs at most 296. The
+ *                 figures of x86-64 and WebAssembly are not known.
  *
  * 10 PROCESSOR    The stack is aligned as the ABI demands. Besides, for each library (m0 is for
  *                 Cortex-M0, M0+ and M3):
@@ -278,12 +281,12 @@ typedef char uip_needs_unsigned_of_32_bits[sizeof(unsigned) == 4 ? 1 : -1];
  *
  * The most that was found is 152,421: percent signs on a serial line, with a `room` of 3,002 bytes.
  * Opening takes some 20 more for each byte of an .shtml, and for each file 800 to 11,000 more, by
- * the length of its name. On Ethernet the frame began two bytes after a multiple of 4
- * (section 9).
+ * the length of its name. On Ethernet the frame began two bytes after a multiple of 4 (section 9);
+ * if it begins at a multiple of 4, a ping takes 2,636.
  *
  * If there is a watchdog, feed it before opening, in each pass (with step.c in `work`), and in a
- * sink that waits. Its time-out is longer than the longest sleep; if a sleep has no limit, stop the
- * watchdog for it. A task with a deadline makes no call, and takes no mutex of the device. It
+ * sink that waits. Its time-out is longer than the longest sleep: so if it cannot be stopped, end
+ * each sleep by a clock. A task with a deadline makes no call, and takes no mutex of the device. It
  * exchanges values and commands with the task that makes the calls, by queues, as in
  * examples/firmware/gate.c. "A state in another task" in docs/PAGES.md explains it.
  */
@@ -300,9 +303,9 @@ typedef char uip_needs_unsigned_of_32_bits[sizeof(unsigned) == 4 ? 1 : -1];
  * fields are 0. (uip_opened also names the fault of an image. uip_drain_all may have called its
  * sink.)
  *
- * Nothing that arrives causes an error, if your driver drops what is too long. So after opening treat any status but UIP_OK as a failed
- * assertion: record it, and reset or make no more calls. Each call lists its statuses in the order
- * in which it checks for them.
+ * Nothing that arrives causes an error, if your driver drops what is too long. So after opening
+ * treat any status but UIP_OK as a failed assertion: record it, and reset or make no more calls.
+ * Each call lists its statuses in the order in which it checks for them.
  */
 enum uip_status {
     UIP_OK = 0,
@@ -448,13 +451,12 @@ typedef void (*uip_sink)(void *to, const unsigned char *bytes, size_t len);
  *     not detect it. A wrong address locks the user out: keep a way back, such as a button that is
  *     held at the start.
  *
- * TO CHANGE THE ADDRESS, store the new one, and let the reply be delivered: go through the loop until
- * uip_needs_ticks is 0, but for at most six ticks. Refuse further changes meanwhile, and leave the
- * values of the reply. Then reset the processor or, if another task must not stop for that, close the
- * device and open it with the new address.
- * examples/firmware/settings_pages.c does it by a reset, with the checks and a way back. An erasure
- * may stop the processor for a second. If that is too long for the loop or for another task, erase at
- * the start, and append records.
+ * TO CHANGE THE ADDRESS, store the new one, and let the reply be delivered: go through the loop
+ * until uip_needs_ticks is 0, but for at most six ticks. Refuse further changes meanwhile, and
+ * leave the values of the reply. Then reset the processor or, if another task must not stop for
+ * that, close the device and open it with the new address. examples/firmware/settings_pages.c does
+ * it by a reset, with the checks and a way back. An erasure may stop the processor for a second. If
+ * that is too long for the loop or for another task, erase at the start, and append records.
  */
 
 /* Opens a device for a serial line or a link of datagrams. It allocates the memory of the device, and
@@ -480,9 +482,9 @@ uip_opened uip_open(uip_device *device, const unsigned char *image, size_t len, 
  * The device sends frames for addresses outside of its network to the router. If mask or router is
  * 0.0.0.0, it takes every address for one of its network.
  *
- * The device learns eight hardware addresses by ARP. A ninth takes the place of the oldest. All hosts
- * beyond the router count as one. It forgets each after 20 minutes, also one in use: then an ARP
- * request takes the place of one segment, which TCP sends again after 4 ticks.
+ * The device learns eight hardware addresses by ARP. A ninth takes the place of the oldest. All
+ * hosts beyond the router count as one. It forgets each after 20 minutes, also one in use: then an
+ * ARP request takes the place of one segment, which TCP sends again after 4 ticks.
  */
 uip_opened uip_open_ether(uip_device *device, const unsigned char *image, size_t len, const unsigned char own[4],
                           const unsigned char mac[6], const unsigned char mask[4], const unsigned char router[4]);
@@ -494,8 +496,9 @@ uip_opened uip_open_ether(uip_device *device, const unsigned char *image, size_t
  *
  * If you open again, set all values again, and set to 0 what your program remembers of uip_hits,
  * uip_query, uip_ticks and uip_counter: all begin at 0. With step.c call reset_step between the two
- * calls; with ether_loop.c call reset_ether_loop. A loop of your own begins the next
- * tick at slot 0. The port may send and receive meanwhile. If opening fails, the device is closed: call `fail`, as section 1 does.
+ * calls; with ether_loop.c call reset_ether_loop. A loop of your own begins the next tick at slot
+ * 0. The port may send and receive meanwhile. If opening fails, the device is closed: call `fail`,
+ * as section 1 does.
  */
 unsigned uip_close(uip_device *device);
 
@@ -541,7 +544,9 @@ unsigned uip_close(uip_device *device);
  *
  * In place of port.c take port_dma.c if a circular DMA receives, or port_cdc.c for USB CDC. step.h
  * has what each needs, and how to write another port. For a device that also stops its timer in a
- * sleep copy sleep.c: pages_may_stop_timer returns 0 while something of yours needs a clock.
+ * sleep copy sleep.c, with port.c or port_dma.c: its pages_may_stop_timer returns 0 while something
+ * of yours needs a clock. With port_cdc.c call cdc_work in `work`, and let a clock end wfi within
+ * 100 ms.
  *
  * RECEIVE WHILE YOU SEND. No call reads the port. While your program sends, an interrupt or a DMA
  * stores in a ring what arrives. If the ring overflows, bytes are lost, and a page comes some
@@ -558,13 +563,14 @@ unsigned uip_close(uip_device *device);
  * "The ring" in the guide computes them, also for other rates. With port.c an erasure of flash that
  * stops the processor loses bytes, whatever the ring.
  *
- * SLOW LINES. The node sends a segment again if it is not acknowledged after 4 ticks, 2 s. If the line
- * has less than 38,400 bits a second, or a round trip takes longer, read "Slow lines" in the guide.
+ * SLOW LINES. The node sends a segment again if it is not acknowledged after 4 ticks, 2 s. If the
+ * line has less than 38,400 bits a second, or a round trip takes longer, read "Slow lines" in the
+ * guide.
  *
- * LOST BYTES. If the port reports an error, clear its flag and continue: TCP repairs it. After uip_open,
- * reception may begin within a frame. If the receiver was off later, in a sleep for example, feed
- * one END (0xC0) first, else one more frame is lost: with port.c and port_dma.c by port_put(0xC0),
- * while interrupts are off. port_cdc.c does it by itself.
+ * LOST BYTES. If the port reports an error, clear its flag and continue: TCP repairs it. After
+ * uip_open, reception may begin within a frame. If the receiver was off later, in a sleep for
+ * example, feed one END (0xC0) first, else one more frame is lost: with port.c and port_dma.c by
+ * port_put(0xC0), while interrupts are off. port_cdc.c does it by itself.
  *
  * NOBODY READS. If a cable is out or a USB host does not read, drop the output, so that the loop
  * continues: your sink returns, or with step.c your port calls on_sent. Each frame of the output
@@ -700,9 +706,7 @@ UIP_INLINE unsigned uip_tick_datagrams(uip_device *device, unsigned char *out, s
 /* ---- 9 Ethernet --------------------------------------------------------------------------------
  *
  * One area has the received frame, and in its place the reply. This is the loop of
- * examples/firmware/ether.c. rtos.c there has it under an RTOS. ether_loop.c is a loop that never
- * waits, over the buffers of a DMA, for ether_dma.c and, under an RTOS, rtos_dma.c: it and drivers.h
- * explain who owns each buffer.
+ * examples/firmware/ether.c and, under an RTOS, rtos.c:
  *
  *     // Copies a received frame. Returns its length, or 0 if there is none. It may wait for one;
  *     // ticks and values are then late, so wait for 20 ms at most, for example.
@@ -722,6 +726,23 @@ UIP_INLINE unsigned uip_tick_datagrams(uip_device *device, unsigned char *out, s
  *             status = uip_tick_frames(&device, frame, sizeof frame, mac_send, NULL);
  *         ..                                  // values, buttons and forms
  *     }
+ *
+ * A loop that never waits uses the buffers of a DMA in place. It is that of ether_dma.c and, under
+ * an RTOS, rtos_dma.c. Compile ether_loop.c with it, which makes all calls of this section:
+ *
+ *     #include "firmware/ether_loop.h"
+ *     uip_device device = UIP_INIT;               // not static
+ *     volatile unsigned events;                   // the two interrupts of the controller add 1
+ *
+ *     while (status == UIP_OK) {
+ *         unsigned seen = events;
+ *         int is_idle;
+ *         status = ether_pass(&is_idle);          // takes at most one frame, and makes one periodic call
+ *         ..                                      // values, buttons and forms
+ *         if (is_idle) ..                         // sleep, unless events != seen; at most 20 ms
+ *     }
+ *
+ * drivers.h has the five functions that you write for it, and who owns each buffer.
  *
  * The heap is UIP_MEMORY_ETHER(SITE_IMAGE_FILES). A frame is that of RFC 894, from the destination
  * address to the end of its data, without preamble and check sequence. Your driver
@@ -824,22 +845,13 @@ UIP_INLINE unsigned uip_tick_frames(uip_device *device, unsigned char *frame, si
  * Date.now() makes each request another one. Without it a browser may show a stored copy, and send
  * no request. A link to a page with values needs it too.
  *
- * A TOKEN is a text that a page has as a value, and sends back in its query. Your program accepts
- * it once, only while the state that the page showed is unchanged, and for a limited time by a clock
- * that also counts in a sleep.
- *
- *   - A request with a token that was used, or is old, does nothing: a second click, another browser,
- *     a page that was loaded before. Its reply shows that.
- *   - But if the request that acted comes again, as when its reply is loaded again, the reply still has
- *     to show what it did. For this each page draws a tag, and your program keeps the last accepted and
- *     the last refused outcome, each with its tag: examples/outcome.h.
- *   - In the file its directive comes before those of the state, as the node reads values in this
- *     order: so an old state never comes with a new token.
- *   - A page that gets the state by a script gets the token with it.
- *   - A token is made of random numbers, or of a number that no earlier start had and a count.
- *   - token.h has the functions. In examples/firmware door_pages.c is an example for any link, with a
- *     button, a form and a setting that is kept over a restart; gate.c is one for two tasks. "Once" in
- *     PAGES.md explains all of it, also for a state that an interrupt keeps.
+ * WHAT MAY ACT AT MOST ONCE takes a token: a text that a page shows, and sends back in its query.
+ * Your program accepts it once, only in the state that the page showed, and not late. (Only a change
+ * after which the request would be wrong counts, and no measured value.) Begin with
+ * examples/firmware/door_pages.c. It has a button and a form with tokens, shows what became of each
+ * click, and keeps a setting over a restart. Its parts are examples/token.h and examples/outcome.h.
+ * "Once" in docs/PAGES.md explains each rule, also if another task (gate.c) or an interrupt keeps
+ * the state.
  *
  * WHEN TO LOOK at hits and queries: after each request, as a later query replaces the one before.
  *
@@ -870,8 +882,9 @@ UIP_INLINE unsigned uip_tick_frames(uip_device *device, unsigned char *frame, si
  *
  *   - If you see a request, and set a value before the next call that takes input, the reply to this
  *     request has it.
- *   - Two values of a page may be of two moments, and each costs a round trip, often 40 to 200 ms.
- *     So make one value of what belongs together, as "21.5,45.0".
+ *   - Each value of a page costs a round trip, with the delay of the peer's acknowledgement often 40 to
+ *     200 ms, and two values may be of two moments. So make one value of what belongs together, as
+ *     "21.5,45.0". (If that is longer than 32 bytes: "When a value is read" in docs/PAGES.md.)
  *   - Two browsers see the same values. If a value answers a request, begin it with a tag that the
  *     request brought: a later request may have changed it ("Once" in docs/PAGES.md).
  *   - Between two empty values without text between them the reply waits for a tick. So give each
@@ -889,8 +902,8 @@ unsigned uip_set_value(uip_device *device, size_t number, const void *text, size
  *
  *   Status    UIP_NO_DEVICE; UIP_OK
  *
- * A request for / counts for /index.html, and /on.html?d=1 for /on.html. An include counts none. A
- * segment that is sent again counts once.
+ * A request for / or /?d=1 counts for /index.html, and /on.html?d=1 for /on.html. An include counts
+ * none. A segment that is sent again counts once.
  */
 uip_number uip_hits(uip_device *device, const void *name, size_t len);
 
@@ -911,7 +924,7 @@ uip_number uip_hits(uip_device *device, const void *name, size_t len);
  *     if (hits != seen) {                      // the file was requested
  *         uip_query_text query = uip_query(&device, UIP_TEXT("/set.html"), text, sizeof text);
  *         seen = hits;
- *         // examples/text.h: number_in; tenths_in reads 21.5, text_in a name, address_in 10.0.0.1;
+ *         // examples/text.h: number_in; tenths_in reads 21.5 as 215, text_in a name, address_in 10.0.0.1;
  *         // signed_number_in and signed_tenths_in also read a sign
  *         if (query.hit == hits && number_in(text, query.len, "level", &level) && level <= 100)
  *             set_level(level);
@@ -956,7 +969,7 @@ uip_number uip_is_idle(uip_device *device);
  * number until the next tick. uip_ticks does not rise, and on Ethernet ARP entries do not age.
  *
  * With step.c copy sleep.c, which has this: "Sleep" in the guide explains it.
- * With datagrams or on Ethernet the function that receives may wait until something arrives.
+ * With datagrams or on Ethernet the function that receives may then wait until something arrives.
  * "Sleep" has more: a receiver that is off, and what Linux sends unasked.
  */
 UIP_INLINE int uip_needs_ticks(uip_device *device);
