@@ -143,7 +143,7 @@ extern "C" {
  * ether.c, rtos.c and gate.c wait until a frame is sent, some 0.1 ms at 100 Mbit/s. datagrams.c
  * waits for its link. The other four never wait for their controller. Those with DMA use its
  * buffers in place: no frame is copied. Under an RTOS take the order of calls in `main` of
- * rtos_dma.c.
+ * rtos_dma.c, as FreeRTOS masks interrupts until its scheduler runs.
  *
  * What a program does with its pages is a second file: pages.c or door_pages.c. settings_pages.c is
  * for ether.c, and gate_pages.c for gate.c. examples/firmware/README.md has all of them.
@@ -518,6 +518,7 @@ unsigned uip_close(uip_device *device);
  * feeds bytes between the frames of a tick, and sleeps if there is nothing to do. It makes all
  * calls of this section. step.h is its reference. The main program of section 1 then becomes
  *
+ *     #include ..                          // as in section 1
  *     #include "step.h"
  *     #include "firmware/port.h"           // compile examples/step.c and examples/firmware/port.c, too
  *
@@ -530,6 +531,7 @@ unsigned uip_close(uip_device *device);
  *     void interrupts_on(void) { __asm volatile("cpsie i" ::: "memory"); }
  *     void wfi(void) { __asm volatile("dsb\n wfi" ::: "memory"); }
  *
+ *     // In place of read_serial, which port.c has, and write_serial:
  *     unsigned char port_read(void) { .. }                             // the byte that has arrived
  *     void port_start(const unsigned char *bytes, size_t len) { .. }   // begins to send, by DMA or interrupt
  *     // Your interrupts: on_received() for each byte; on_sent() when the port has read all that port_start
@@ -842,8 +844,9 @@ UIP_INLINE unsigned uip_tick_frames(uip_device *device, unsigned char *frame, si
  *     <form action="/set.html" onsubmit="this.d.value = Date.now()">
  *     <input name="level"> <input type="hidden" name="d"> <button>Set</button></form>
  *
- * Date.now() makes each request another one. Without it a browser may show a stored copy, and send
- * no request. A link to a page with values needs it too.
+ * The file may be an .shtml, and show what came of the request. Date.now() makes each request
+ * another one. Without it a browser may show a stored copy, and send no request. A link to a page
+ * with values needs it too.
  *
  * WHAT MAY ACT AT MOST ONCE takes a token: a text that a page shows, and sends back in its query.
  * Your program accepts it once, only in the state that the page showed, and not late. (Only a change
@@ -938,9 +941,10 @@ uip_number uip_hits(uip_device *device, const void *name, size_t len);
  *   - every byte of it is a letter, a digit or one of -_.~%&=+
  *   - it arrives in the first segment of the request (further segments may follow).
  *
- * A request with another query is served and counted, and the query before it stays. A browser sends
- * most other bytes of a text as three (%C3), and nothing is decoded: text_in does that. Anyone who
- * reaches the node can send a query: check it. door_pages.c keeps a setting over a restart.
+ * A request with any other query is served and counted, and the query before it stays. A browser
+ * sends most other bytes of a text as three (%C3), and nothing is decoded: text_in does that.
+ * Anyone who reaches the node can send a query: check it. door_pages.c keeps a setting over a
+ * restart.
  */
 uip_query_text uip_query(uip_device *device, const void *name, size_t len, void *out, size_t room);
 
