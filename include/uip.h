@@ -166,6 +166,7 @@ extern "C" {
  *     python3 tools/pack.py FOLDER site.c      # for JSON add its type: /state.shtml=application/json
  *     arm-none-eabi-gcc -mcpu=cortex-m4 -mthumb -Os -nostartfiles -Iinclude -Iexamples -T board.ld \
  *         -I. startup.c drivers.c main.c ports/out/m4/libuip_c.a -lc -lgcc -o firmware.elf
+ *                                              # on Ethernet libuip_c_ether.a
  *
  * TRY IT from a PC with Linux. Without --silent browse.py fills the silence of the line with END,
  * and a firmware would not sleep. If the address of the node is not 10.0.0.1, pass it.
@@ -265,9 +266,9 @@ typedef char uip_needs_unsigned_of_32_bits[sizeof(unsigned) == 4 ? 1 : -1];
  *                     x86-64         The processor has level v2 (SSE4.2).
  *
  * TIME. No call waits, masks interrupts or needs privilege. No call allocates memory, except
- * opening. An inline function waits if its sink waits. Each call but opening handles at most one
- * datagram. No bound on the time of a call is known. Counted, in instructions on an M4 ("Time" in
- * the guide has more, and those of an M0+: 1.2 to 3 times as many for these rows):
+ * opening. An inline function waits if its sink waits. Each call of the library but opening handles
+ * at most one datagram. No bound on the time of a call is known. Counted, in instructions on an M4
+ * ("Time" in the guide has more, and those of an M0+: 1.2 to 3 times as many for these rows):
  *
  *                                                     serial line    datagrams    Ethernet
  *     all calls for a ping of 84 bytes                      4,714        1,722       2,184
@@ -303,9 +304,9 @@ typedef char uip_needs_unsigned_of_32_bits[sizeof(unsigned) == 4 ? 1 : -1];
  * fields are 0. (uip_opened also names the fault of an image. uip_drain_all may have called its
  * sink.)
  *
- * Nothing that arrives causes an error, if your driver drops what is too long. So after opening
- * treat any status but UIP_OK as a failed assertion: record it, and reset or make no more calls.
- * Each call lists its statuses in the order in which it checks for them.
+ * Nothing that arrives causes an error, if your driver drops what the call would refuse. So after
+ * opening treat any status but UIP_OK as a failed assertion: record it, and reset or make no more
+ * calls. Each call lists its statuses in the order in which it checks for them.
  */
 enum uip_status {
     UIP_OK = 0,
@@ -395,8 +396,8 @@ typedef struct uip_result { unsigned status, pending; size_t consumed, written; 
 typedef struct uip_number { unsigned status; unsigned number; } uip_number;
 
 /* The result of uip_query, which has an example.
- *   hit    which request of the file brought the query: the first one is 1, modulo 2^32. If it is
- *          equal to uip_hits, the latest request did. 0 if there is no query
+ *   hit    what uip_hits was just after the request that brought the query. If uip_hits is still the
+ *          same, the latest request brought it. 0 if there is no query
  *   len    the length of its text in bytes; it may be 0
  */
 typedef struct uip_query_text { unsigned status; unsigned hit; size_t len; } uip_query_text;
@@ -482,9 +483,9 @@ uip_opened uip_open(uip_device *device, const unsigned char *image, size_t len, 
  * The device sends frames for addresses outside of its network to the router. If mask or router is
  * 0.0.0.0, it takes every address for one of its network.
  *
- * The device learns eight hardware addresses by ARP. A ninth takes the place of the oldest. All
- * hosts beyond the router count as one. It forgets each after 20 minutes, also one in use: then an
- * ARP request takes the place of one segment, which TCP sends again after 4 ticks.
+ * The device learns eight hardware addresses by ARP, from requests too. A ninth takes the place of
+ * the oldest. All hosts beyond the router count as one. It forgets each after 20 minutes, also one
+ * in use: then an ARP request takes the place of one segment, which TCP sends again after 4 ticks.
  */
 uip_opened uip_open_ether(uip_device *device, const unsigned char *image, size_t len, const unsigned char own[4],
                           const unsigned char mac[6], const unsigned char mask[4], const unsigned char router[4]);
@@ -741,7 +742,7 @@ UIP_INLINE unsigned uip_tick_datagrams(uip_device *device, unsigned char *out, s
  *         int is_idle;
  *         status = ether_pass(&is_idle);          // takes at most one frame, and makes one periodic call
  *         ..                                      // values, buttons and forms
- *         if (is_idle) ..                         // sleep, unless events != seen; at most 20 ms
+ *         if (is_idle) ..                         // with interrupts off: sleep if events == seen, 20 ms at most
  *     }
  *
  * drivers.h has the five functions that you write for it, and who owns each buffer.
@@ -824,7 +825,8 @@ UIP_INLINE unsigned uip_tick_frames(uip_device *device, unsigned char *frame, si
  * %! ticks, %! net-stats, %! tcp-connections and %! file-stats /x show ticks, counters, connections
  * and hits.
  *
- * A request of / gets /index.html. It is no .shtml, so it has no directives: let it link to one, or
+ * No reply names a character set: write <meta charset="utf-8"> into each page. A request of / gets
+ * /index.html. It is no .shtml, so it has no directives: let it link to one, or
  * fetch its values by a script, as `live.html` of that folder does.
  *
  * BUTTONS AND FORMS are files that a browser requests. It also requests files that nobody clicked:
