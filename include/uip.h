@@ -209,7 +209,7 @@ typedef char uip_needs_unsigned_of_32_bits[sizeof(unsigned) == 4 ? 1 : -1];
  *                 function (section 13) counts as one call: while it runs, only its sink may use
  *                 the device. Make no call in an interrupt. Under an RTOS let one task make all
  *                 calls (and `main`, before the scheduler starts), or hold a mutex over each call.
- *                 The loop of step.c takes no mutex: then its task makes all calls.
+ *                 step.c and ether_loop.c take no mutex: then their task makes all calls.
  *                 Each call and each sink returns: no longjmp out of it, no exception, and no task
  *                 that is deleted in it.
  *
@@ -730,8 +730,8 @@ UIP_INLINE unsigned uip_tick_datagrams(uip_device *device, unsigned char *out, s
  *         ..                                  // values, buttons and forms
  *     }
  *
- * A loop that never waits uses the buffers of a DMA in place. It is that of ether_dma.c and, under
- * an RTOS, rtos_dma.c. Compile ether_loop.c with it, which makes all calls of this section:
+ * A loop that never waits uses the buffers of a DMA in place: ether_dma.c and, under an RTOS,
+ * rtos_dma.c. With it compile examples/firmware/ether_loop.c, which makes all calls of this section:
  *
  *     #include "firmware/ether_loop.h"
  *     uip_device device = UIP_INIT;               // not static
@@ -740,12 +740,14 @@ UIP_INLINE unsigned uip_tick_datagrams(uip_device *device, unsigned char *out, s
  *     while (status == UIP_OK) {
  *         unsigned seen = events;
  *         int is_idle;
- *         status = ether_pass(&is_idle);          // takes at most one frame, and makes one periodic call
+ *         status = ether_pass(&is_idle);          // takes at most one frame, and makes at most one periodic call
  *         ..                                      // values, buttons and forms
  *         if (is_idle) ..                         // with interrupts off: sleep if events == seen, 20 ms at most
  *     }
  *
- * drivers.h has the five functions that you write for it, and who owns each buffer.
+ * Under an RTOS there is no `events`: the two interrupts give a semaphore, for which the task waits
+ * 20 ms at most. drivers.h has the five functions that you write for ether_loop.c, and who owns
+ * each buffer; it also calls milliseconds().
  *
  * The heap is UIP_MEMORY_ETHER(SITE_IMAGE_FILES). A frame is that of RFC 894, from the destination
  * address to the end of its data, without preamble and check sequence. Your driver
@@ -843,6 +845,7 @@ UIP_INLINE unsigned uip_tick_frames(uip_device *device, unsigned char *frame, si
  * the href of a link, as a browser may follow it in advance.
  *
  *     <a href="/on.html" onclick="this.search = Date.now()">on</a>
+ *     <a href="/set.html" onclick="this.search = 'level=5&d=' + Date.now()">5</a>
  *     <form action="/set.html" onsubmit="this.d.value = Date.now()">
  *     <input name="level"> <input type="hidden" name="d"> <button>Set</button></form>
  *
@@ -851,8 +854,8 @@ UIP_INLINE unsigned uip_tick_frames(uip_device *device, unsigned char *frame, si
  * with values needs it too.
  *
  * WHAT MAY ACT AT MOST ONCE takes a token: a text that a page shows, and sends back in its query.
- * Your program accepts it once, only in the state that the page showed, and not late. (Only a change
- * after which the request would be wrong counts, and no measured value.) Begin with
+ * Your program accepts it once, only in the state that the page showed, and not late. (A measured
+ * value is no such state: its change ends no token.) Begin with
  * examples/firmware/door_pages.c. It has a button and a form with tokens, shows what became of each
  * click, and keeps a setting over a restart. Its parts are examples/token.h and examples/outcome.h.
  * "Once" in docs/PAGES.md explains each rule, also if another task (gate.c) or an interrupt keeps
