@@ -1,8 +1,7 @@
 -- An application whose output is a page, determined by the input and the captured snapshots. The laws of pages and sessions rest
 -- on this.
 -- [add: counter] `IsNow`: how many counters a snapshot has.
-use Rattle.std.specs.List.{All}
-use Rattle.std.specs.Prelude.{ℕ, ◌≡◌, ◌<◌, ◌≤◌, ◌+◌, ◌⊎◌, Bool, true, List, [], ◌∷◌, ◌++◌, length}
+use Rattle.std.specs.Prelude.{◌≡◌, ◌<◌, ◌≤◌, ◌+◌, ◌⊎◌, ◌∷◌, ◌++◌, [], All, Bool, length, List, true, ℕ}
 use Rattle.uip_wire.specs.declared.addr.Addr.{Addr}
 use Rattle.app_events.specs.AppSpec.{AppState, AppSpec, Snapshot}
 use Rattle.app_events.specs.Laws.{IsPrefixOf}

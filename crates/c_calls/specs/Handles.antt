@@ -1,7 +1,5 @@
 -- What a handle keeps, before and after a call. `Kept` is what a handle can keep, and `keeps d` that it keeps the device `d`.
-use Rattle.std.specs.Prelude.{◌≡◌, ◌⊎◌, ℕ, Bool, true, false, List, []}
-use Rattle.std.specs.declared.option.Option.{Option}
-use Rattle.std.specs.declared.option.Option.TheVariants.{Some}
+use Rattle.std.specs.Prelude.{◌≡◌, ◌⊎◌, [], Bool, false, List, Option, Some, true, ℕ}
 use Rattle.c_calls.specs.declared.status.TheConstants.{NO_DEVICE, OK}
 
 -- There is a device of this kind, and P holds of it.

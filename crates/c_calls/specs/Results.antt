@@ -1,7 +1,5 @@
 -- The results of calls from C.
-use Rattle.std.specs.Prelude.{◌≡◌, ◌⊎◌, ℕ, Bool, true, false, List, length, take}
-use Rattle.std.specs.declared.option.Option.{Option}
-use Rattle.std.specs.declared.option.Option.TheVariants.{None, Some}
+use Rattle.std.specs.Prelude.{◌≡◌, ◌⊎◌, Bool, false, length, List, None, Option, Some, take, true, ℕ}
 use Rattle.uip_wire.specs.Prelude.{written}
 use Rattle.c_calls.specs.declared.received.UipReceived.{UipReceived}
 use Rattle.c_calls.specs.declared.result.UipResult.{UipResult}

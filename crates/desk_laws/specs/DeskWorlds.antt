@@ -1,6 +1,5 @@
 -- The worlds whose node has the web server at port 80 and the shell at port 23.
-use Rattle.std.specs.List.{All}
-use Rattle.std.specs.Prelude.{◌≡◌, ◌*◌, ◌≤◌, ◌==◌, ◌⊎◌, ℕ, suc, Bool, true, List, length, Some, slice_get, if◌then◌else◌}
+use Rattle.std.specs.Prelude.{◌≡◌, ◌*◌, ◌≤◌, ◌==◌, ◌⊎◌, if◌then◌else◌, All, Bool, length, List, slice_get, Some, suc, true, ℕ}
 use Rattle.app_events.specs.Prelude.{Pages, IsSnapshot, Snapshot}
 use Rattle.site_image.specs.Prelude.{File}
 use Rattle.file_tree.specs.Prelude.{SiteContent, IsLoaded, files_of}

@@ -7,5 +7,4 @@ pub use Rattle.std.proofs.Math.Seq.{drop-append-add, get_or-append_seam, take-ap
 pub use Rattle.std.proofs.lemmas.Bool.{ltb-false, ltb-true}
 pub use Rattle.std.proofs.lemmas.List.{drop-append-le, drop-replicate, get_or-append_right, get_or_append_left, get_or_default, length-drop, length-replicate, length-take-le, take-append-drop, take-append-le, take_at}
 pub use Rattle.std.proofs.lemmas.List.Elements.{All-drop, All-head, All-tail, All-take}
-pub use Rattle.std.specs.List.{All}
-pub use Rattle.std.specs.Prelude.{slice_range}
+pub use Rattle.std.specs.Prelude.{All, slice_range}

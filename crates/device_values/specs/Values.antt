@@ -1,7 +1,6 @@
 -- The values of a device, as numbers: 33 for each of 16, its length and then its bytes.
 use Rattle.std.specs.Prelude.{◌≡◌, ◌<◌, ◌≤◌, ℕ, ◌+◌, ◌-◌, ◌*◌, ◌%◌, List, [], ◌∷◌, ◌++◌, drop, length, map, min, nat_lt}
-use Rattle.std.specs.Prelude.{if◌then◌else◌, replicate, slice_range, take}
-use Rattle.std.specs.List.{All, slice_index_or}
+use Rattle.std.specs.Prelude.{if◌then◌else◌, All, replicate, slice_index_or, slice_range, take}
 use Rattle.std.specs.Option.{option_map_or}
 use Rattle.app_events.specs.Prelude.{IsByte}
 use Rattle.uip_wire.specs.Prelude.{numeral}

@@ -1,6 +1,5 @@
 -- The words of a device's scripts: the functions of uIP, and the values.
-use Rattle.std.specs.Prelude.{ℕ, Bool, true, List, [], codes, flat_map, take, if◌then◌else◌}
-use Rattle.std.specs.Str.{bytes_eq}
+use Rattle.std.specs.Prelude.{if◌then◌else◌, [], Bool, bytes_eq, codes, flat_map, List, take, true, ℕ}
 use Rattle.script_lang.specs.Prelude.{Calling, function_named, length_at_most, takes_capture}
 use Rattle.generators.specs.Prelude.{ScriptFunctions, CallText, script_functions, uip_call_text, rows_in, counter_line, in_ten_places}
 use Rattle.generators.specs.Prelude.{row_text}

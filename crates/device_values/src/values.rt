@@ -1,7 +1,6 @@
 //! The values of a device.
 
-ghost use Rattle.std.specs.Prelude.{◌≡◌, ◌<◌, ◌≤◌, ◌-◌, ◌∷◌, ◌++◌, length, replicate, take};
-ghost use Rattle.std.specs.List.{All};
+ghost use Rattle.std.specs.Prelude.{◌≡◌, ◌<◌, ◌≤◌, ◌-◌, ◌∷◌, ◌++◌, All, length, replicate, take};
 ghost use Rattle.app_events.specs.Prelude.{IsByte};
 ghost use Rattle.device_values.specs.Values.{no_values, value_given, value_named, value_of};
 

@@ -1,7 +1,6 @@
 -- Resource records (RFC 1035, section 4.1.3): those that bytes represent, and the answer that they give.
-use Rattle.std.specs.Prelude.{ℕ, zero, suc, ◌+◌, ◌==◌, ◌&&◌, nat_lt, if◌then◌else◌, Bool, List, []}
+use Rattle.std.specs.Prelude.{◌+◌, ◌==◌, ◌&&◌, if◌then◌else◌, [], Bool, find, List, nat_lt, suc, zero, ℕ}
 use Rattle.std.specs.Prelude.{◌∷◌, length, drop, slice_range, Option, Some, None, option_and_then}
-use Rattle.std.specs.List.{find}
 use Rattle.uip_wire.specs.Prelude.{word_at}
 use Rattle.dns_message.specs.Names.{after_the_name}
 use Rattle.dns_message.specs.declared.answer.Answer.{Answer}

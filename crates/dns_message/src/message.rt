@@ -1,7 +1,6 @@
 //! The messages (RFC 1035, section 4.1).
 
-ghost use Rattle.std.specs.Prelude.{◌≡◌, ◌+◌, ◌≤◌, ◌++◌, List, ℕ, length};
-ghost use Rattle.std.specs.List.{flat_map};
+ghost use Rattle.std.specs.Prelude.{◌≡◌, ◌+◌, ◌≤◌, ◌++◌, List, flat_map, length, ℕ};
 ghost use Rattle.dns_message.specs.Messages.{answer_by_message, is_reply, query_message, question_bytes};
 ghost use Rattle.dns_message.specs.Names.{label_bytes, labels};
 

@@ -22,8 +22,7 @@ pub use Rattle.std.proofs.lemmas.List.Sums.{position_or_len_is}
 pub use Rattle.std.proofs.lemmas.Slice.Eq.{bytes_eq-Decides}
 pub use Rattle.std.specs.List.{All, find, list_any, position_or_len}
 pub use Rattle.std.specs.Option.{option_and_then, option_map_or, option_or}
-pub use Rattle.std.specs.Prelude.{option_map, slice_get, slice_range, ⊤}
-pub use Rattle.std.specs.Str.{bytes_eq}
+pub use Rattle.std.specs.Prelude.{bytes_eq, option_map, slice_get, slice_range, ⊤}
 pub use Rattle.tcp_machine.specs.Prelude.{Connection, Outcome, Sockets, accept, bare_ack, closed, fin_of, is_plain_syn, on_tick, reset_for_no_connection, reset_of, segment_of, serves, syn_ack, text_segment}
 unfoldable pub use Rattle.tcp_machine.specs.Prelude.{on_segment}
 pub use Rattle.tcp_machine.specs.declared.step.Step.{Step}

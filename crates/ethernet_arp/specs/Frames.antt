@@ -1,8 +1,7 @@
 -- Ethernet frames (RFC 894) and the ARP packets in them (RFC 826): what a received one decodes to, and those that are sent.
 use Rattle.std.specs.Prelude.{ℕ, ◌+◌, ◌==◌, ◌&&◌, ◌||◌, nat_le, nat_lt, Bool, if◌then◌else◌, List, [], ◌∷◌, ◌++◌, length, drop, slice_index}
-use Rattle.std.specs.Prelude.{Option}
+use Rattle.std.specs.Prelude.{bytes_eq, Option}
 use Rattle.std.specs.Option.{option_map_or}
-use Rattle.std.specs.Str.{bytes_eq}
 use Rattle.uip_wire.specs.Prelude.{address_at, word_at, word_bytes}
 use Rattle.uip_wire.specs.declared.sizes.TheConstants.{LARGEST_DATAGRAM}
 use Rattle.line_medium.specs.Prelude.{MediumInput, Datagram, Own}

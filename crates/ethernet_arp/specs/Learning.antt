@@ -1,8 +1,7 @@
 -- Which addresses are known, defined over the list of all learnings and ticks, without a table.
-use Rattle.std.specs.Prelude.{ℕ, ◌+◌, ◌&&◌, nat_lt, Bool, if◌then◌else◌, List, [], ◌∷◌, length, Option, None, Some}
+use Rattle.std.specs.Prelude.{◌+◌, ◌&&◌, if◌then◌else◌, ◌∷◌, [], Bool, bytes_eq, length, List, nat_lt, None, Option, Some, ℕ}
 use Rattle.std.specs.List.{list_any}
 use Rattle.std.specs.Option.{option_and_then, option_map_or, option_or}
-use Rattle.std.specs.Str.{bytes_eq}
 use Rattle.ethernet_arp.specs.declared.sizes.TheConstants.{ARP_ENTRIES, ARP_TICKS}
 
 -- An IP address and a hardware address, each as its bytes.

@@ -1,8 +1,7 @@
 -- The table of an `Arp` represents a list of learnings and ticks.
 use Rattle.std.specs.Prelude.{◌≡◌, ◌<◌, ◌≤◌, ◌+◌, ◌&&◌, ℕ, nat_lt, Bool, false, if◌then◌else◌, List, [], ◌∷◌, ◌++◌, length, take, drop, ⊤}
-use Rattle.std.specs.Prelude.{Option, None, Some, option_map}
+use Rattle.std.specs.Prelude.{bytes_eq, None, Option, option_map, Some}
 use Rattle.std.specs.List.{find, list_any}
-use Rattle.std.specs.Str.{bytes_eq}
 use Rattle.ethernet_arp.specs.Frames.{Host}
 use Rattle.ethernet_arp.specs.Learning.{Act, Learning, addresses_of, among, known, last_learning, ticks_in}
 use Rattle.ethernet_arp.specs.declared.arp.Arp.{Arp}

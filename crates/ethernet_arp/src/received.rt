@@ -1,7 +1,6 @@
 //! A received frame (RFC 894, RFC 826).
 
-ghost use Rattle.std.specs.Prelude.{◌≡◌, ◌≤◌, ◌-◌, ◌++◌, ◌&&◌, ◌||◌, List, ℕ, drop, length, nat_lt};
-ghost use Rattle.std.specs.Str.{bytes_eq};
+ghost use Rattle.std.specs.Prelude.{◌≡◌, ◌≤◌, ◌-◌, ◌++◌, ◌&&◌, ◌||◌, List, bytes_eq, drop, length, nat_lt, ℕ};
 ghost use Rattle.uip_wire.specs.Prelude.{word_at};
 ghost use Rattle.line_medium.specs.Prelude.{acts_among};
 ghost use Rattle.ethernet_arp.specs.Frames.{arp_brings, broadcast, frame_brings, is_arp, is_arp_for, is_datagram};

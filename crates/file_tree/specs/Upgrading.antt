@@ -1,6 +1,5 @@
 -- Upgrading a site to version 2: the same names and contents, each with a content type of its own.
-use Rattle.std.specs.Prelude.{ℕ, List, length, map, reverse, find, nat_lt, unwrap_or, option_map, Result, Ok}
-use Rattle.std.specs.Str.{bytes_eq}
+use Rattle.std.specs.Prelude.{bytes_eq, find, length, List, map, nat_lt, Ok, option_map, Result, reverse, unwrap_or, ℕ}
 use Rattle.site_image.specs.declared.TheConstants.{LONGEST_IMAGE}
 use Rattle.site_image.specs.declared.site_error.SiteWhy.TheVariants.{TooLong}
 use Rattle.site_image.specs.declared.site_error.SiteError.{SiteError}

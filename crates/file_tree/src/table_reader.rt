@@ -1,7 +1,6 @@
 //! Reads the table of an image.
 
-ghost use Rattle.std.specs.Prelude.{◌≡◌, ◌+◌, ◌≤◌, ◌<◌, ◌^◌, [], drop, length, IfOk, IfErr, Some, Ok, vec_len, vec_capacity};
-ghost use Rattle.std.specs.List.{insert};
+ghost use Rattle.std.specs.Prelude.{◌≡◌, ◌+◌, ◌≤◌, ◌<◌, ◌^◌, IfErr, IfOk, Ok, Some, [], drop, insert, length, vec_capacity, vec_len};
 ghost use Rattle.site_image.specs.declared.TheConstants.{LONGEST_IMAGE, MOST_FILES};
 ghost use Rattle.site_image.specs.Prelude.{entry_fault, entries, read_image, files_in};
 ghost use Rattle.file_tree.specs.Prelude.{Fails, Gives, AreWithin, IsOrder, IsIndex, IsEntry, place_by, IsLoaded};

@@ -1,10 +1,8 @@
 //! Upgrades an image to version 2.
 
-ghost use Rattle.std.specs.Prelude.{◌≡◌, ◌+◌, ◌≤◌, ◌<◌, ◌++◌, ◌∷◌, [], length, nat_lt, find, reverse};
+ghost use Rattle.std.specs.Prelude.{◌≡◌, ◌+◌, ◌≤◌, ◌<◌, ◌++◌, ◌∷◌, [], bytes_eq, find, length, nat_lt, option_copied, reverse};
 ghost use Rattle.std.specs.Prelude.{option_map, slice_get, All, IsTrue, Ok, Err, Some, IfOk, OnOk, IfErr};
 ghost use Rattle.std.specs.Int.{w16, to_be_bytes};
-ghost use Rattle.std.specs.Option.{option_copied};
-ghost use Rattle.std.specs.Str.{bytes_eq};
 ghost use Rattle.site_image.specs.declared.TheConstants.{MOST_FILES};
 ghost use Rattle.site_image.specs.declared.site_error.SiteWhy.TheVariants.{TooLong};
 ghost use Rattle.site_image.specs.declared.version.Version.TheVariants.{Two};

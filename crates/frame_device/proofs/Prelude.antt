@@ -17,10 +17,7 @@ pub use Rattle.std.proofs.lemmas.Bool.{false≢true, or_left, or_right}
 pub use Rattle.std.proofs.lemmas.List.{drop-take}
 pub use Rattle.std.proofs.lemmas.List.Elements.{All-append, All-cons, All-head, All-nil, All-tail}
 pub use Rattle.std.specs.Int.Bits.{and_zero_r}
-pub use Rattle.std.specs.List.{All, flat_map}
-pub use Rattle.std.specs.Option.{is_some}
-pub use Rattle.std.specs.Prelude.{slice_index, ⊤, replicate, slice_get, slice_index_or}
-pub use Rattle.std.specs.Str.{bytes_eq}
+pub use Rattle.std.specs.Prelude.{All, bytes_eq, flat_map, is_some, replicate, slice_get, slice_index, slice_index_or, ⊤}
 pub use Rattle.uip_node.proofs.Basics.{choose, both_ways}
 pub use Rattle.uip_node.proofs.DeliveredBytes.{page_bytes}
 pub use Rattle.uip_node.proofs.Prelude.{Addr, AppSpec, Buffer, Ghosts, IsAddr, IsPaged, IsU32, Pages, bytes_eq-Decides, datagram_in, take-append_seam}

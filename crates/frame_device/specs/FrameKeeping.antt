@@ -1,6 +1,5 @@
 -- How the trace of a device on a link of frames conforms, move by move.
-use Rattle.std.specs.List.{All, flat_map}
-use Rattle.std.specs.Prelude.{◌≡◌, ◌≤◌, ℕ, Bool, length, List, [], ◌∷◌, ◌++◌, map, ⊤}
+use Rattle.std.specs.Prelude.{◌≡◌, ◌≤◌, ◌∷◌, ◌++◌, [], All, Bool, flat_map, length, List, map, ℕ, ⊤}
 use Rattle.app_events.specs.Prelude.{IsByte, IsU32}
 use Rattle.uip_wire.specs.declared.addr.Addr.{Addr}
 use Rattle.node_laws.specs.Prelude.{OutputModel, TraceConforms, TraceEntry, IsDecoded}

@@ -1,6 +1,5 @@
 -- The next hop of a datagram (RFC 1122, section 3.3.1.1).
-use Rattle.std.specs.Prelude.{◌≡◌, ◌⊎◌, ◌||◌, ℕ, Bool, if◌then◌else◌, bit_and, List, [], ◌∷◌, slice_index}
-use Rattle.std.specs.Str.{bytes_eq}
+use Rattle.std.specs.Prelude.{◌≡◌, ◌⊎◌, ◌||◌, if◌then◌else◌, ◌∷◌, [], bit_and, Bool, bytes_eq, List, slice_index, ℕ}
 use Rattle.uip_wire.specs.Prelude.{address_at}
 use Rattle.uip_wire.specs.declared.addr.Addr.{Addr}
 use Rattle.ethernet_arp.specs.Prelude.{Host}

@@ -1,6 +1,5 @@
 -- How the trace of a program's calls conforms.
-use Rattle.std.specs.List.{flat_map}
-use Rattle.std.specs.Prelude.{ℕ, Bool, List}
+use Rattle.std.specs.Prelude.{Bool, flat_map, List, ℕ}
 use Rattle.app_events.specs.Prelude.{AppSpec}
 use Rattle.uip_wire.specs.declared.addr.Addr.{Addr}
 use Rattle.frame_device.specs.Newest.{NewestInEachSlot}

@@ -1,7 +1,6 @@
 //! What the moves of a caller write in turn: calls, and values that it sets between them.
 
-ghost use Rattle.std.specs.Prelude.{◌≡◌, ℕ, List, []};
-ghost use Rattle.std.specs.List.{All};
+ghost use Rattle.std.specs.Prelude.{◌≡◌, All, List, [], ℕ};
 ghost use Rattle.app_events.specs.Prelude.{IsAddr, IsU32, AppSpec};
 ghost use Rattle.uip_node.specs.Prelude.{IsSteady, SendsBytes};
 ghost use Rattle.node_laws.specs.Prelude.{HasOutputModel, OutputModel};

@@ -1,6 +1,5 @@
 -- The texts of a script's calls, over plain data.
-use Rattle.std.specs.List.{All}
-use Rattle.std.specs.Prelude.{ℕ, ◌≤◌, List, length}
+use Rattle.std.specs.Prelude.{◌≤◌, All, length, List, ℕ}
 use Rattle.app_events.specs.Prelude.{IsNow, IsU32, IsByte}
 use Rattle.app_events.specs.declared.now.Now.{Now}
 use Rattle.script_lang.specs.Prelude.{Calling, uip_calls}

@@ -55,8 +55,7 @@ pub use Rattle.std.proofs.lemmas.Slice.Eq.{bytes_eq-Decides}
 pub use Rattle.std.specs.Coded.{le_prop}
 pub use Rattle.std.specs.Io.KnownBytes.{Appends}
 pub use Rattle.std.specs.List.{before_first, flat_map, list_any, position_or_len, starts_with}
-pub use Rattle.std.specs.Prelude.{IfSome, nat_eq, nat_le, slice_get, slice_range}
-pub use Rattle.std.specs.Str.{bytes_eq}
+pub use Rattle.std.specs.Prelude.{bytes_eq, IfSome, nat_eq, nat_le, slice_get, slice_range}
 pub use Rattle.uip_edge.proofs.Reported.{Appends-none, Appends-then}
 pub use Rattle.uip_edge.proofs.Writes.{writes_broken, writes_by, writes_none, writes_then}
 pub use Rattle.uip_edge.specs.Prelude.{SinkView, Writes, sink_view}

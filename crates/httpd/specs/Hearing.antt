@@ -1,6 +1,5 @@
 -- How much of a request was received, and what the line buffer keeps of it.
-use Rattle.std.specs.Prelude.{◌≡◌, ℕ, false, true, List, codes, Option}
-use Rattle.std.specs.Str.{bytes_eq}
+use Rattle.std.specs.Prelude.{◌≡◌, bytes_eq, codes, false, List, Option, true, ℕ}
 use Rattle.protosocket.specs.declared.stops.Stops.TheVariants.{Space, SpaceOrLine}
 use Rattle.protosocket.specs.Prelude.{Line}
 use Rattle.protosocket.specs.Line.{delivered as received_line}

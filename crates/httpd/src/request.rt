@@ -1,7 +1,6 @@
 //! Parses a request line, word by word, as its bytes are delivered.
 
-ghost use Rattle.std.specs.Prelude.{◌≡◌, ◌≤◌, ◌++◌, ◌&&◌, ℕ, List, length, not, nat_eq, codes, option_map, if◌then◌else◌};
-ghost use Rattle.std.specs.Str.{bytes_eq};
+ghost use Rattle.std.specs.Prelude.{◌≡◌, ◌≤◌, ◌++◌, ◌&&◌, if◌then◌else◌, List, bytes_eq, codes, length, nat_eq, not, option_map, ℕ};
 ghost use Rattle.std.specs.List.{starts_with};
 ghost use Rattle.file_tree.specs.Prelude.{files_of};
 ghost use Rattle.site_image.specs.Prelude.{file_named};

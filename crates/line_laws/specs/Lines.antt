@@ -1,6 +1,5 @@
 -- The guarantee for a line: for the station events of its items and the bytes written.
-use Rattle.std.specs.List.{All}
-use Rattle.std.specs.Prelude.{◌≡◌, ℕ, Bool, List, [], ◌∷◌, ◌++◌, map}
+use Rattle.std.specs.Prelude.{◌≡◌, ◌∷◌, ◌++◌, [], All, Bool, List, map, ℕ}
 use Rattle.uip_wire.specs.declared.addr.Addr.{Addr}
 use Rattle.app_events.specs.Prelude.{AppSpec, IsAddr, IsU32}
 use Rattle.uip_edge.specs.declared.item.Item.{Item}

@@ -1,6 +1,5 @@
 -- What the lines of a schedule do, and which of them is refused.
-use Rattle.std.specs.List.{All}
-use Rattle.std.specs.Prelude.{◌≡◌, ℕ, Bool, List, map, Result, Ok, Err, Some, slice_get, ⊤}
+use Rattle.std.specs.Prelude.{◌≡◌, All, Bool, Err, List, map, Ok, Result, slice_get, Some, ℕ, ⊤}
 use Rattle.app_events.specs.Prelude.{AppSpec, IsPaged, IsU32, Pages}
 use Rattle.uip_node.specs.Prelude.{HasBytes}
 use Rattle.link_schedule.specs.Reading.{SchedulePlan}

@@ -1,7 +1,6 @@
 -- The worlds that a replay reaches, and what an act of the code does.
 -- [add: act] What the code does at it.
-use Rattle.std.specs.List.{All}
-use Rattle.std.specs.Prelude.{◌≡◌, ◌<◌, ◌≤◌, ℕ, Bool, List, ◌∷◌, ◌++◌, length, Some, Result, Ok, Err, ⊤}
+use Rattle.std.specs.Prelude.{◌≡◌, ◌<◌, ◌≤◌, ◌∷◌, ◌++◌, All, Bool, Err, length, List, Ok, Result, Some, ℕ, ⊤}
 use Rattle.app_events.specs.Prelude.{AppSpec, Pages, IsPaged}
 use Rattle.link_world.specs.Prelude.{World, Sent, numbered, sent_bytes, acts, does, runs, Start, started, CountsBy, IsAct, IsLoss}
 use Rattle.link_world.specs.declared.act.Act.{Act}

@@ -1,7 +1,6 @@
 -- The guarantee for the web server: what its clients receive of the pages of a site.
-use Rattle.std.specs.List.{All}
 use Rattle.std.specs.Int.{div_ceil}
-use Rattle.std.specs.Prelude.{◌≡◌, ◌≢◌, ℕ, ◌+◌, ◌*◌, ◌≤◌, Bool, true, List, [], ◌∷◌, length, replicate, sum_by, Some, Ok, slice_get}
+use Rattle.std.specs.Prelude.{◌≡◌, ◌≢◌, ◌+◌, ◌*◌, ◌≤◌, ◌∷◌, [], All, Bool, length, List, Ok, replicate, slice_get, Some, sum_by, true, ℕ}
 use Rattle.uip_wire.specs.declared.addr.Addr.{Addr}
 use Rattle.app_events.specs.Prelude.{IsU32, IsByte, IsAddr}
 use Rattle.tcp_machine.specs.Prelude.{first_mss}

@@ -1,7 +1,6 @@
 //! A world and its acts.
 
-ghost use Rattle.std.specs.List.{All};
-ghost use Rattle.std.specs.Prelude.{◌≡◌, ℕ, true, false, OnErr, Ok, Err, IfErr};
+ghost use Rattle.std.specs.Prelude.{◌≡◌, All, Err, IfErr, Ok, OnErr, false, true, ℕ};
 ghost use Rattle.link_world.specs.Acts.{acts as acted, runs};
 ghost use Rattle.link_world.specs.Schedule.{acts_of as lines_acts, plays_line};
 ghost use Rattle.link_world.specs.Prelude.{IsAct, OfLine};

@@ -24,7 +24,6 @@ pub use Rattle.std.proofs.lemmas.Iterator.Splits.{YieldsList-from_slice_split}
 pub use Rattle.std.proofs.lemmas.List.{drop_all, drop_more, length-append, length-map}
 pub use Rattle.std.proofs.lemmas.List.Folds.{list_all-append, list_any-append}
 pub use Rattle.std.specs.List.{list_all, list_any, onto_first, slice_split}
-pub use Rattle.std.specs.Prelude.{codes}
-pub use Rattle.std.specs.Str.{bytes_eq}
+pub use Rattle.std.specs.Prelude.{bytes_eq, codes}
 pub use Rattle.uip_wire.specs.Prelude.{is_numeral, numeral}
 unfoldable pub use Rattle.uip_wire.specs.Prelude.{quad_of}

@@ -1,7 +1,6 @@
 -- The form of a line that makes a client.
-use Rattle.std.specs.Prelude.{ℕ, ◌&&◌, nat_le, if◌then◌else◌, Bool, List, [], ◌∷◌, ◌++◌, length, Result, Ok, Err, codes}
+use Rattle.std.specs.Prelude.{◌&&◌, if◌then◌else◌, ◌∷◌, ◌++◌, [], Bool, bytes_eq, codes, Err, length, List, nat_le, Ok, Result, ℕ}
 use Rattle.std.specs.List.{list_all}
-use Rattle.std.specs.Str.{bytes_eq}
 use Rattle.hex.specs.Hex.{decode_of}
 use Rattle.hex.specs.declared.error.FromHexError.{FromHexError}
 use Rattle.uip_wire.specs.declared.addr.Addr.{Addr}

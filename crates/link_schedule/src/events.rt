@@ -1,7 +1,6 @@
 //! The lines that state what happens, by their words.
 
-ghost use Rattle.std.specs.Prelude.{◌≡◌, ◌<◌, [], ◌∷◌, map};
-ghost use Rattle.std.specs.Str.{bytes_eq};
+ghost use Rattle.std.specs.Prelude.{◌≡◌, ◌<◌, ◌∷◌, [], bytes_eq, map};
 ghost use Rattle.link_schedule.specs.Events.{bare as bare_meant, damage as damage_meant, event_of_words as event_meant};
 ghost use Rattle.link_schedule.specs.Events.{window as window_meant, with_one as one_meant};
 

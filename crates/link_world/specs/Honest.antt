@@ -1,6 +1,5 @@
 -- A link that loses nothing: every datagram is delivered once and in order, in rounds.
-use Rattle.std.specs.List.{All}
-use Rattle.std.specs.Prelude.{◌≡◌, ℕ, ◌+◌, ◌*◌, ◌<◌, ◌≤◌, Bool, true, List, [], ◌∷◌, length, replicate, Some, Ok, slice_get}
+use Rattle.std.specs.Prelude.{◌≡◌, ◌+◌, ◌*◌, ◌<◌, ◌≤◌, ◌∷◌, [], All, Bool, length, List, Ok, replicate, slice_get, Some, true, ℕ}
 use Rattle.uip_wire.specs.declared.addr.Addr.{Addr}
 use Rattle.app_events.specs.Prelude.{AppState, AppSpec, Pages, IsPaged, IsU32, IsAddr}
 use Rattle.tcp_machine.specs.Prelude.{first_mss}

@@ -1,6 +1,5 @@
 -- Invariants of the connections of a node and of the states of their applications, for any events.
-use Rattle.std.specs.List.{All}
-use Rattle.std.specs.Prelude.{◌≡◌, ℕ, ◌+◌, ◌<◌, ◌≤◌, ◌⊎◌, Bool, true, List, length, Some, slice_get}
+use Rattle.std.specs.Prelude.{◌≡◌, ◌+◌, ◌<◌, ◌≤◌, ◌⊎◌, All, Bool, length, List, slice_get, Some, true, ℕ}
 use Rattle.uip_wire.specs.declared.addr.Addr.{Addr}
 use Rattle.app_events.specs.Prelude.{AppSpec, Pages, IsPaged, IsSnapshot, IsU32}
 use Rattle.app_events.specs.declared.state.State.TheVariants.{Established, CloseWait}

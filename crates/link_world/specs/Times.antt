@@ -1,6 +1,5 @@
 -- What holds between a world and a later one, and invariants of the numbers of each world.
-use Rattle.std.specs.List.{All}
-use Rattle.std.specs.Prelude.{◌≡◌, ℕ, suc, ◌+◌, ◌≤◌, ◌⊎◌, Bool, true, false, List, length, map, Some, None, Ok, slice_get}
+use Rattle.std.specs.Prelude.{◌≡◌, ◌+◌, ◌≤◌, ◌⊎◌, All, Bool, false, length, List, map, None, Ok, slice_get, Some, suc, true, ℕ}
 use Rattle.uip_wire.specs.declared.addr.Addr.{Addr}
 use Rattle.tcp_segment.specs.Prelude.{PlainSegment, has_rst, has_ack}
 use Rattle.app_events.specs.Prelude.{AppSpec, Pages, IsPaged}

@@ -1,6 +1,5 @@
 -- Nothing is sent unsolicited, and connections open only at served ports.
-use Rattle.std.specs.Prelude.{◌≡◌, ℕ, ◌⊎◌, Bool, true, false, List, ◌∷◌, ◌++◌, Some, None}
-use Rattle.std.specs.List.{All}
+use Rattle.std.specs.Prelude.{◌≡◌, ◌⊎◌, ◌∷◌, ◌++◌, All, Bool, false, List, None, Some, true, ℕ}
 use Rattle.tcp_segment.specs.Prelude.{PlainSegment, has_rst}
 use Rattle.tcp_machine.specs.Prelude.{Sockets}
 use Rattle.uip_node.specs.Prelude.{EchoAsked, Echo}

@@ -1,8 +1,7 @@
 -- A cooperating peer (RFC 793, section 3.9): it sends a request, acknowledges each segment, loses nothing, and answers before the node
 -- resets it. It has its whole page and a FIN after a stated number of its segments.
-use Rattle.std.specs.List.{All}
 use Rattle.std.specs.Option.{option_map_or}
-use Rattle.std.specs.Prelude.{◌≡◌, ℕ, ◌+◌, ◌<◌, ◌≤◌, ◌==◌, ◌&&◌, ◌⊎◌, Bool, true, false, not, List, []}
+use Rattle.std.specs.Prelude.{◌≡◌, ◌+◌, ◌<◌, ◌≤◌, ◌==◌, ◌&&◌, ◌⊎◌, [], All, Bool, false, List, not, true, ℕ}
 use Rattle.std.specs.Prelude.{◌∷◌, ◌++◌, length, map, suc, drop, Some, None, is_some, if◌then◌else◌}
 use Rattle.uip_wire.specs.Prelude.{wrap}
 use Rattle.uip_wire.specs.declared.addr.Addr.{Addr}

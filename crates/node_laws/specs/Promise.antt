@@ -1,6 +1,5 @@
 -- The guarantee for each incarnation of a connection, for any events of a line from any peers, in any order.
-use Rattle.std.specs.List.{All}
-use Rattle.std.specs.Prelude.{◌≡◌, ℕ, suc, ◌+◌, ◌<◌, ◌≤◌, ◌⊎◌, Bool, true, false, List, [], ◌∷◌, ◌++◌, length, drop, Option, Some}
+use Rattle.std.specs.Prelude.{◌≡◌, ◌+◌, ◌<◌, ◌≤◌, ◌⊎◌, ◌∷◌, ◌++◌, [], All, Bool, drop, false, length, List, Option, Some, suc, true, ℕ}
 use Rattle.std.specs.Prelude.{if◌then◌else◌}
 use Rattle.uip_wire.specs.Prelude.{wrap}
 use Rattle.tcp_segment.specs.Prelude.{PlainSegment, has_syn, has_fin, has_rst, has_ack}

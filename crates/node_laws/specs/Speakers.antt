@@ -1,6 +1,5 @@
 -- The hypotheses about an application: its output is bytes, and an output model determines it at each port.
-use Rattle.std.specs.List.{All}
-use Rattle.std.specs.Prelude.{◌≡◌, ℕ, ◌<◌, ◌≤◌, ◌⊎◌, Bool, true, false, List, [], ◌++◌, length, ⊤}
+use Rattle.std.specs.Prelude.{◌≡◌, ◌<◌, ◌≤◌, ◌⊎◌, ◌++◌, [], All, Bool, false, length, List, true, ℕ, ⊤}
 use Rattle.app_events.specs.Prelude.{IsPrefixOf, Pages, IsSnapshot, MayWant, AppState, AppSpec, Snapshot}
 use Rattle.app_events.specs.declared.now.Now.{Now}
 use Rattle.app_events.specs.declared.want.Want.TheVariants.{Close}

@@ -1,7 +1,6 @@
 -- What is outstanding is retransmitted until it is acknowledged, or the connection is reset (RFC 793, section 3.7; RFC 1122, section
 -- 4.2.3.5). The statement is about exchanges with a peer and calls of slots.
-use Rattle.std.specs.List.{All}
-use Rattle.std.specs.Prelude.{◌≡◌, ℕ, ◌+◌, ◌<◌, ◌≤◌, Bool, true, false, List, ◌++◌, take, Some, None, slice_get}
+use Rattle.std.specs.Prelude.{◌≡◌, ◌+◌, ◌<◌, ◌≤◌, ◌++◌, All, Bool, false, List, None, slice_get, Some, take, true, ℕ}
 use Rattle.uip_wire.specs.Prelude.{wrap}
 use Rattle.uip_wire.specs.declared.addr.Addr.{Addr}
 use Rattle.tcp_segment.specs.Prelude.{PlainSegment, has_rst, has_ack}

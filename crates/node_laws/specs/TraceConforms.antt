@@ -1,6 +1,5 @@
 -- The guarantee for a whole trace of a node, for any events of a line.
-use Rattle.std.specs.List.{All}
-use Rattle.std.specs.Prelude.{ℕ, Bool, List}
+use Rattle.std.specs.Prelude.{All, Bool, List, ℕ}
 use Rattle.uip_wire.specs.declared.addr.Addr.{Addr}
 use Rattle.app_events.specs.Prelude.{AppSpec, Pages, IsPaged, IsAddr, IsU32}
 use Rattle.tcp_machine.specs.Prelude.{Sockets}

@@ -1,7 +1,6 @@
 -- New text fits the window of the peer (RFC 793, section 3.7, "Managing the Window"). A window of 0 counts as an open one. The window of
 -- the segment that acknowledges the SYN is not respected.
-use Rattle.std.specs.List.{All}
-use Rattle.std.specs.Prelude.{◌≡◌, ℕ, ◌+◌, ◌<◌, ◌≤◌, ◌⊎◌, Bool, true, false, List, [], ◌∷◌, length, drop, Some, None, slice_get}
+use Rattle.std.specs.Prelude.{◌≡◌, ◌+◌, ◌<◌, ◌≤◌, ◌⊎◌, ◌∷◌, [], All, Bool, drop, false, length, List, None, slice_get, Some, true, ℕ}
 use Rattle.uip_wire.specs.Prelude.{wrap}
 use Rattle.uip_wire.specs.declared.addr.Addr.{Addr}
 use Rattle.tcp_segment.specs.Prelude.{PlainSegment, has_syn, has_ack}

@@ -1,6 +1,5 @@
 -- What is on the wire: where events come from, and that the node's own parser gives back each segment that is sent.
-use Rattle.std.specs.List.{All}
-use Rattle.std.specs.Prelude.{◌≡◌, ℕ, ◌≤◌, Bool, List, length, Some}
+use Rattle.std.specs.Prelude.{◌≡◌, ◌≤◌, All, Bool, length, List, Some, ℕ}
 use Rattle.uip_wire.specs.declared.addr.Addr.{Addr}
 use Rattle.uip_wire.specs.declared.sizes.TheConstants.{LARGEST_DATAGRAM}
 use Rattle.tcp_segment.specs.Prelude.{PlainSegment}

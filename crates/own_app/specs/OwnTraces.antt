@@ -1,6 +1,5 @@
 -- The guarantee for a node with this application alone, over events and the messages that the program writes between them.
-use Rattle.std.specs.List.{All}
-use Rattle.std.specs.Prelude.{ℕ, Bool, List, [], ◌∷◌}
+use Rattle.std.specs.Prelude.{◌∷◌, [], All, Bool, List, ℕ}
 use Rattle.app_events.specs.Prelude.{IsAddr, IsByte, IsU32}
 use Rattle.uip_wire.specs.declared.addr.Addr.{Addr}
 use Rattle.uip_node.specs.Prelude.{AbstractNode, Event, initial_node, step}

@@ -30,8 +30,7 @@ pub struct OwnApp {
 }
 
 impl OwnApp {
-    ghost use Rattle.std.specs.List.{All};
-    ghost use Rattle.std.specs.Prelude.{◌≡◌, ℕ, true};
+    ghost use Rattle.std.specs.Prelude.{◌≡◌, All, true, ℕ};
     ghost use Rattle.app_events.specs.Prelude.{IsByte};
     ghost use Rattle.own_app.specs.OwnSpec.{fresh_part};
     ghost use Rattle.own_app.specs.OwnRepresents.{OwnRepresents, after_capture, after_input, is_due, message_of, state_of};

@@ -1,8 +1,7 @@
 //! Bytes that are stored, and offsets in them.
 
-ghost use Rattle.std.specs.List.{All};
 ghost use Rattle.app_events.specs.Prelude.{IsByte};
-ghost use Rattle.std.specs.Prelude.{◌≡◌, ◌≤◌, ◌+◌, ◌-◌, drop, length, take};
+ghost use Rattle.std.specs.Prelude.{◌≡◌, ◌≤◌, ◌+◌, ◌-◌, All, drop, length, take};
 
 use arrayvec::ArrayVec;
 

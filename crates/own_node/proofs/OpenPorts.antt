@@ -1,10 +1,8 @@
 -- A connection opens only at the port that its frame is for.
 use Rattle.own_node.proofs.Prelude.{◌≡◌, ◌∙◌, ℕ, ◌+◌, ◌-◌, ◌%◌, ◌<◌, ◌≤◌, ◌&&◌, ◌||◌, Bool, true, false, if◌then◌else◌, not, eqb, ltb, List, [], ◌∷◌, ◌++◌, drop, length, length-drop, length-take, take, Option, Some, None, refl, sym, ap, subst, arith, and_from, and_parts, eq-eqb, eqb-true, false≢true, le-leb, ltb-false, get_or-drop, get_or-take, All-head, All-tail, AppSpec, is_open_port, with_port, choose, find_is, finds, finds_none, index_of, initial_number, Arrived, EchoAsked, IcmpRefused, IpRefused, Overlong, Periodic, TcpRefused}
 use Rattle.std.proofs.lemmas.Grind.{common_steps}
-use Rattle.std.specs.List.{All}
 use Rattle.std.specs.Option.{option_map_or}
-use Rattle.std.specs.Prelude.{Result, Ok, Err, position, slice_index, slice_index_or, slice_range}
-use Rattle.std.specs.Str.{bytes_eq}
+use Rattle.std.specs.Prelude.{All, bytes_eq, Err, Ok, position, Result, slice_index, slice_index_or, slice_range}
 use Rattle.icmp_echo.specs.Prelude.{echo_fate}
 use Rattle.icmp_echo.specs.declared.fate.IcmpFate.{IcmpFate}
 use Rattle.own_node.specs.Ports.{carries_segment, is_for_closed_port, target_port}

@@ -1,6 +1,5 @@
 -- What the periodic call of its slot does with a message that was just written.
-use Rattle.std.specs.List.{All}
-use Rattle.std.specs.Prelude.{◌≡◌, ◌<◌, ◌++◌, [], ◌∷◌, ℕ, Bool, List, drop, length, true}
+use Rattle.std.specs.Prelude.{◌≡◌, ◌<◌, ◌++◌, ◌∷◌, [], All, Bool, drop, length, List, true, ℕ}
 use Rattle.app_events.specs.Prelude.{AppSpec, IsByte, Snapshot}
 use Rattle.tcp_machine.specs.Prelude.{Connection}
 use Rattle.uip_node.specs.Prelude.{AbstractNode, connection_in, periodic}

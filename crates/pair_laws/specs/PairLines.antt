@@ -1,6 +1,5 @@
 -- What a pair owes the laws of a node's trace, and what its trace shows.
-use Rattle.std.specs.List.{All}
-use Rattle.std.specs.Prelude.{ℕ, Bool, true, false, if◌then◌else◌, List, [], ◌∷◌, map}
+use Rattle.std.specs.Prelude.{if◌then◌else◌, ◌∷◌, [], All, Bool, false, List, map, true, ℕ}
 use Rattle.app_events.specs.Prelude.{AppSpec, IsAddr, IsU32, Pages}
 use Rattle.uip_wire.specs.declared.addr.Addr.{Addr}
 use Rattle.uip_node.specs.Prelude.{AbstractNode, Event, IsSteady, SendsBytes, initial_node, step}

@@ -4,10 +4,8 @@ use Rattle.std.proofs.Common.{get_or, take, drop, length-drop}
 use Rattle.std.proofs.lemmas.List.{ext_get_or, get_or-take, get_or-drop, length-take-le, take_rest}
 use Rattle.std.proofs.lemmas.Bool.Decides.{Decides-and, Decides-like, same_from_decides}
 use Rattle.std.proofs.lemmas.Slice.Eq.{bytes_eq-Decides}
-use Rattle.std.specs.Bool.{Decides}
 use Rattle.std.specs.List.{slice_range, ends_with}
-use Rattle.std.specs.Prelude.{nat_eq}
-use Rattle.std.specs.Str.{bytes_eq}
+use Rattle.std.specs.Prelude.{bytes_eq, Decides, nat_eq}
 
 -- the four bytes of the text from an offset on are those of the word from its offset on
 abbrev pub SameFour : List ℕ → ℕ → List ℕ → ℕ → Type 0

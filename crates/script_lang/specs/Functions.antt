@@ -1,8 +1,7 @@
 -- The functions that a script can call.
 -- [add: counter] Counter: the length of the text of all counters, in `length_at_most`.
 -- [add: function] Function: its name, whether it takes a capture, and its greatest length.
-use Rattle.std.specs.Prelude.{ℕ, Bool, true, false, List, codes, if◌then◌else◌}
-use Rattle.std.specs.Str.{bytes_eq}
+use Rattle.std.specs.Prelude.{if◌then◌else◌, Bool, bytes_eq, codes, false, List, true, ℕ}
 use Rattle.script_lang.specs.Calling.{Calling}
 use Rattle.script_lang.specs.declared.function.Function.{Function}
 use Rattle.script_lang.specs.declared.function.Function.TheVariants.{FileStats, TcpConnections, NetStats, Ticks, Unknown}

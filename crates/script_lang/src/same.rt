@@ -1,10 +1,8 @@
 //! Compares a text with a word of 4 to 16 bytes, four bytes at a time: no loop and no call, if the word is a constant.
 
-ghost use Rattle.std.specs.Prelude.{ℕ, ◌≡◌, ◌+◌, ◌<◌, ◌≤◌, [], ◌∷◌, length, slice_index, slice_range, nat_eq};
-ghost use Rattle.std.specs.Bool.{Decides};
+ghost use Rattle.std.specs.Prelude.{◌≡◌, ◌+◌, ◌<◌, ◌≤◌, ◌∷◌, Decides, [], bytes_eq, length, nat_eq, slice_index, slice_range, ℕ};
 ghost use Rattle.std.specs.Int.{w32, from_le_bytes};
 ghost use Rattle.std.specs.List.{ends_with};
-ghost use Rattle.std.specs.Str.{bytes_eq};
 
 /// Returns the four bytes from an offset on, as a number.
 #[inline(always)]

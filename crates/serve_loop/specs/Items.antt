@@ -1,6 +1,5 @@
 -- The items of a line are bytes and silences.
-use Rattle.std.specs.List.{All}
-use Rattle.std.specs.Prelude.{◌<◌, ℕ, List, ⊤}
+use Rattle.std.specs.Prelude.{◌<◌, All, List, ℕ, ⊤}
 use Rattle.app_events.specs.Prelude.{IsByte}
 use Rattle.uip_edge.specs.declared.item.Item.{Item}
 use Rattle.uip_edge.specs.declared.item.Item.TheVariants.{Byte, Quiet}

@@ -1,6 +1,5 @@
 -- What serving a line over a medium does to its environment, to the medium and to the node, and how it ends.
-use Rattle.std.specs.List.{All}
-use Rattle.std.specs.Prelude.{ℕ, Bool, List, Option}
+use Rattle.std.specs.Prelude.{All, Bool, List, Option, ℕ}
 use Rattle.uip_wire.specs.declared.addr.Addr.{Addr}
 use Rattle.app_events.specs.Prelude.{AppSpec}
 use Rattle.app_events.specs.declared.app.App.{Ghosts}

@@ -1,6 +1,5 @@
 -- What a server does in one turn, for any bytes that it consumed before.
-use Rattle.std.specs.List.{All}
-use Rattle.std.specs.Prelude.{◌≡◌, ◌≤◌, ℕ, Bool, List, ◌++◌, Option, length, ⊤}
+use Rattle.std.specs.Prelude.{◌≡◌, ◌≤◌, ◌++◌, All, Bool, length, List, Option, ℕ, ⊤}
 use Rattle.uip_wire.specs.declared.addr.Addr.{Addr}
 use Rattle.app_events.specs.Prelude.{AppSpec}
 use Rattle.app_events.specs.declared.app.App.{Ghosts}

@@ -1,8 +1,7 @@
 //! One turn at a line: what the link returned is fed to the medium and the node, and the output is written.
 
-ghost use Rattle.std.specs.Prelude.{◌≡◌, ◌<◌, ◌≤◌, ◌++◌, [], List, ℕ, length, take, OnOk, OnErr, IfOk};
+ghost use Rattle.std.specs.Prelude.{◌≡◌, ◌<◌, ◌≤◌, ◌++◌, All, IfOk, List, OnErr, OnOk, [], length, take, ℕ};
 ghost use Rattle.std.specs.Io.KnownBytes.{Appends};
-ghost use Rattle.std.specs.List.{All};
 ghost use Rattle.app_events.specs.Prelude.{IsByte};
 ghost use Rattle.uip_edge.specs.Prelude.{HasCause, TurnFits, BreaksOff, line_view};
 ghost use Rattle.serve_loop.specs.Prelude.{BreaksBrought, BreaksBytes, PlaysBrought, PlaysBytes};

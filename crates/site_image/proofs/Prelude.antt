@@ -15,5 +15,4 @@ pub use Rattle.std.proofs.lemmas.Slice.Eq.{bytes_eq-Decides}
 pub use Rattle.std.specs.Int.{from_be_bytes, to_be_bytes, w16, w32}
 pub use Rattle.std.specs.List.{flat_map, list_all, slice_get, starts_with}
 pub use Rattle.std.specs.Option.{option_or}
-pub use Rattle.std.specs.Prelude.{IsTrue, codes, map, nat_eq, ⊤}
-pub use Rattle.std.specs.Str.{bytes_eq}
+pub use Rattle.std.specs.Prelude.{bytes_eq, codes, IsTrue, map, nat_eq, ⊤}

@@ -1,7 +1,6 @@
 -- A site is a list of files with distinct names.
-use Rattle.std.specs.Prelude.{ℕ, ◌==◌, Bool, List, length, if◌then◌else◌, Option, find}
+use Rattle.std.specs.Prelude.{◌==◌, if◌then◌else◌, Bool, bytes_eq, find, length, List, Option, ℕ}
 use Rattle.std.specs.List.{list_any}
-use Rattle.std.specs.Str.{bytes_eq}
 use Rattle.site_image.specs.Names.{kind_by_name}
 
 -- a file: its name, its content type and its bytes

@@ -1,6 +1,5 @@
 -- The grammar of an image: the bytes that represent a list of files.
-use Rattle.std.specs.Prelude.{◌≡◌, ◌≤◌, ℕ, List, [], ◌∷◌, ◌++◌, length, codes, IsTrue, None, slice_get, Some}
-use Rattle.std.specs.List.{flat_map}
+use Rattle.std.specs.Prelude.{◌≡◌, ◌≤◌, ◌∷◌, ◌++◌, [], codes, flat_map, IsTrue, length, List, None, slice_get, Some, ℕ}
 use Rattle.std.specs.Int.{w16, w32, to_be_bytes}
 use Rattle.site_image.specs.declared.TheConstants.{LONGEST_IMAGE, MOST_FILES}
 use Rattle.site_image.specs.declared.version.Version.{Version}

@@ -1,6 +1,5 @@
 -- The report on an image: its files, or its first fault.
-use Rattle.std.specs.Prelude.{ℕ, List, ◌++◌, length, codes, decimal}
-use Rattle.std.specs.List.{flat_map}
+use Rattle.std.specs.Prelude.{◌++◌, codes, decimal, flat_map, length, List, ℕ}
 use Rattle.site_image.specs.declared.site_error.SiteError.{SiteError}
 use Rattle.site_image.specs.declared.site_error.SiteWhy.{SiteWhy}
 use Rattle.site_image.specs.declared.site_error.SiteWhy.TheVariants as why

@@ -1,7 +1,6 @@
 //! The lines of the report.
 
-ghost use Rattle.std.specs.Prelude.{◌≡◌, ◌<◌, ◌++◌, decimal, length, slice_get, IfOk, OnOk, Some};
-ghost use Rattle.std.specs.List.{flat_map};
+ghost use Rattle.std.specs.Prelude.{◌≡◌, ◌<◌, ◌++◌, IfOk, OnOk, Some, decimal, flat_map, length, slice_get};
 ghost use Rattle.site_image.specs.Prelude.{File};
 ghost use Rattle.file_tree.specs.Prelude.{files_of};
 ghost use Rattle.site_report.specs.Report.{bad_line as bad_line_of, file_line, image_report as report_of, why_word as word_of};

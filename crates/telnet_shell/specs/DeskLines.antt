@@ -1,7 +1,6 @@
 -- The guarantee for the desk on a line: it never retracts output, and its output is bytes. At port 80 the output is the pages of its
 -- files, at port 23 the session of the delivered bytes and the captured snapshots.
-use Rattle.std.specs.List.{All}
-use Rattle.std.specs.Prelude.{ℕ, ◌==◌, List, if◌then◌else◌}
+use Rattle.std.specs.Prelude.{◌==◌, if◌then◌else◌, All, List, ℕ}
 use Rattle.app_events.specs.Prelude.{IsByte}
 use Rattle.site_image.specs.Prelude.{File}
 use Rattle.file_tree.specs.Prelude.{SiteContent, IsLoaded, files_of}

@@ -1,7 +1,6 @@
 -- The commands in a list of bytes. The sequences of the Telnet protocol (RFC 854) are removed, and the rest are lines. Each line and each
 -- offer of an option is a command.
-use Rattle.std.specs.Prelude.{ℕ, ◌==◌, ◌&&◌, Bool, true, false, List, [], ◌∷◌, ◌++◌, codes, nat_le, if◌then◌else◌}
-use Rattle.std.specs.Str.{bytes_eq}
+use Rattle.std.specs.Prelude.{◌==◌, ◌&&◌, ◌∷◌, ◌++◌, if◌then◌else◌, [], Bool, bytes_eq, codes, false, List, nat_le, true, ℕ}
 use Rattle.telnet_shell.specs.declared.telnet_input.TheConstants.{IAC, WILL, WONT, DO, DONT}
 use Rattle.telnet_shell.specs.declared.command.Command.{Command}
 use Rattle.telnet_shell.specs.declared.command.Command.TheVariants.{Refuse, Help, Stats, Conns, Ticks, Quit, Blank, Other}

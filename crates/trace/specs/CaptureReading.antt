@@ -1,8 +1,7 @@
 -- The content of a capture file: its grammar in either byte order, and where its bytes end.
-use Rattle.std.specs.Prelude.{◌≡◌, ◌<◌, ◌≤◌, ◌+◌, ◌*◌, ◌&&◌, ℕ, Bool, List, [], ◌∷◌, ◌++◌, length}
+use Rattle.std.specs.Prelude.{◌≡◌, ◌<◌, ◌≤◌, ◌+◌, ◌*◌, ◌&&◌, ◌∷◌, ◌++◌, [], Bool, bytes_eq, length, List, ℕ}
 use Rattle.std.specs.Prelude.{map, take, drop, slice_index, Option, Some, None, if◌then◌else◌}
 use Rattle.std.specs.List.{AllByRecursion, flat_map}
-use Rattle.std.specs.Str.{bytes_eq}
 use Rattle.uip_slip.specs.Prelude.{slip_text}
 use Rattle.uip_wire.specs.Prelude.{long_at}
 use Rattle.uip_wire.specs.declared.sizes.TheConstants.{LARGEST_DATAGRAM}

@@ -1,6 +1,5 @@
 -- The text of a capture file in the libpcap format: a header of 24 bytes, and a record for each datagram of a serial line.
-use Rattle.std.specs.Prelude.{ℕ, ◌*◌, ◌/◌, ◌%◌, List, [], ◌∷◌, ◌++◌, length}
-use Rattle.std.specs.List.{flat_map}
+use Rattle.std.specs.Prelude.{◌*◌, ◌/◌, ◌%◌, ◌∷◌, ◌++◌, [], flat_map, length, List, ℕ}
 use Rattle.uip_edge.specs.declared.item.Item.{Item}
 use Rattle.uip_slip.specs.Prelude.{Frame, Datagram, Overlong, frames}
 use Rattle.uip_wire.specs.Prelude.{long_bytes}

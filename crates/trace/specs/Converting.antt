@@ -1,6 +1,5 @@
 -- What a call that converts a capture file to a serial line has consumed and written, and how it ends.
-use Rattle.std.specs.List.{flat_map}
-use Rattle.std.specs.Prelude.{◌≡◌, ◌<◌, ◌≤◌, ℕ, List, ◌++◌, map, Option, Some, None, length, ⊤}
+use Rattle.std.specs.Prelude.{◌≡◌, ◌<◌, ◌≤◌, ◌++◌, flat_map, length, List, map, None, Option, Some, ℕ, ⊤}
 use Rattle.std.specs.Io.KnownBytes.{Appends}
 use Rattle.uip_edge.specs.Prelude.{Consumes, bytes_among, EndsBy, AppendsPrefix, IsCalm, LineUnfailed, LineView}
 use Rattle.uip_edge.specs.declared.item.Item.{Item}

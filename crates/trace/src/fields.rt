@@ -1,7 +1,6 @@
 //! The header and the numbers of a capture file, in either byte order.
 
-ghost use Rattle.std.specs.Prelude.{◌≡◌, ◌+◌, ◌≤◌, ◌&&◌, drop, length, take};
-ghost use Rattle.std.specs.Str.{bytes_eq};
+ghost use Rattle.std.specs.Prelude.{◌≡◌, ◌+◌, ◌≤◌, ◌&&◌, bytes_eq, drop, length, take};
 ghost use Rattle.trace.specs.CaptureReading.{field_at, order_of as order_meant};
 
 use crate::byte_order::ByteOrder;

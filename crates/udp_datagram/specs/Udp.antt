@@ -1,7 +1,6 @@
 -- UDP over IPv4 (RFC 768): the datagram that carries a payload of a flow, and the payload of a received datagram.
-use Rattle.std.specs.Prelude.{◌≡◌, ◌≤◌, ℕ, ◌+◌, ◌==◌, ◌||◌, ◌&&◌, nat_lt, not, if◌then◌else◌, Bool, true, false, List, []}
+use Rattle.std.specs.Prelude.{◌≡◌, ◌≤◌, ◌+◌, ◌==◌, ◌||◌, ◌&&◌, if◌then◌else◌, [], Bool, bytes_eq, false, List, nat_lt, not, true, ℕ}
 use Rattle.std.specs.Prelude.{◌∷◌, ◌++◌, length, take, slice_index, slice_range, Option, Some, None, Result, Ok, Err}
-use Rattle.std.specs.Str.{bytes_eq}
 use Rattle.uip_wire.specs.Prelude.{address_at, checksum_of, word_at, bytes_of}
 use Rattle.uip_ipv4.specs.Prelude.{head_or_fate, numbered_head}
 use Rattle.uip_ipv4.specs.declared.fate.IpFate.{IpFate}

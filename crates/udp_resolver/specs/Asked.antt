@@ -1,6 +1,5 @@
 -- The queries that are sent over the events of a line.
-use Rattle.std.specs.Prelude.{ℕ, ◌+◌, ◌%◌, nat_le, not, if◌then◌else◌, List, [], ◌∷◌, ◌++◌, take}
-use Rattle.std.specs.List.{filter, flat_map}
+use Rattle.std.specs.Prelude.{◌+◌, ◌%◌, if◌then◌else◌, ◌∷◌, ◌++◌, [], filter, flat_map, List, nat_le, not, take, ℕ}
 use Rattle.dns_message.specs.Replies.{query_datagram}
 use Rattle.rexmit_timer.specs.Prelude.{ages}
 use Rattle.rexmit_timer.specs.declared.timer.TheConstants.{TEXT_LIMIT}

@@ -1,6 +1,5 @@
 -- The events of a line: its datagrams and its silences.
-use Rattle.std.specs.Prelude.{◌≡◌, ℕ, ◌+◌, List, [], ◌∷◌}
-use Rattle.std.specs.List.{flat_map}
+use Rattle.std.specs.Prelude.{◌≡◌, ◌+◌, ◌∷◌, [], flat_map, List, ℕ}
 use Rattle.uip_edge.specs.Prelude.{bytes_among}
 use Rattle.uip_edge.specs.declared.item.Item.{Item}
 use Rattle.uip_edge.specs.declared.item.Item.TheVariants.{Byte, Quiet}

@@ -1,6 +1,5 @@
 -- The events that the items of a serial line bring: datagrams and silences.
-use Rattle.std.specs.Prelude.{ℕ, List, [], ◌∷◌, ◌++◌}
-use Rattle.std.specs.List.{flat_map}
+use Rattle.std.specs.Prelude.{◌∷◌, ◌++◌, [], flat_map, List, ℕ}
 use Rattle.uip_edge.specs.declared.item.Item.{Item}
 use Rattle.uip_edge.specs.declared.item.Item.TheVariants.{Byte, Quiet}
 use Rattle.uip_slip.specs.Prelude.{Frame, Datagram, Overlong, completed}

@@ -1,6 +1,5 @@
 -- What is reported of the names: a line for each, with its fate.
-use Rattle.std.specs.Prelude.{ℕ, List, ◌++◌, codes, decimal}
-use Rattle.std.specs.List.{flat_map}
+use Rattle.std.specs.Prelude.{◌++◌, codes, decimal, flat_map, List, ℕ}
 use Rattle.uip_wire.specs.Prelude.{quad_text}
 use Rattle.dns_message.specs.declared.answer.Answer.TheVariants.{Address, Code, NoAddress}
 use Rattle.udp_resolver.specs.Fates.{Question, fate_of}

@@ -14,11 +14,7 @@ pub use Rattle.own_node.specs.Prelude.{is_for_closed_port, HasCaptured, next_mes
 pub use Rattle.serve_loop.specs.Prelude.{Station}
 pub use Rattle.std.proofs.Common.{Bool, List, [], ◌∷◌, ap, refl, subst, sym, ℕ, ◌∙◌, ◌≡◌, ◌+◌, ◌<◌, if◌then◌else◌, ◌++◌, length, arith}
 pub use Rattle.std.proofs.lemmas.Bool.{false≢true}
-pub use Rattle.std.specs.List.{All}
-pub use Rattle.std.specs.Option.{is_some}
-pub use Rattle.std.specs.Prelude.{true}
-pub use Rattle.std.specs.declared.option.Option.{Option}
-pub use Rattle.std.specs.declared.option.Option.TheVariants.{None, Some}
+pub use Rattle.std.specs.Prelude.{All, is_some, None, Option, Some, true}
 pub use Rattle.uip_app_c.specs.Prelude.{AnsweredCall, AppCall, Calls, CallsAreExact, CouldWrite, DeviceRow, DidCall, DidCalls, IsExact, Kept, Listens, OpensOwn, OwnAnswers, OwnEther, OwnListens, OwnInputs, OwnWrites, Writes, call_at, first_station, holds, link_of, ports_after, ports_after_call, ports_of, station_after_call, undropped, AppCallsConform, AppTraceConforms, Captures, IsCallOfBytes, OfEachCall, app_program, change_by, connection_after, station_after_calls, text_in_call}
 pub use Rattle.uip_app_c.specs.declared.held.Held.{Held}
 pub use Rattle.uip_node.proofs.Basics.{choose}

@@ -1,6 +1,5 @@
 -- What a call does to what a handle keeps.
-use Rattle.std.specs.Prelude.{◌≡◌, ℕ, Bool, true, false, List, []}
-use Rattle.std.specs.declared.option.Option.TheVariants.{None, Some}
+use Rattle.std.specs.Prelude.{◌≡◌, [], Bool, false, List, None, Some, true, ℕ}
 use Rattle.c_calls.specs.Prelude.{HasOne, ReadsConnection, StillHas}
 use Rattle.c_calls.specs.declared.received.UipReceived.{UipReceived}
 use Rattle.uip_wire.specs.declared.addr.Addr.{Addr}

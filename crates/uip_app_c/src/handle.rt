@@ -1,8 +1,6 @@
 //! The handle of a device, and how a call takes the device out of it and puts it back.
 
-ghost use Rattle.std.specs.Prelude.{◌≡◌, ◌==◌, option_map};
-ghost use Rattle.std.specs.Option.{is_some};
-ghost use Rattle.std.specs.declared.option.Option.TheVariants.{None, Some};
+ghost use Rattle.std.specs.Prelude.{◌≡◌, ◌==◌, None, Some, is_some, option_map};
 
 use crate::held::{Held, OwnEther};
 use raw_box::BoxParts;

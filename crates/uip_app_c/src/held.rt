@@ -1,6 +1,4 @@
-ghost use Rattle.std.specs.Prelude.{◌≡◌, true};
-ghost use Rattle.std.specs.Option.{is_some};
-ghost use Rattle.std.specs.declared.option.Option.TheVariants.{None, Some};
+ghost use Rattle.std.specs.Prelude.{◌≡◌, None, Some, is_some, true};
 ghost use Rattle.uip_app_c.specs.Kept.{Kept as AnyKept};
 
 use frame_device::{Ethernet, FrameDevice};

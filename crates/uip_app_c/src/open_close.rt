@@ -1,8 +1,6 @@
 //! Opening and closing a device.
 
-ghost use Rattle.std.specs.Prelude.{◌≡◌, ◌==◌, ◌⊎◌, IfOk};
-ghost use Rattle.std.specs.Option.{is_some};
-ghost use Rattle.std.specs.declared.option.Option.TheVariants.{None};
+ghost use Rattle.std.specs.Prelude.{◌≡◌, ◌==◌, ◌⊎◌, IfOk, None, is_some};
 ghost use Rattle.c_calls.specs.Prelude.{ClosesHandle};
 ghost use Rattle.uip_app_c.specs.Prelude.{IsFreshOwnEther, OpensOwn};
 

@@ -1,7 +1,6 @@
 //! Each call, successful and refused, with ample memory.
 
-ghost use Rattle.std.specs.Prelude.{◌≡◌};
-ghost use Rattle.std.specs.declared.option.Option.TheVariants.{None};
+ghost use Rattle.std.specs.Prelude.{◌≡◌, None};
 
 use crate::calls::{
     uip_app_input_frame_area, uip_app_listen, uip_app_periodic_frame, uip_app_read, uip_app_write,

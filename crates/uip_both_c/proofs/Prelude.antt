@@ -27,9 +27,7 @@ pub use Rattle.std.proofs.Common.{[], ◌∷◌, ◌≡◌, ◌∙◌, ℕ, ◌+
 pub use Rattle.std.proofs.lemmas.Bool.{false≢true}
 pub use Rattle.std.proofs.lemmas.Grind.{get_or_default_zero}
 pub use Rattle.std.proofs.lemmas.List.{get_or_append_left, length-map}
-pub use Rattle.std.specs.List.{All}
-pub use Rattle.std.specs.Option.{is_some}
-pub use Rattle.std.specs.Prelude.{if◌then◌else◌, true}
+pub use Rattle.std.specs.Prelude.{if◌then◌else◌, All, is_some, true}
 pub use Rattle.uip_both_c.specs.Prelude.{AnsweredCall, BothAnswers, BothApps, BothAtStation, BothCall, BothEther, BothGives, BothListens, BothNode, BothShared, BothInputs, BothWrites, Calls, CallsAreExact, CouldWrite, DeviceRow, DidCall, DidCalls, Gives, IsExact, IsOpenedBoth, Kept, Listens, OpensBothAs, Writes, both, both_spec, call_at, first_both_numbers, first_station, holds, is_dropped, ports_after, ports_after_call, ports_of, site_of, station_after_call, undropped, with_ports_of, BothCallsConform, BothTraceConforms, Captures, IsCallOfBytes, OfEachCall, OpensBoth, both_model, both_program, change_by, connection_after, is_both_port, link_of, own_in, station_after_calls, text_in_call}
 pub use Rattle.uip_both_c.specs.declared.held.Held.{Held}
 pub use Rattle.uip_device.proofs.WebLaws.{hits_at, written_after, first_words, written_words}

@@ -1,6 +1,5 @@
 -- What the peers receive, for any calls on a handle that was just opened.
-use Rattle.std.specs.List.{All}
-use Rattle.std.specs.Prelude.{◌≡◌, ◌<◌, ◌≤◌, ◌==◌, ℕ, List, [], if◌then◌else◌, length, true, ⊤}
+use Rattle.std.specs.Prelude.{◌≡◌, ◌<◌, ◌≤◌, ◌==◌, if◌then◌else◌, [], All, length, List, true, ℕ, ⊤}
 use Rattle.app_events.specs.Prelude.{IsAddr, IsByte, IsPrefixOf}
 use Rattle.ethernet_arp.specs.Prelude.{Act}
 use Rattle.ethernet_arp.specs.declared.mac.Mac.{Mac}

@@ -1,7 +1,6 @@
 //! The calls over Ethernet (RFC 894) with ARP (RFC 826); what the program reads of a connection, and writes to it; the ports that it opens.
 
-ghost use Rattle.std.specs.Prelude.{◌≡◌, ◌==◌, ◌||◌, ◌≤◌, length, nat_le, nat_lt, not, take};
-ghost use Rattle.std.specs.declared.option.Option.TheVariants.{None};
+ghost use Rattle.std.specs.Prelude.{◌≡◌, ◌==◌, ◌||◌, ◌≤◌, None, length, nat_le, nat_lt, not, take};
 ghost use Rattle.c_calls.specs.Prelude.{IsCallStatus, IsWriteStatus, Refused};
 ghost use Rattle.frame_device.specs.Prelude.{CallsSlot};
 ghost use Rattle.own_app.specs.Prelude.{is_program_port};

@@ -1,8 +1,6 @@
 //! Opening and closing a device.
 
-ghost use Rattle.std.specs.Prelude.{◌≡◌, ◌==◌, ◌⊎◌, replicate};
-ghost use Rattle.std.specs.Option.{is_some};
-ghost use Rattle.std.specs.declared.option.Option.TheVariants.{None};
+ghost use Rattle.std.specs.Prelude.{◌≡◌, ◌==◌, ◌⊎◌, None, is_some, replicate};
 ghost use Rattle.c_calls.specs.Prelude.{ClosesHandle};
 ghost use Rattle.c_pages.specs.Prelude.{ReportsFault};
 ghost use Rattle.uip_both_c.specs.Prelude.{OpensBoth, OpensBothEther};

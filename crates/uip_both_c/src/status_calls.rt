@@ -1,7 +1,6 @@
 //! The calls that read a number, a query or a connection of a device, and the call that sets a value which scripts show.
 
-ghost use Rattle.std.specs.Prelude.{◌≡◌, ◌==◌, ◌||◌, ◌-◌, ◌⊎◌, Some as IsThere, false, length, nat_le, nat_lt, slice_get};
-ghost use Rattle.std.specs.declared.option.Option.TheVariants.{None};
+ghost use Rattle.std.specs.Prelude.{◌≡◌, ◌==◌, ◌||◌, ◌-◌, ◌⊎◌, None, Some as IsThere, false, length, nat_le, nat_lt, slice_get};
 ghost use Rattle.file_tree.specs.Prelude.{files_of};
 ghost use Rattle.uip_node.specs.Prelude.{counters, ticks_of};
 ghost use Rattle.uip_device.specs.Prelude.{ReadsQuery, connection_row, is_node_idle, query_of};

@@ -1,7 +1,6 @@
 //! Each call, successful and refused, with ample memory.
 
-ghost use Rattle.std.specs.Prelude.{◌≡◌};
-ghost use Rattle.std.specs.declared.option.Option.TheVariants.{None};
+ghost use Rattle.std.specs.Prelude.{◌≡◌, None};
 
 use crate::calls::{uip_input_frame_area, uip_listen, uip_periodic_frame, uip_read, uip_write};
 use crate::handle::UipDevice;

@@ -17,10 +17,8 @@ pub use Rattle.site_image.specs.Prelude.{File}
 pub use Rattle.std.proofs.Common.{Bool, List, Option, [], ap, refl, subst, sym, ℕ, ◌∙◌, ◌∷◌, ◌≡◌}
 pub use Rattle.std.proofs.lemmas.Bool.{false≢true}
 pub use Rattle.std.specs.Box.Ownership.{box_owns}
-pub use Rattle.std.specs.List.{All}
-pub use Rattle.std.specs.Prelude.{false, if◌then◌else◌, true}
+pub use Rattle.std.specs.Prelude.{if◌then◌else◌, All, false, Some, true}
 pub use Rattle.std.specs.contracts.impls.GlobalAllocator.TheImpl.{ghosts}
-pub use Rattle.std.specs.declared.option.Option.TheVariants.{Some}
 pub use Rattle.uip_c.specs.Prelude.{Did, DidAll, DidFrame, DidFrames, EtherAnswers, EtherRepresents, EtherRow, EtherWeb, HandleAnswers, HandleGives, HasAbstractNode, IsEther, IsLine, IsOpenedEther, Kept, LineRow, NoDevice, OnEther, OnLine, OpensAs, OpensEtherAs, holds, is_on_ether, is_on_line, kept_of, left_text_in, lefts_in, node_in, node_of, web_frames_sent, web_station_after}
 pub use Rattle.uip_c.specs.declared.handle.AnyDevice.{AnyDevice}
 pub use Rattle.uip_c.specs.declared.handle.AnyDevice.TheVariants.{Ether, Line}

@@ -1,7 +1,6 @@
 -- The statements of the laws of any sequence of calls from C. Each speaks of a handle that was just opened. The calls may be refused, and
 -- values may be set between them.
-use Rattle.std.specs.Prelude.{◌≡◌, ℕ, List, None}
-use Rattle.std.specs.List.{All}
+use Rattle.std.specs.Prelude.{◌≡◌, All, List, None, ℕ}
 use Rattle.app_events.specs.Prelude.{IsAddr, IsByte}
 use Rattle.site_image.specs.Prelude.{File}
 use Rattle.device_values.specs.Prelude.{word_calls}

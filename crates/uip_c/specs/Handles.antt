@@ -1,6 +1,5 @@
 -- What a call does to what a handle keeps. Calls over Ethernet: `specs/FrameHandles.antt`.
-use Rattle.std.specs.Prelude.{◌≡◌, ℕ, true, List, [], ◌∷◌}
-use Rattle.std.specs.Option.{is_some}
+use Rattle.std.specs.Prelude.{◌≡◌, ◌∷◌, [], is_some, List, true, ℕ}
 use Rattle.site_image.specs.Prelude.{File}
 use Rattle.frame_device.specs.Prelude.{ChangesNumbers}
 use Rattle.frame_device.specs.contracts.ether.EthernetFrames.TheImpl.{ghosts as ether_link}

@@ -1,7 +1,5 @@
 -- What a handle keeps: a device for a line or on Ethernet, or none.
-use Rattle.std.specs.Prelude.{◌≡◌, List, Bool, true, false}
-use Rattle.std.specs.declared.option.Option.{Option}
-use Rattle.std.specs.declared.option.Option.TheVariants.{None, Some}
+use Rattle.std.specs.Prelude.{◌≡◌, Bool, false, List, None, Option, Some, true}
 use Rattle.c_calls.specs.Prelude.{HasDevice}
 use Rattle.site_image.specs.Prelude.{File}
 use Rattle.uip_wire.specs.declared.addr.Addr.{Addr}

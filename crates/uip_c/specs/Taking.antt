@@ -1,7 +1,5 @@
 -- What is taken out of a handle for a call.
-use Rattle.std.specs.Prelude.{◌≡◌, ◌⊎◌, ◌==◌, ℕ, Bool, true, false, ⊤, None as NothingLeft}
-use Rattle.std.specs.declared.option.Option.{Option}
-use Rattle.std.specs.declared.option.Option.TheVariants.{None, Some}
+use Rattle.std.specs.Prelude.{◌≡◌, ◌⊎◌, ◌==◌, Bool, false, None, None as NothingLeft, Option, Some, true, ℕ, ⊤}
 use Rattle.uip_device.specs.Prelude.{IsSoundWebDevice, WebDevice, WebNode}
 use Rattle.c_calls.specs.Prelude.{IsTextStatus}
 use Rattle.uip_c.specs.Handles.{HasText}

@@ -1,8 +1,7 @@
 //! The calls that may send: over a serial line (SLIP, RFC 1055), over a link that carries whole IP datagrams, and over Ethernet (RFC 894)
 //! with ARP (RFC 826).
 
-ghost use Rattle.std.specs.Prelude.{◌≡◌, ◌==◌, ◌||◌, ◌<◌, ◌≤◌, ◌⊎◌, length, nat_le, nat_lt, take, true};
-ghost use Rattle.std.specs.Option.{is_some};
+ghost use Rattle.std.specs.Prelude.{◌≡◌, ◌==◌, ◌||◌, ◌<◌, ◌≤◌, ◌⊎◌, is_some, length, nat_le, nat_lt, take, true};
 ghost use Rattle.uip_device.specs.Prelude.{Calls, CallsForDatagram, Drains, Feeds, Inputs, StopsAtEnd, CompleteOne, HasFilled};
 ghost use Rattle.frame_device.specs.Prelude.{CallsSlot, InputsFrame};
 ghost use Rattle.c_calls.specs.Prelude.{IsLinkStatus, IsTextStatus, Refused, left_flag};

@@ -1,6 +1,5 @@
 -- What the laws of a device state.
-use Rattle.std.specs.List.{All}
-use Rattle.std.specs.Prelude.{◌≡◌, ℕ, List, None}
+use Rattle.std.specs.Prelude.{◌≡◌, All, List, None, ℕ}
 use Rattle.app_events.specs.Prelude.{AppSpec, IsAddr, IsPaged, IsU32, Pages}
 use Rattle.app_events.specs.declared.app.App.{Ghosts}
 use Rattle.uip_edge.specs.declared.item.Item.{Item}

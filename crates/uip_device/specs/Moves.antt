@@ -1,6 +1,5 @@
 -- The moves of a caller: calls of a device, and values that it sets between them.
-use Rattle.std.specs.Prelude.{◌≡◌, ℕ, Bool, false, List, [], map}
-use Rattle.std.specs.List.{flat_map}
+use Rattle.std.specs.Prelude.{◌≡◌, [], Bool, false, flat_map, List, map, ℕ}
 use Rattle.uip_wire.specs.declared.addr.Addr.{Addr}
 use Rattle.uip_edge.specs.declared.item.Item.{Item}
 use Rattle.uip_node.specs.Prelude.{Event, AbstractNode, Ran, run}

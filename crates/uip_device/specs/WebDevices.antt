@@ -1,6 +1,5 @@
 -- A device with the web server of a site, whose scripts can show values.
-use Rattle.std.specs.List.{All}
-use Rattle.std.specs.Prelude.{◌≡◌, ◌⊎◌, ◌-◌, ℕ, List, [], ◌++◌, drop, length, take, Result, Ok, Err, ⊤}
+use Rattle.std.specs.Prelude.{◌≡◌, ◌⊎◌, ◌-◌, ◌++◌, [], All, drop, Err, length, List, Ok, Result, take, ℕ, ⊤}
 use Rattle.site_image.specs.Prelude.{fault, read_image, File, IsImage}
 use Rattle.site_image.specs.declared.site_error.SiteError.{SiteError}
 use Rattle.site_image.specs.declared.site_error.SiteWhy.TheVariants.{PageTooLong}

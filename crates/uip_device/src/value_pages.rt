@@ -1,7 +1,6 @@
 //! The web server of a device, on one connection.
 
-ghost use Rattle.std.specs.Prelude.{◌≡◌, ◌++◌, [], false, true, option_map};
-ghost use Rattle.std.specs.List.{slice_index_or};
+ghost use Rattle.std.specs.Prelude.{◌≡◌, ◌++◌, [], false, option_map, slice_index_or, true};
 ghost use Rattle.app_events.specs.Prelude.{AppState};
 ghost use Rattle.device_values.specs.Prelude.{record_text, words};
 ghost use Rattle.file_tree.specs.Prelude.{AreApart, SiteContent, files_of};

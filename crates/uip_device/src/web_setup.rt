@@ -1,7 +1,6 @@
 //! Opens a device with the web server of a site.
 
-ghost use Rattle.std.specs.Prelude.{◌≡◌, ◌++◌, ◌↔◌, IfOk, IsTrue};
-ghost use Rattle.std.specs.List.{All};
+ghost use Rattle.std.specs.Prelude.{◌≡◌, ◌++◌, ◌↔◌, All, IfOk, IsTrue};
 ghost use Rattle.app_events.specs.Prelude.{IsByte};
 ghost use Rattle.device_values.specs.Prelude.{word_calls};
 ghost use Rattle.file_tree.specs.Prelude.{HasSoundScripts, IsLoaded, files_of};

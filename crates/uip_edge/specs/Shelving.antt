@@ -1,6 +1,5 @@
 -- What a call of a shelf reads, and when it may fail.
-use Rattle.std.specs.Prelude.{◌≡◌, ◌≤◌, ◌⊎◌, ◌↔◌, ℕ, List, length, take, drop, Option, None, Some, Result, Ok, Err, OnOk, OnErr, ⊤}
-use Rattle.std.specs.List.{find}
+use Rattle.std.specs.Prelude.{◌≡◌, ◌≤◌, ◌⊎◌, ◌↔◌, drop, Err, find, length, List, None, Ok, OnErr, OnOk, Option, Result, Some, take, ℕ, ⊤}
 use Rattle.std.specs.Option.{option_map}
 use Rattle.std.specs.Str.{bytes_eq}
 use Rattle.uip_edge.specs.declared.failed.Failed.{Failed}

@@ -1,9 +1,8 @@
 -- The IPv4 header without options (RFC 791, section 3.1): the fields of a received one, or why it is dropped; the bytes of one that is
 -- sent.
 -- [add: fate] IP: its check in the list of checks.
-use Rattle.std.specs.Prelude.{◌≡◌, ◌≤◌, ℕ, ◌+◌, ◌%◌, ◌==◌, ◌||◌, nat_lt, not, if◌then◌else◌, List, [], ◌∷◌, ◌++◌}
+use Rattle.std.specs.Prelude.{◌≡◌, ◌≤◌, ◌+◌, ◌%◌, ◌==◌, ◌||◌, if◌then◌else◌, ◌∷◌, ◌++◌, [], bytes_eq, List, nat_lt, not, ℕ}
 use Rattle.std.specs.Prelude.{length, take, slice_index, slice_range, Option, Some, None, Result, Ok, Err}
-use Rattle.std.specs.Str.{bytes_eq}
 use Rattle.uip_wire.specs.Prelude.{address_at, checksum_of, word_at, bytes_of}
 use Rattle.uip_ipv4.specs.declared.fate.IpFate.{IpFate}
 use Rattle.uip_ipv4.specs.declared.fate.IpFate.TheVariants.{Short, Version, Length, Fragment, Checksum, NotOurs, Protocol}

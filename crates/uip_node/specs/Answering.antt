@@ -1,6 +1,5 @@
 -- An application that replies to a request with a bounded number of segments.
-use Rattle.std.specs.List.{All}
-use Rattle.std.specs.Prelude.{◌≡◌, ℕ, suc, ◌<◌, ◌≤◌, min, Bool, true, List, ◌++◌, length}
+use Rattle.std.specs.Prelude.{◌≡◌, ◌<◌, ◌≤◌, ◌++◌, All, Bool, length, List, min, suc, true, ℕ}
 use Rattle.app_events.specs.Prelude.{AppState, AppSpec, IsU32, IsNow}
 use Rattle.app_events.specs.declared.now.Now.{Now}
 use Rattle.app_events.specs.declared.want.Want.{Want}

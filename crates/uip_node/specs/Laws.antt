@@ -1,6 +1,5 @@
 -- Definitions that the laws of a node share.
-use Rattle.std.specs.List.{All}
-use Rattle.std.specs.Prelude.{◌≡◌, ℕ, ◌+◌, ◌<◌, ◌≤◌, List, [], ◌∷◌, length, take, drop, if◌then◌else◌}
+use Rattle.std.specs.Prelude.{◌≡◌, ◌+◌, ◌<◌, ◌≤◌, ◌∷◌, if◌then◌else◌, [], All, drop, length, List, take, ℕ}
 use Rattle.tcp_segment.specs.Prelude.{PlainSegment}
 use Rattle.app_events.specs.Prelude.{AppSpec, AppState, Snapshot, Pages, IsSnapshot, IsByte, IsAddr}
 use Rattle.app_events.specs.declared.now.Now.{Now}

@@ -1,6 +1,5 @@
 -- The hypothesis of the laws about an application without a known page.
-use Rattle.std.specs.List.{All}
-use Rattle.std.specs.Prelude.{ℕ, ◌≡◌, ◌⊎◌, List, [], ◌∷◌, ◌++◌}
+use Rattle.std.specs.Prelude.{◌≡◌, ◌⊎◌, ◌∷◌, ◌++◌, [], All, List, ℕ}
 use Rattle.app_events.specs.Prelude.{AppState, AppSpec, IsLawful, IsU32}
 use Rattle.app_events.specs.declared.ending.Ending.{Ending}
 use Rattle.app_events.specs.declared.now.Now.{Now}

@@ -1,6 +1,5 @@
 -- The SLIP text of a datagram (RFC 1055).
-use Rattle.std.specs.Prelude.{◌≡◌, ◌<◌, ◌≤◌, ℕ, ◌+◌, ◌*◌, ◌==◌, if◌then◌else◌, List, [], ◌∷◌, ◌++◌, length, take}
-use Rattle.std.specs.List.{flat_map}
+use Rattle.std.specs.Prelude.{◌≡◌, ◌<◌, ◌≤◌, ◌+◌, ◌*◌, ◌==◌, if◌then◌else◌, ◌∷◌, ◌++◌, [], flat_map, length, List, take, ℕ}
 
 -- END is written as ESC 220, ESC as ESC 221, and any other byte as it is.
 abbrev pub escaped_byte : ℕ → List ℕ

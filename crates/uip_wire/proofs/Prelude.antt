@@ -11,9 +11,8 @@ pub use Rattle.std.proofs.lemmas.List.Sums.{position_or_len_is}
 pub use Rattle.std.proofs.lemmas.Str.{digit_value_digit}
 pub use Rattle.std.proofs.lemmas.Str.Parse.{IsNumeralModel, digits_value-take-le, numerals_by_value}
 pub use Rattle.std.specs.Char.{digit_value, is_ascii_digit}
-pub use Rattle.std.specs.Fmt.{decimal}
 pub use Rattle.std.specs.List.{list_all}
-pub use Rattle.std.specs.Prelude.{codes}
+pub use Rattle.std.specs.Prelude.{codes, decimal}
 pub use Rattle.std.specs.Str.Parse.{digits_value}
 pub use Rattle.uip_wire.specs.Prelude.{NumeralsPrint, OneByteDetected, PartSum, bytes_of, checksum_of, is_numeral, leads_badly, long_bytes, numeral, sum_of, swapped_sum, word_bytes, word_sum, written}
 unfoldable pub use Rattle.uip_wire.specs.Prelude.{folded, quad_of}

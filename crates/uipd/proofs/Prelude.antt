@@ -34,9 +34,8 @@ pub use Rattle.std.specs.Counts.{IsPrefixLen}
 pub use Rattle.std.specs.Io.KnownBytes.{Consumes, IsAtEnd, ReadConsumes}
 pub use Rattle.std.specs.List.{All, list_all}
 pub use Rattle.std.specs.Option.{option_map_or}
-pub use Rattle.std.specs.Prelude.{IfOk, IsTrue, codes, option_map, slice_get, ⊤, ◌&&◌, ◌⊎◌}
+pub use Rattle.std.specs.Prelude.{◌&&◌, ◌⊎◌, bytes_eq, codes, IfOk, IsTrue, option_map, slice_get, ⊤}
 pub use Rattle.std.specs.Result.{OkIff, result_ok}
-pub use Rattle.std.specs.Str.{bytes_eq}
 pub use Rattle.std.specs.Str.Parse.{ParsesUnsigned, digits_value}
 pub use Rattle.telnet_shell.proofs.DeskLines.{speaks_on_lines}
 pub use Rattle.telnet_shell.specs.DeskMeaning.{desk_spec, is_served_at}

@@ -1,6 +1,5 @@
 -- The texts about the program itself.
-use Rattle.std.specs.Prelude.{ℕ, List, ◌++◌, [], ◌∷◌, codes}
-use Rattle.std.specs.List.{flat_map}
+use Rattle.std.specs.Prelude.{◌++◌, ◌∷◌, [], codes, flat_map, List, ℕ}
 use Rattle.uip_edge.specs.Prelude.{SinkView, WritesEnd}
 use Rattle.uipd.specs.declared.status.Status.{Status}
 use Rattle.uipd.specs.declared.status.Status.TheVariants as status

@@ -1,8 +1,7 @@
 -- The words of `resolve`.
 -- [add: told-command] A file as this one for its words.
-use Rattle.std.specs.Prelude.{ℕ, ◌-◌, ◌&&◌, nat_le, if◌then◌else◌, Bool, List, [], ◌∷◌, Option, None, Some, codes, length, take}
+use Rattle.std.specs.Prelude.{◌-◌, ◌&&◌, if◌then◌else◌, ◌∷◌, [], Bool, bytes_eq, codes, length, List, nat_le, None, Option, Some, take, ℕ}
 use Rattle.std.specs.List.{list_all}
-use Rattle.std.specs.Str.{bytes_eq}
 use Rattle.uip_wire.specs.Prelude.{◌>>=◌, quad_of}
 use Rattle.uip_wire.specs.declared.addr.Addr.{Addr}
 use Rattle.dns_message.specs.Names.{is_domain}

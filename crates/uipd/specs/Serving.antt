@@ -1,7 +1,6 @@
 -- What serving a line does to its environment, and how it ends.
 -- [add: line-kind] An arm of `OutputConforms`: what the line has after a run.
-use Rattle.std.specs.List.{All}
-use Rattle.std.specs.Prelude.{◌≡◌, ◌<◌, ◌⊎◌, ℕ, Bool, List, Option, length}
+use Rattle.std.specs.Prelude.{◌≡◌, ◌<◌, ◌⊎◌, All, Bool, length, List, Option, ℕ}
 use Rattle.app_events.specs.Prelude.{AppSpec}
 use Rattle.site_image.specs.Prelude.{File}
 use Rattle.uip_edge.specs.declared.item.Item.{Item}

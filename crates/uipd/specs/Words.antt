@@ -1,11 +1,10 @@
 -- The words of the command line.
 -- [add: application] Application: its words.
 -- [add: line-kind] Kind of line: its words.
-use Rattle.std.specs.Prelude.{ℕ, ◌-◌, ◌^◌, ◌==◌, ◌&&◌, nat_le, nat_lt, if◌then◌else◌, Bool, true, false, List, []}
+use Rattle.std.specs.Prelude.{◌-◌, ◌^◌, ◌==◌, ◌&&◌, if◌then◌else◌, [], Bool, bytes_eq, false, List, nat_le, nat_lt, true, ℕ}
 use Rattle.std.specs.Prelude.{◌∷◌, Option, None, Some, option_map, codes, length, map, slice_get, string_bytes}
 use Rattle.std.specs.Option.{option_map_or}
 use Rattle.std.specs.List.{list_all, list_any, before_first, after_first}
-use Rattle.std.specs.Str.{bytes_eq}
 use Rattle.std.specs.Str.Parse.{digits_value}
 use Rattle.uip_wire.specs.Prelude.{numeral, ◌>>=◌, quad_of}
 use Rattle.ethernet_arp.specs.Prelude.{mac_of_text}

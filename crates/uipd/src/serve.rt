@@ -1,7 +1,6 @@
 //! The commands that serve a line.
 
-ghost use Rattle.std.specs.List.{All};
-ghost use Rattle.std.specs.Prelude.{◌≡◌};
+ghost use Rattle.std.specs.Prelude.{◌≡◌, All};
 ghost use Rattle.app_events.specs.Prelude.{IsAddr, IsByte};
 ghost use Rattle.file_tree.specs.Prelude.{IsLoaded, files_of};
 ghost use Rattle.web_pages.specs.Prelude.{no_hits};

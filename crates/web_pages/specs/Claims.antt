@@ -1,6 +1,5 @@
 -- What holds for the pages of every site.
-use Rattle.std.specs.List.{All}
-use Rattle.std.specs.Prelude.{◌≡◌, ◌≢◌, ◌≤◌, ℕ, false, List, ◌++◌, length, slice_get, Some}
+use Rattle.std.specs.Prelude.{◌≡◌, ◌≢◌, ◌≤◌, ◌++◌, All, false, length, List, slice_get, Some, ℕ}
 use Rattle.app_events.specs.Prelude.{Snapshot, IsPaged, IsSnapshot, IsByte}
 use Rattle.site_image.specs.Prelude.{File, has_name, page_length_by}
 use Rattle.file_tree.specs.Prelude.{SiteContent, IsLoaded, HasSoundScripts, files_of, KindContent, upgraded}

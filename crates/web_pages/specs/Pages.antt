@@ -1,7 +1,6 @@
 -- The page of a request: its concatenated pieces, where each call that takes a snapshot is made from the next one. The page stops before
 -- the first such call without a snapshot. It is complete if nothing stopped it.
-use Rattle.std.specs.Prelude.{ℕ, Bool, true, false, List, [], ◌∷◌, ◌++◌, drop, length, if◌then◌else◌, Option, position}
-use Rattle.std.specs.List.{slice_index_or}
+use Rattle.std.specs.Prelude.{◌∷◌, ◌++◌, if◌then◌else◌, [], Bool, drop, false, length, List, Option, position, slice_index_or, true, ℕ}
 use Rattle.std.specs.Option.{option_map_or}
 use Rattle.std.specs.Str.{bytes_eq}
 use Rattle.script_lang.specs.declared.function.Function.{Function}

@@ -1,7 +1,6 @@
 -- What a request names (RFC 1945, sections 5 and 5.1). A request is the list of all bytes received on one connection.
-use Rattle.std.specs.Prelude.{ℕ, ◌+◌, Bool, not, List, length, drop, codes, nat_eq, if◌then◌else◌}
+use Rattle.std.specs.Prelude.{◌+◌, if◌then◌else◌, Bool, bytes_eq, codes, drop, length, List, nat_eq, not, ℕ}
 use Rattle.std.specs.List.{before_first, list_any, starts_with}
-use Rattle.std.specs.Str.{bytes_eq}
 use Rattle.protosocket.specs.declared.stops.Stops.{Stops}
 use Rattle.protosocket.specs.declared.stops.Stops.TheVariants.{Space, SpaceOrLine}
 use Rattle.protosocket.specs.Prelude.{is_stop, is_query_mark, word_of}

@@ -1,8 +1,7 @@
 -- The transitions of a connection of the web server. Its output is the page of the delivered bytes and the captured snapshots. The
 -- counters are the hits of the files, in their order.
-use Rattle.std.specs.Prelude.{ℕ, ◌+◌, ◌-◌, ◌%◌, ◌^◌, ◌==◌, Bool, ◌&&◌, false, not, List, [], ◌∷◌}
+use Rattle.std.specs.Prelude.{◌+◌, ◌-◌, ◌%◌, ◌^◌, ◌==◌, ◌&&◌, ◌∷◌, [], Bool, false, List, not, slice_index_or, ℕ}
 use Rattle.std.specs.Prelude.{◌++◌, length, min, nat_lt, slice_set, if◌then◌else◌, Option}
-use Rattle.std.specs.List.{slice_index_or}
 use Rattle.std.specs.Option.{option_map_or}
 use Rattle.app_events.specs.Prelude.{AppState, AppSpec}
 use Rattle.app_events.specs.declared.want.Want.{Want}

@@ -1,7 +1,6 @@
 -- What a request names, determined by what is kept of its first two words: the first 64 bytes of each before a '?'.
-use Rattle.std.specs.Prelude.{◌≡◌, ◌<◌, ℕ, Bool, ◌&&◌, false, true, not, List, length, codes, if◌then◌else◌}
+use Rattle.std.specs.Prelude.{◌≡◌, ◌<◌, ◌&&◌, if◌then◌else◌, Bool, bytes_eq, codes, false, length, List, not, true, ℕ}
 use Rattle.std.specs.List.{concat, fold}
-use Rattle.std.specs.Str.{bytes_eq}
 use Rattle.protosocket.specs.declared.stops.Stops.TheVariants.{Space, SpaceOrLine}
 use Rattle.protosocket.specs.Prelude.{Line, after, fresh, longest_name}
 use Rattle.web_pages.specs.Requests.{Wanted, wanted, wanted_by, after_method}

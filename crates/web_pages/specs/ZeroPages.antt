@@ -1,7 +1,6 @@
 -- The page of a target in which each call has the zero record of its kind: hits 0, ticks 0, twenty zeros, no rows.
 -- [add: counter] The number of zeros.
-use Rattle.std.specs.Prelude.{ℕ, List, [], ◌++◌, codes, length, replicate, Option}
-use Rattle.std.specs.List.{flat_map}
+use Rattle.std.specs.Prelude.{◌++◌, [], codes, flat_map, length, List, Option, replicate, ℕ}
 use Rattle.app_events.specs.Prelude.{Snapshot}
 use Rattle.generators.specs.Prelude.{capture_of, capture_text}
 use Rattle.site_image.specs.Prelude.{File}

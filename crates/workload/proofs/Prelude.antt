@@ -15,6 +15,5 @@ pub use Rattle.std.proofs.lemmas.List.Concat.{flat_map-cons}
 pub use Rattle.std.proofs.lemmas.List.Folds.{list_all-append}
 pub use Rattle.std.proofs.lemmas.List.FromFn.{length-map-range_with_len, map-range_with_len_more}
 pub use Rattle.std.specs.List.{list_all, list_any, range_with_len}
-pub use Rattle.std.specs.Prelude.{codes, flat_map}
-pub use Rattle.std.specs.Str.{bytes_eq}
+pub use Rattle.std.specs.Prelude.{bytes_eq, codes, flat_map}
 pub use Rattle.workload.specs.Prelude.{AreWorkedWorkloads, client_of, event_drawn, events_of, happens, numbered_from, words_from, workload_of}

@@ -1,8 +1,7 @@
 -- The text of a word of a device's script is short, and consists of bytes.
-use Rattle.std.specs.List.{All, slice_index_or}
 use Rattle.std.proofs.Common.{◌≡◌, ℕ, ◌+◌, ◌*◌, ◌/◌, ◌%◌, ◌<◌, ◌≤◌, ◌==◌, Bool, true, false, List, [], ◌∷◌, ◌++◌, length, map, min}
 use Rattle.std.proofs.Common.{take, flat_map, refl, arith, length-append, length-take, if◌then◌else◌, Option, Some, None, lit≤}
-use Rattle.std.specs.Prelude.{codes, nat_lt, slice_range}
+use Rattle.std.specs.Prelude.{All, codes, nat_lt, slice_index_or, slice_range}
 use Rattle.std.specs.Option.{option_map_or}
 use Rattle.std.proofs.lemmas.List.{length-map}
 use Rattle.std.proofs.lemmas.Bool.{ltb-true}

@@ -1,7 +1,6 @@
 //! The clients by their sockets at the server.
 
-ghost use Rattle.std.specs.List.{Any};
-ghost use Rattle.std.specs.Prelude.{◌≡◌, ◌+◌, ◌≤◌, List, length, Some, OnErr, OnOk};
+ghost use Rattle.std.specs.Prelude.{◌≡◌, ◌+◌, ◌≤◌, Any, List, OnErr, OnOk, Some, length};
 ghost use Rattle.tcp_machine.specs.Prelude.{Connection, same_sockets};
 ghost use Rattle.link_world.specs.World.{Side as PlainSide, addressed, retires};
 ghost use Rattle.link_replay.specs.Prelude.{IsAtLast, OnlyEpoch, buried, sockets_for, Matched, pair_at, sockets_at, SideRepresents};

@@ -1,7 +1,6 @@
 //! What the types of values state.
 
-ghost use Rattle.std.specs.List.{All};
-ghost use Rattle.std.specs.Prelude.{◌<◌};
+ghost use Rattle.std.specs.Prelude.{◌<◌, All};
 ghost use Rattle.app_events.specs.Prelude.{IsAddr, IsByte};
 
 use uip_wire::Addr;
