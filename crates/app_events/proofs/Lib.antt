@@ -1,3 +1,3 @@
 pub mod Says
-pub mod FixedSays
+pub mod FixedSends
 mod Prelude

@@ -45,5 +45,5 @@ abbrev pub IsRepresented : {A K : Type 0} → (A → K → AppState → Type 0) 
 IsRepresented represents a k = ∥ ((p : AppState) × represents a k p) ∥₁
 
 -- The value represents some state with at least n bytes of output after the acknowledged ones.
-abbrev pub CanSay : {A K : Type 0} → (K → AppSpec) → (A → K → AppState → Type 0) → A → K → ℕ → Type 0
-CanSay app_spec represents a k n = ∥ ((p : AppState) × represents a k p × (n ≤ length (text_left (app_spec k) p))) ∥₁
+abbrev pub CanSupply : {A K : Type 0} → (K → AppSpec) → (A → K → AppState → Type 0) → A → K → ℕ → Type 0
+CanSupply app_spec represents a k n = ∥ ((p : AppState) × represents a k p × (n ≤ length (text_left (app_spec k) p))) ∥₁

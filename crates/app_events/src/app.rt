@@ -1,7 +1,7 @@
 //! The trait of an application, one value for each connection.
 
 ghost use Rattle.std.specs.Prelude.{◌≡◌, ℕ, List, length, take, Bool, false};
-ghost use Rattle.app_events.specs.AppSpec.{AppState, AppSpec, text_left, IsRepresented, CanSay};
+ghost use Rattle.app_events.specs.AppSpec.{AppState, AppSpec, text_left, IsRepresented, CanSupply};
 ghost use Rattle.app_events.specs.Laws.{IsLawful, StartsAnew};
 
 use crate::ending::Ending;
@@ -80,13 +80,13 @@ pub trait App: Drop {
 
     /// Writes the text after the acknowledged offset, as much as `out` holds.
     fn fill(&self, shared: &Self::Shared, out: &mut [u8])
-        requires { CanSay app_spec represents self.now (config shared.now) (length out.old) }
+        requires { CanSupply app_spec represents self.now (config shared.now) (length out.old) }
         ensures { (p : AppState) → represents self.now (config shared.now) p
             → out.new ≡ take (length out.old) (text_left (app_spec (config shared.now)) p) };
 
     /// Reports that `count` bytes of the text are acknowledged.
     fn acked(&mut self, shared: &mut Self::Shared, count: usize)
-        requires { CanSay app_spec represents self.old (config shared.old) count }
+        requires { CanSupply app_spec represents self.old (config shared.old) count }
         ensures same { config shared.new ≡ config shared.old }
         ensures part { (p : AppState) → represents self.old (config shared.old) p
             → represents self.new (config shared.old) ((app_spec (config shared.old)).acked (numbers shared.old) p count).part }

@@ -3,7 +3,7 @@ use Rattle.std.proofs.Common.{◌≡◌, ℕ, ◌≤◌, Bool, true, false, if�
 use Rattle.std.proofs.lemmas.Bool.{le-ltb}
 use Rattle.std.proofs.lemmas.List.{length-map}
 use Rattle.std.proofs.Math.Logic.{∥∥₁_map}
-use Rattle.app_events.specs.Prelude.{After, AppSpec, AppState, CanSay, IsRepresented, Snapshot, text_left}
+use Rattle.app_events.specs.Prelude.{After, AppSpec, AppState, CanSupply, IsRepresented, Snapshot, text_left}
 use Rattle.app_events.specs.declared.app.App.{Ghosts}
 use Rattle.app_events.specs.declared.now.Now.{Now}
 use Rattle.app_pair.specs.PairNumbers.{own_numbers, pair_numbers, with_own}
@@ -118,7 +118,7 @@ module _ {A S : Type 0} {ghosts : Ghosts A S} {both : Both} {Represents : AppSta
   has some = ∥∥₁_map some (λ c. (see held.side c.0, (held.part c.0 c.1).own))
 
   pub can_send : (count : ℕ) → ∥ ((p : AppState) × Represents p × (count ≤ length (text_left (by_port both.at) p))) ∥₁
-      → CanSay ghosts.app_spec ghosts.represents held.value held.side.k count
+      → CanSupply ghosts.app_spec ghosts.represents held.value held.side.k count
   can_send count some = ∥∥₁_map some (λ c. (
     see held.side c.0,
     (held.part c.0 c.1).own,

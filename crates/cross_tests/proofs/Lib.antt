@@ -1,1 +1,1 @@
-pub mod CounterSays
+pub mod CounterSends

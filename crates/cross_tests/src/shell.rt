@@ -132,7 +132,7 @@ impl Peer {
     }
 
     /// Sends a piece after an acknowledgement of all that was received, and receives the reply of the node.
-    fn say<A: App>(&mut self, node: &mut Node<A>, piece: &[u8]) -> Result<(), AllocError>
+    fn write_out<A: App>(&mut self, node: &mut Node<A>, piece: &[u8]) -> Result<(), AllocError>
         requires short { length piece.now ≤ 1460 }
     {
         let mut area = [0u8; 1500];
@@ -175,9 +175,9 @@ fn session(rt: &impl Abort, alloc: Global, output: &[u8], cut: usize) -> Result<
         flags: 0,
     };
     check_answer(rt, alloc, &mut node, SYN, SYN_ACK)?;
-    peer.say(&mut node, &output[..cut])?;
-    peer.say(&mut node, &output[cut..])?;
-    peer.say(&mut node, b"")?;
+    peer.write_out(&mut node, &output[..cut])?;
+    peer.write_out(&mut node, &output[cut..])?;
+    peer.write_out(&mut node, b"")?;
     Ok(peer)
 }
 

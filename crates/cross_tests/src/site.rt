@@ -70,7 +70,7 @@ fn bad(why: SiteWhy, entry: u32) -> Option<LoadFault> {
 }
 
 #[test]
-fn tells_where_an_image_is_cut(rt: HostRuntime) {
+fn reports_where_an_image_is_cut(rt: HostRuntime) {
     for len in 0..IMAGE.len() {
         let expected = match len {
             0..=7 => bad(SiteWhy::Magic, 0),
@@ -83,7 +83,7 @@ fn tells_where_an_image_is_cut(rt: HostRuntime) {
 }
 
 #[test]
-fn tells_why_an_image_is_bad(rt: HostRuntime) {
+fn reports_why_an_image_is_bad(rt: HostRuntime) {
     let rows: [(&[u8], SiteWhy, u32); 7] = [
         (
             b"UIPSITE1\0\x01\x0b/index.html\0\0\0\x06hello\n!",
@@ -127,7 +127,7 @@ fn tells_why_an_image_is_bad(rt: HostRuntime) {
 }
 
 #[test]
-fn tells_a_fault_of_the_shelf(rt: HostRuntime) -> Result<(), Fail> {
+fn reports_a_fault_of_the_shelf(rt: HostRuntime) -> Result<(), Fail> {
     let alloc = rt.alloc();
     let missing = Site::load(alloc, &mut shelf_of(alloc, IMAGE, &[])?, b"g");
     assert!(rt; missing.err() == Some(LoadFault::Shelf));

@@ -1,5 +1,5 @@
 -- The output model of the desk at each port: the shell's session at port 23, and the pages of its files at any other.
-use Rattle.desk_laws.proofs.Prelude.{All, ◌≡◌, ℕ, ◌<◌, ◌≤◌, ◌==◌, Bool, true, false, not, inl, inr, List, [], ◌++◌, length, refl, sym, ap, ◌∙◌, subst, arith, append-nil, if◌then◌else◌, eqb-true, IsSnapshot, IsPaged, MayWant, AppSpec, Snapshot, AppState, Now, Want, Close, File, SiteContent, IsLoaded, files_of, pages_of, web_spec, keeps_page_laws, choose, not-true, IsServed, World, Side, AtPorts, HearsSome, KeepsHeard, Speaker, HasOutputModel, page_by, TELNET_PORT, desk_spec, app_spec_at, at_shell, at_web, StaysAtPort, is_stopped, shell_spec, take_capture, DeliversPrefix, sessions, desk_steady, keeps_session, two_applications}
+use Rattle.desk_laws.proofs.Prelude.{All, ◌≡◌, ℕ, ◌<◌, ◌≤◌, ◌==◌, Bool, true, false, not, inl, inr, List, [], ◌++◌, length, refl, sym, ap, ◌∙◌, subst, arith, append-nil, if◌then◌else◌, eqb-true, IsSnapshot, IsPaged, MayWant, AppSpec, Snapshot, AppState, Now, Want, Close, File, SiteContent, IsLoaded, files_of, pages_of, web_spec, keeps_page_laws, choose, not-true, IsServed, World, Side, AtPorts, ReceivesSome, KeepsReceived, Speaker, HasOutputModel, page_by, TELNET_PORT, desk_spec, app_spec_at, at_shell, at_web, StaysAtPort, is_stopped, shell_spec, take_capture, DeliversPrefix, sessions, desk_steady, keeps_session, two_applications}
 use Rattle.desk_laws.proofs.ShortSessions.{sessions_short}
 
 abbrev pub session_speaker : Speaker
@@ -45,11 +45,11 @@ module _ (site : SiteContent) (loaded : IsLoaded site) where
   still_session : (p q : AppState) → q.port ≡ p.port → session_speaker.here p ≡ true → session_speaker.here q ≡ true
   still_session p q e h = ap (λ (n : ℕ). n == TELNET_PORT) e ∙ h
 
-  session_hears : (numbers : List ℕ) (p : AppState) (piece : List ℕ) → session_speaker.here p ≡ true → HearsSome session_speaker p (desk.newdata numbers p piece).part piece
-  session_hears numbers p piece h =
+  session_receives : (numbers : List ℕ) (p : AppState) (piece : List ℕ) → session_speaker.here p ≡ true → ReceivesSome session_speaker p (desk.newdata numbers p piece).part piece
+  session_receives numbers p piece h =
       let f : DeliversPrefix p (shell_spec.newdata numbers p piece).part piece = keeps_session.delivers_text numbers p piece in
       let port : (desk.newdata numbers p piece).part.port ≡ p.port = keeps_port.newdata numbers p piece in
-      as_shell files p.port (λ m. (m.newdata numbers p piece).part.port ≡ p.port → HearsSome session_speaker p (m.newdata numbers p piece).part piece) h
+      as_shell files p.port (λ m. (m.newdata numbers p piece).part.port ≡ p.port → ReceivesSome session_speaker p (m.newdata numbers p piece).part piece) h
       (λ e. record {
         here = still_session p (shell_spec.newdata numbers p piece).part e h;
         prefix = f.prefix;
@@ -64,24 +64,24 @@ module _ (site : SiteContent) (loaded : IsLoaded site) where
       }) port
 
   -- a call that leaves what was received unchanged
-  session_keeps : (p q : AppState) → q.port ≡ p.port → session_speaker.here p ≡ true → (q.input ≡ p.input) × (q.own ≡ p.own) → KeepsHeard session_speaker p q
+  session_keeps : (p q : AppState) → q.port ≡ p.port → session_speaker.here p ≡ true → (q.input ≡ p.input) × (q.own ≡ p.own) → KeepsReceived session_speaker p q
   session_keeps p q e h x = record { here = still_session p q e h; input = x.0; lost = ap (λ (n : ℕ). n == 1) x.1 }
 
-  session_prepares : (numbers : List ℕ) (p : AppState) (now : Now) → session_speaker.here p ≡ true → KeepsHeard session_speaker p (desk.prepare numbers p now)
+  session_prepares : (numbers : List ℕ) (p : AppState) (now : Now) → session_speaker.here p ≡ true → KeepsReceived session_speaker p (desk.prepare numbers p now)
   session_prepares numbers p now h =
-      as_shell files p.port (λ m. (m.prepare numbers p now).port ≡ p.port → KeepsHeard session_speaker p (m.prepare numbers p now)) h
+      as_shell files p.port (λ m. (m.prepare numbers p now).port ≡ p.port → KeepsReceived session_speaker p (m.prepare numbers p now)) h
       (λ e. session_keeps p (shell_spec.prepare numbers p now) e h
       (choose (λ (q : AppState). (q.input ≡ p.input) × (q.own ≡ p.own)) (is_stopped p) (take_capture numbers p now) p (λ s. (refl, refl)) (λ s. (refl, refl))))
       (keeps_port.prepare numbers p now)
 
-  session_acked : (numbers : List ℕ) (p : AppState) (n : ℕ) → session_speaker.here p ≡ true → KeepsHeard session_speaker p (desk.acked numbers p n).part
+  session_acked : (numbers : List ℕ) (p : AppState) (n : ℕ) → session_speaker.here p ≡ true → KeepsReceived session_speaker p (desk.acked numbers p n).part
   session_acked numbers p n h =
-      as_shell files p.port (λ m. (m.acked numbers p n).part.port ≡ p.port → KeepsHeard session_speaker p (m.acked numbers p n).part) h
+      as_shell files p.port (λ m. (m.acked numbers p n).part.port ≡ p.port → KeepsReceived session_speaker p (m.acked numbers p n).part) h
       (λ e. session_keeps p (shell_spec.acked numbers p n).part e h (refl, refl)) (keeps_port.acked numbers p n)
 
-  session_polled : (numbers : List ℕ) (p : AppState) → session_speaker.here p ≡ true → KeepsHeard session_speaker p (desk.polled numbers p).part
+  session_polled : (numbers : List ℕ) (p : AppState) → session_speaker.here p ≡ true → KeepsReceived session_speaker p (desk.polled numbers p).part
   session_polled numbers p h =
-      as_shell files p.port (λ m. (m.polled numbers p).part.port ≡ p.port → KeepsHeard session_speaker p (m.polled numbers p).part) h
+      as_shell files p.port (λ m. (m.polled numbers p).part.port ≡ p.port → KeepsReceived session_speaker p (m.polled numbers p).part) h
       (λ e. session_keeps p (shell_spec.polled numbers p).part e h (refl, refl)) (keeps_port.polled numbers p)
 
   session_closes : (numbers : List ℕ) (p : AppState) → session_speaker.here p ≡ true → p.acked ≤ length (desk.output p) → desk.want numbers p ≡ Close → MayWant (page_by session_speaker) p Close
@@ -99,7 +99,7 @@ module _ (site : SiteContent) (loaded : IsLoaded site) where
     output = λ p h. as_shell files p.port (λ m. m.output p ≡ sessions.page p.input p.snapshots) h (keeps_session.output p);
     connected_here = λ numbers port h. ap (λ (n : ℕ). n == TELNET_PORT) (keeps_port.connected numbers port) ∙ h;
     connected_input = λ numbers port h. as_shell files port (λ m. (m.connected numbers port).part.input ≡ []) h refl;
-    newdata = session_hears;
+    newdata = session_receives;
     prepare = session_prepares;
     acked = session_acked;
     polled = session_polled;
@@ -114,11 +114,11 @@ module _ (site : SiteContent) (loaded : IsLoaded site) where
   still_web : (p q : AppState) → q.port ≡ p.port → (web_speaker files).here p ≡ true → (web_speaker files).here q ≡ true
   still_web p q e h = ap (λ (n : ℕ). not (n == TELNET_PORT)) e ∙ h
 
-  web_keeps : (p q : AppState) → q.port ≡ p.port → (web_speaker files).here p ≡ true → q.input ≡ p.input → KeepsHeard (web_speaker files) p q
+  web_keeps : (p q : AppState) → q.port ≡ p.port → (web_speaker files).here p ≡ true → q.input ≡ p.input → KeepsReceived (web_speaker files) p q
   web_keeps p q e h x = record { here = still_web p q e h; input = x; lost = refl }
 
-  web_hears : (numbers : List ℕ) (p : AppState) (piece : List ℕ) → (web_speaker files).here p ≡ true → HearsSome (web_speaker files) p (desk.newdata numbers p piece).part piece
-  web_hears numbers p piece h = record {
+  web_receives : (numbers : List ℕ) (p : AppState) (piece : List ℕ) → (web_speaker files).here p ≡ true → ReceivesSome (web_speaker files) p (desk.newdata numbers p piece).part piece
+  web_receives numbers p piece h = record {
     here = still_web p (desk.newdata numbers p piece).part (keeps_port.newdata numbers p piece) h;
     prefix = piece;
     rest = [];
@@ -143,7 +143,7 @@ module _ (site : SiteContent) (loaded : IsLoaded site) where
     output = λ p h. as_web files p.port (λ m. m.output p ≡ (pages_of files).page p.input p.snapshots) h (web_laws.output p);
     connected_here = λ numbers port h. ap (λ (n : ℕ). not (n == TELNET_PORT)) (keeps_port.connected numbers port) ∙ h;
     connected_input = λ numbers port h. as_web files port (λ m. (m.connected numbers port).part.input ≡ []) h (web_laws.connected_input numbers port);
-    newdata = web_hears;
+    newdata = web_receives;
     prepare = λ numbers p now h. web_keeps p (desk.prepare numbers p now) (keeps_port.prepare numbers p now) h (as_web files p.port (λ m. (m.prepare numbers p now).input ≡ p.input) h (web_laws.prepare_input numbers p now));
     acked = λ numbers p n h. web_keeps p (desk.acked numbers p n).part (keeps_port.acked numbers p n) h (as_web files p.port (λ m. (m.acked numbers p n).part.input ≡ p.input) h (web_laws.acked_input numbers p n));
     polled = λ numbers p h. web_keeps p (desk.polled numbers p).part (keeps_port.polled numbers p) h (as_web files p.port (λ m. (m.polled numbers p).part.input ≡ p.input) h (web_laws.polled_same numbers p).input);

@@ -1,17 +1,17 @@
 -- The laws of the link world at the desk.
 use Rattle.desk_laws.proofs.Prelude.{◌==◌, inl, inr, AppSpec, SiteContent, IsLoaded, files_of, pages_of, DeliveredBytes, World, Framed, in_step_plainly, in_step_where, AtPorts, G, other, reset, evict, mark, act_good, opening_framed, served_in, reached_plainly, reached_where, again_exactly_plainly, again_exactly_where, same_bytes_plainly, same_bytes_where, tick, TELNET_PORT, desk_spec, desk_steady, DeskMarksRepeats, DeskOneSegment, DeskRepeatsSameBytes, DeskSendsAgain, DeskServes, IsReachedByDesk}
-use Rattle.desk_laws.proofs.DeskBytes.{desk_says}
+use Rattle.desk_laws.proofs.DeskBytes.{desk_sends}
 use Rattle.desk_laws.proofs.DeskSpeakers.{desk_ports, served_due}
 
 pub repeats_same_bytes : DeskRepeatsSameBytes
 repeats_same_bytes site loaded w r = elim r [
-  | inl any ↦ same_bytes_where (desk_spec (files_of site)) (pages_of (files_of site)) (desk_steady site loaded) DeliveredBytes (desk_says site loaded) w any
+  | inl any ↦ same_bytes_where (desk_spec (files_of site)) (pages_of (files_of site)) (desk_steady site loaded) DeliveredBytes (desk_sends site loaded) w any
   | inr plain ↦ same_bytes_plainly (desk_spec (files_of site)) (desk_steady site loaded) w plain
 ]
 
 pub marks_repeats : DeskMarksRepeats
 marks_repeats site loaded w r = elim r [
-  | inl any ↦ again_exactly_where (desk_spec (files_of site)) (pages_of (files_of site)) (desk_steady site loaded) DeliveredBytes (desk_says site loaded) w any
+  | inl any ↦ again_exactly_where (desk_spec (files_of site)) (pages_of (files_of site)) (desk_steady site loaded) DeliveredBytes (desk_sends site loaded) w any
   | inr plain ↦ again_exactly_plainly (desk_spec (files_of site)) (desk_steady site loaded) w plain
 ]
 
@@ -31,7 +31,7 @@ module _ (site : SiteContent) (loaded : IsLoaded site) where
 
   walked : (w : World) → IsReachedByDesk site w → Walked w
   walked w r = elim r [
-    | inl any ↦ reached_where desk (pages_of (files_of site)) (desk_steady site loaded) DeliveredBytes (desk_says site loaded) Walked (act_good desk ports) (opening_framed desk ports) w any
+    | inl any ↦ reached_where desk (pages_of (files_of site)) (desk_steady site loaded) DeliveredBytes (desk_sends site loaded) Walked (act_good desk ports) (opening_framed desk ports) w any
     | inr plain ↦ reached_plainly desk (desk_steady site loaded) Walked (act_good desk ports) (opening_framed desk ports) w plain
   ]
 
@@ -42,6 +42,6 @@ serves site loaded w r k side x clean =
 
 pub one_segment : DeskOneSegment
 one_segment site loaded w r = elim r [
-  | inl any ↦ in_step_where (desk_spec (files_of site)) (desk_ports site loaded) (pages_of (files_of site)) DeliveredBytes (desk_says site loaded) w any
+  | inl any ↦ in_step_where (desk_spec (files_of site)) (desk_ports site loaded) (pages_of (files_of site)) DeliveredBytes (desk_sends site loaded) w any
   | inr plain ↦ in_step_plainly (desk_spec (files_of site)) (desk_ports site loaded) w plain
 ]

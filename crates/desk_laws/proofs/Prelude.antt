@@ -10,9 +10,9 @@ pub use Rattle.link_world.proofs.OneClientFact.{Framed}
 pub use Rattle.link_world.proofs.OneSegmentInvariant.{in_step_plainly, in_step_where}
 pub use Rattle.link_world.proofs.PrefixAndWhole.{AtPorts, G, act_good, evict, mark, opening_framed, other, reset, served_in}
 pub use Rattle.link_world.proofs.Runs.{reached_plainly, reached_where}
-pub use Rattle.link_world.proofs.SaidBytes.{SaysBytesWhere}
+pub use Rattle.link_world.proofs.SentBytes.{SendsBytesWhere}
 pub use Rattle.link_world.proofs.RetransmissionInvariant.{again_exactly_plainly, again_exactly_where, same_bytes_plainly, same_bytes_where}
-pub use Rattle.link_world.proofs.Speaking.{HasOutputModel, HearsSome, KeepsHeard, Speaker, page_by}
+pub use Rattle.link_world.proofs.Speaking.{HasOutputModel, ReceivesSome, KeepsReceived, Speaker, page_by}
 pub use Rattle.link_world.proofs.Ticks.{tick}
 pub use Rattle.link_world.specs.Prelude.{IsServed, Side, World}
 pub use Rattle.script_lang.specs.Prelude.{length_at_most}
@@ -26,14 +26,14 @@ pub use Rattle.telnet_shell.proofs.DeskSteady.{desk_steady}
 pub use Rattle.telnet_shell.proofs.SessionLaws.{keeps_session}
 pub use Rattle.telnet_shell.proofs.TwoApplications.{two_applications}
 pub use Rattle.telnet_shell.proofs.TwoBytes.{desk_bytes}
-pub use Rattle.telnet_shell.specs.DeskMeaning.{app_spec_at, desk_spec}
+pub use Rattle.telnet_shell.specs.DeskSpec.{app_spec_at, desk_spec}
 pub use Rattle.telnet_shell.specs.DeskRepresents.{at_shell, at_web}
 pub use Rattle.telnet_shell.specs.Reading.{Awaits, Token, all_commands, commands, commands_in, is_quit, next_awaits, tokens, until_quit}
 pub use Rattle.telnet_shell.specs.Reading.Awaits.{Choice, Second, Text}
 pub use Rattle.telnet_shell.specs.Reading.Token.{Answer, Byte}
-pub use Rattle.telnet_shell.specs.ShellMeaning.{is_stopped, shell_spec, take_capture}
+pub use Rattle.telnet_shell.specs.ShellSpec.{is_stopped, shell_spec, take_capture}
 pub use Rattle.telnet_shell.specs.Traces.{DeliversPrefix, sessions}
-pub use Rattle.telnet_shell.specs.Transcript.{function_of, needs_capture, said_plainly, said_with, transcript}
+pub use Rattle.telnet_shell.specs.Transcript.{function_of, needs_capture, plain_reply, reply_with, transcript}
 pub use Rattle.telnet_shell.specs.declared.command.Command.{Command}
 pub use Rattle.telnet_shell.specs.declared.command.Command.TheVariants.{Blank, Conns, Help, Other, Quit, Refuse, Stats, Ticks}
 pub use Rattle.telnet_shell.specs.declared.shell.TheConstants.{TELNET_PORT}

@@ -1,5 +1,5 @@
 -- How long a session is: each byte received completes one command at most, and no command has more than 1032 bytes of text.
-use Rattle.desk_laws.proofs.Prelude.{All, codes, Bool, true, false, ℕ, ◌+◌, ◌*◌, ◌==◌, ◌≤◌, List, [], ◌∷◌, ◌++◌, length, arith, if◌then◌else◌, length-append, lit<, lit≤, All-head, All-tail, IsSnapshot, Snapshot, length_at_most, capture_of, capture_text, Capture, Empty, texts_short, choose, Command, Refuse, Help, Stats, Conns, Ticks, Quit, Blank, Other, Awaits, Token, all_commands, commands, commands_in, is_quit, next_awaits, tokens, until_quit, Text, Second, Choice, Byte, Answer, function_of, needs_capture, said_plainly, said_with, transcript, SessionsAreShort}
+use Rattle.desk_laws.proofs.Prelude.{All, codes, Bool, true, false, ℕ, ◌+◌, ◌*◌, ◌==◌, ◌≤◌, List, [], ◌∷◌, ◌++◌, length, arith, if◌then◌else◌, length-append, lit<, lit≤, All-head, All-tail, IsSnapshot, Snapshot, length_at_most, capture_of, capture_text, Capture, Empty, texts_short, choose, Command, Refuse, Help, Stats, Conns, Ticks, Quit, Blank, Other, Awaits, Token, all_commands, commands, commands_in, is_quit, next_awaits, tokens, until_quit, Text, Second, Choice, Byte, Answer, function_of, needs_capture, plain_reply, reply_with, transcript, SessionsAreShort}
 
 -- ---- a byte brings one command at most
 
@@ -54,25 +54,25 @@ few_in delivered =
 with_end : (capture : Capture) (end : List ℕ) (most : ℕ) → length (capture_text capture) ≤ most → length (capture_text capture ++ end) ≤ most + length end
 with_end capture end most h = omega (arith, length-append (capture_text capture) end, h)
 
-said_short : (c : Command) (capture : Capture) → length (capture_text capture) ≤ length_at_most (function_of c) → length (said_with c capture) ≤ 1032
-said_short (Refuse verb option) capture h = lit≤ tt
-said_short Help capture h = lit≤ tt
-said_short Stats capture h = (let t = with_end capture (codes "> ") 220 h in omega (arith, t))
-said_short Conns capture h = with_end capture (codes "> ") 1030 h
-said_short Ticks capture h = (let t = with_end capture (codes "\r\n> ") 10 h in omega (arith, t))
-said_short Quit capture h = lit≤ tt
-said_short Blank capture h = lit≤ tt
-said_short Other capture h = lit≤ tt
+sent_text_short : (c : Command) (capture : Capture) → length (capture_text capture) ≤ length_at_most (function_of c) → length (reply_with c capture) ≤ 1032
+sent_text_short (Refuse verb option) capture h = lit≤ tt
+sent_text_short Help capture h = lit≤ tt
+sent_text_short Stats capture h = (let t = with_end capture (codes "> ") 220 h in omega (arith, t))
+sent_text_short Conns capture h = with_end capture (codes "> ") 1030 h
+sent_text_short Ticks capture h = (let t = with_end capture (codes "\r\n> ") 10 h in omega (arith, t))
+sent_text_short Quit capture h = lit≤ tt
+sent_text_short Blank capture h = lit≤ tt
+sent_text_short Other capture h = lit≤ tt
 
-plainly_short : (c : Command) → length (said_plainly c) ≤ 1032
-plainly_short c = said_short c Empty (omega arith)
+plainly_short : (c : Command) → length (plain_reply c) ≤ 1032
+plainly_short c = sent_text_short c Empty (omega arith)
 
 -- its text in a snapshot
 abbrev text_at : Command → Snapshot → List ℕ
-text_at c k = said_with c (capture_of (function_of c) 0 k.now)
+text_at c k = reply_with c (capture_of (function_of c) 0 k.now)
 
 at_short : (c : Command) (k : Snapshot) → IsSnapshot k → length (text_at c k) ≤ 1032
-at_short c k is = said_short c (capture_of (function_of c) 0 k.now) (texts_short (function_of c) 0 k.now (lit< tt) is.now)
+at_short c k is = sent_text_short c (capture_of (function_of c) 0 k.now) (texts_short (function_of c) 0 k.now (lit< tt) is.now)
 
 -- ---- the talk
 
@@ -81,15 +81,15 @@ transcript_short [] ks all = lit≤ tt
 transcript_short (c ∷ cs) [] all =
     let most : List ℕ → Type 0 = λ xs. length xs ≤ 1032 * length (c ∷ cs) in
     let h = transcript_short cs [] all in
-    choose most (needs_capture c) [] (said_plainly c ++ transcript cs []) (λ e. omega arith)
-    (λ e. omega (arith, length-append (said_plainly c) (transcript cs []), plainly_short c, h))
+    choose most (needs_capture c) [] (plain_reply c ++ transcript cs []) (λ e. omega arith)
+    (λ e. omega (arith, length-append (plain_reply c) (transcript cs []), plainly_short c, h))
 transcript_short (c ∷ cs) (k ∷ ks) all =
     let most : List ℕ → Type 0 = λ xs. length xs ≤ 1032 * length (c ∷ cs) in
-    choose most (needs_capture c) (text_at c k ++ transcript cs ks) (said_plainly c ++ transcript cs (k ∷ ks))
+    choose most (needs_capture c) (text_at c k ++ transcript cs ks) (plain_reply c ++ transcript cs (k ∷ ks))
     (λ e. let h = transcript_short cs ks (All-tail IsSnapshot k ks all) in
     omega (arith, length-append (text_at c k) (transcript cs ks), at_short c k (All-head IsSnapshot k ks all), h))
     (λ e. let h = transcript_short cs (k ∷ ks) all in
-    omega (arith, length-append (said_plainly c) (transcript cs (k ∷ ks)), plainly_short c, h))
+    omega (arith, length-append (plain_reply c) (transcript cs (k ∷ ks)), plainly_short c, h))
 
 pub sessions_short : SessionsAreShort
 sessions_short delivered captures all =

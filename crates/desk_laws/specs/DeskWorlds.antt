@@ -10,7 +10,7 @@ use Rattle.link_world.specs.Prelude.{World, Side, is_clean, era, IsReached, IsRe
 use Rattle.link_world.specs.Prelude.{RepeatsSameBytes, MarksRepeats, IsInStep, server_side, IsExpired, SendsAgain}
 use Rattle.telnet_shell.specs.declared.shell.TheConstants.{TELNET_PORT}
 use Rattle.telnet_shell.specs.Traces.{sessions}
-use Rattle.telnet_shell.specs.DeskMeaning.{desk_spec}
+use Rattle.telnet_shell.specs.DeskSpec.{desk_spec}
 
 -- A world that acts reach: any acts if the pages are bytes, otherwise acts that damage nothing.
 abbrev pub IsReachedByDesk : SiteContent → World → Type 0

@@ -7,7 +7,7 @@ use Rattle.link_world.specs.Prelude.{worked_client}
 use Rattle.link_schedule.specs.declared.event.Event.{Event}
 use Rattle.link_schedule.specs.declared.event.Event.TheVariants.{Opens, Damage, Tick, Round, Lose}
 use Rattle.web_pages.specs.Prelude.{ok, as_html, get, hello_site}
-use Rattle.telnet_shell.specs.DeskMeaning.{desk_spec, is_served_at}
+use Rattle.telnet_shell.specs.DeskSpec.{desk_spec, is_served_at}
 
 abbrev pub clients_of : Result World BadLine → List ClientEnd
 clients_of (Ok w) = map end_of_client w.sides

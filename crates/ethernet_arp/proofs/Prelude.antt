@@ -9,7 +9,7 @@ pub use Rattle.icmp_echo.specs.Prelude.{echo_fate, echo_message, echo_reply}
 pub use Rattle.icmp_echo.specs.declared.fate.IcmpFate.{IcmpFate}
 pub use Rattle.line_medium.specs.Prelude.{Datagram, MediumInput, MediumSpec, Overlong, Own, ReportsBrought, acts_among, all_decoded}
 pub use Rattle.line_medium.specs.declared.medium.Decoded.{Decoded}
-pub use Rattle.serve_loop.specs.Prelude.{AllSaid, BringsBytes, CarriesBytes, IsStationed, OfMedium, OfNode, PrefixWritten, SaidBy, ServesOver, Station, StationEvent, beat_on, is_beat, output, output_of_event, reply_text, station_after, station_after_all, station_event_by, station_events_after, station_events_of_line, tick_on}
+pub use Rattle.serve_loop.specs.Prelude.{AllWritten, BringsBytes, CarriesBytes, IsStationed, OfMedium, OfNode, PrefixWritten, WrittenAtEnd, ServesOver, Station, StationEvent, beat_on, is_beat, output, output_of_event, reply_text, station_after, station_after_all, station_event_by, station_events_after, station_events_of_line, tick_on}
 pub use Rattle.std.proofs.Common.{Bool, Err, List, None, Ok, Option, Result, Some, [], add-one, ap, append-nil, append_assoc, arith, cond, drop, eq-eqb, eqb, false, get_or, if◌then◌else◌, inl, inr, length, length-append, length-drop, length-take, ltb, map, min, nat_le, nat_lt, ne_eqb, not, option_to_list, position, refl, replicate, set, slice_index, slice_index_or, subst, suc, sym, take, true, zero, ℕ, ◌%◌, ◌&&◌, ◌*◌, ◌++◌, ◌+◌, ◌-◌, ◌/◌, ◌<◌, ◌==◌, ◌||◌, ◌∙◌, ◌∷◌, ◌≡◌, ◌≤◌, ◌⊎◌}
 pub use Rattle.std.proofs.Math.Seq.{take-append-add, take-append_seam}
 pub use Rattle.std.proofs.lemmas.Bool.{and_from, and_parts, le-leb, le-ltb, leb-false, leb-true, lt-ltb, ltb-false, ltb-true, or_parts}

@@ -45,11 +45,11 @@ echo_fits head bytes total most =
     choose P (nat_lt (length message) 8) _ _ (λ e. tt)
     (λ e. let size = short_no (payload_of head bytes) e in
     let cut = length-take (head.total - 20) (drop 20 bytes) in
-    let behind = length-drop 20 bytes in
+    let the_rest_after = length-drop 20 bytes in
     let prefix = length-take head.total bytes in
     choose P (not (checksum_of message == 0)) _ _ (λ f. tt)
     (λ f. choose P (not (slice_index message 0 == 8) || not (slice_index message 1 == 0)) _ _ (λ g. tt)
-    (λ g. (omega (arith, total, most, size, cut, behind, prefix), omega (arith, total, most, prefix)))))
+    (λ g. (omega (arith, total, most, size, cut, the_rest_after, prefix), omega (arith, total, most, prefix)))))
 
 proto_fits : (proto : Proto) (head : IpHead) (bytes : List ℕ) → head.total ≤ length bytes → length bytes ≤ 1500 → length head.source.0 ≡ 4 → EventFits (by_proto proto head bytes)
 proto_fits Icmp head bytes total most h = echo_fits head bytes total most
@@ -118,10 +118,10 @@ module _ (own : Addr) (four : length own.0 ≡ 4) where
       let most = small_size (datagram_to own sockets id s) small.short small.alone in
       within (datagram_bytes (datagram_to own sockets id s)) (omega (arith, whole)) (omega (arith, whole, most))
 
-  said_fits : (output : Option PlainSegment) (sockets : Sockets) (id : ℕ) (again : Bool) → length sockets.peer.0 ≡ 4 → ((s : PlainSegment) → output ≡ Some s → IsSmall s)
+  sent_text_fits : (output : Option PlainSegment) (sockets : Sockets) (id : ℕ) (again : Bool) → length sockets.peer.0 ≡ 4 → ((s : PlainSegment) → output ≡ Some s → IsSmall s)
       → (reply : Reply) → option_map (λ s. TcpSent sockets id again s) output ≡ Some reply → Fits own reply
-  said_fits None sockets id again peer small reply e = absurd (cc)
-  said_fits (Some s) sockets id again peer small reply e = only_some (λ z. Fits own z) (TcpSent sockets id again s) reply e (tcp_fits sockets id again s peer (small s refl))
+  sent_text_fits None sockets id again peer small reply e = absurd (cc)
+  sent_text_fits (Some s) sockets id again peer small reply e = only_some (λ z. Fits own z) (TcpSent sockets id again s) reply e (tcp_fits sockets id again s peer (small s refl))
 
   module _ (m : AppSpec) where
     text_small : (c : Connection) → Lens c → IsSmall (text_segment m c)
@@ -143,7 +143,7 @@ module _ (own : Addr) (four : length own.0 ≡ 4) where
     unfolding happened
     happened_fits n event slot old o f h = record {
       table = set_fits n.connections slot o.connection h f;
-      sent = said_fits (segment_of m o.connection o.step) o.connection.sockets _ _ h.peer (λ s e. step_small o.connection o.step s h.lens e);
+      sent = sent_text_fits (segment_of m o.connection o.step) o.connection.sockets _ _ h.peer (λ s e. step_small o.connection o.step s h.lens e);
     }
 
     opens_fit : (n : AbstractNode) (sockets : Sockets) (s : PlainSegment) (slot : Option ℕ) → length sockets.peer.0 ≡ 4 → TableFits n.connections → StepFits own (opens m n sockets s slot)

@@ -144,9 +144,9 @@ module _ (k : Host) (mac6 : length k.mac ≡ 6) (addr4 : length k.addr ≡ 4) wh
       )
 
   -- a frame of ARP carries no datagram
-  arp_says : (acts : List Act) (to : List ℕ) (operation : ℕ) (mac target : List ℕ) → length to ≡ 6 → length mac ≡ 6 → length target ≡ 4
+  arp_sends : (acts : List Act) (to : List ℕ) (operation : ℕ) (mac target : List ℕ) → length to ≡ 6 → length mac ≡ 6 → length target ≡ 4
       → IsFrame acts (framed (frame_with to k.mac 2054 (arp_packet operation k.mac k.addr mac target))) (frame_with to k.mac 2054 (arp_packet operation k.mac k.addr mac target))
-  arp_says acts to operation mac target a b c =
+  arp_sends acts to operation mac target a b c =
       let packet = arp_packet operation k.mac k.addr mac target in
       let size = sequence_length to k.mac packet 2054 a mac6 in
       record {
@@ -160,9 +160,9 @@ module _ (k : Host) (mac6 : length k.mac ≡ 6) (addr4 : length k.addr ≡ 4) wh
       not_arp e = cc
 
   -- a datagram's frame goes home
-  datagram_says : (acts : List Act) (d mac : List ℕ) → AllSound acts → length d < 65000 → known acts (address_at d 16) ≡ Some mac
+  datagram_sends : (acts : List Act) (d mac : List ℕ) → AllSound acts → length d < 65000 → known acts (address_at d 16) ≡ Some mac
       → IsFrame acts (framed (frame_with mac k.mac 2048 d)) (frame_with mac k.mac 2048 d)
-  datagram_says acts d mac sound most e =
+  datagram_sends acts d mac sound most e =
       let it = known_last (last_learning (address_at d 16) acts) mac e in
       let six : length mac ≡ 6 = ap (λ l. length l) (sym it.2) ∙ last_six (address_at d 16) acts it.0 sound it.1 in
       let size = sequence_length mac k.mac d 2048 six mac6 in
@@ -175,15 +175,15 @@ module _ (k : Host) (mac6 : length k.mac ≡ 6) (addr4 : length k.addr ≡ 4) wh
             ∙ e ∙ ap (λ (l : List ℕ). Some l) (sym (to_of mac k.mac d 2048 six mac6));
       }
 
-  wrapped_says : (acts : List Act) (d : List ℕ) (o : Option (List ℕ)) → AllSound acts → length d < 65000 → known acts (address_at d 16) ≡ o
+  wrapped_sends : (acts : List Act) (d : List ℕ) (o : Option (List ℕ)) → AllSound acts → length d < 65000 → known acts (address_at d 16) ≡ o
       → Says acts (framed (option_map_or (λ mac. frame_with mac k.mac 2048 d) o (arp_request k (address_at d 16))))
-  wrapped_says acts d None sound most e = inr (arp_request k (address_at d 16), arp_says acts broadcast 1 no_mac (address_at d 16) refl refl refl)
-  wrapped_says acts d (Some mac) sound most e = inr (frame_with mac k.mac 2048 d, datagram_says acts d mac sound most e)
+  wrapped_sends acts d None sound most e = inr (arp_request k (address_at d 16), arp_sends acts broadcast 1 no_mac (address_at d 16) refl refl refl)
+  wrapped_sends acts d (Some mac) sound most e = inr (frame_with mac k.mac 2048 d, datagram_sends acts d mac sound most e)
 
-  text_says : (acts : List Act) (d : List ℕ) → AllSound acts → Says acts (ether_text k acts d)
-  text_says acts d sound =
+  text_sends : (acts : List Act) (d : List ℕ) → AllSound acts → Says acts (ether_text k acts d)
+  text_sends acts d sound =
       elim (is_sendable d) as (λ v. is_sendable d ≡ v → Says acts (if v then framed (wrapped k acts d) else [])) [
-        | true ↦ λ e. wrapped_says acts d (known acts (address_at d 16)) sound (short (nat_le 20 (length d)) (length d) e) refl
+        | true ↦ λ e. wrapped_sends acts d (known acts (address_at d 16)) sound (short (nat_le 20 (length d)) (length d) e) refl
         | false ↦ λ e. inl refl
       ] refl
     where
@@ -191,15 +191,15 @@ module _ (k : Host) (mac6 : length k.mac ≡ 6) (addr4 : length k.addr ≡ 4) wh
       short true n e = let most = leb-true n 1500 e in omega arith
       short false n e = absurd (cc e)
 
-  reply_says : (acts : List Act) (own : Addr) (o : Option Reply) → AllSound acts → Says acts (reply_text (ether_medium k) acts own o)
-  reply_says acts own None sound = inl refl
-  reply_says acts own (Some reply) sound = text_says acts (reply_bytes own reply) sound
+  reply_outputs : (acts : List Act) (own : Addr) (o : Option Reply) → AllSound acts → Says acts (reply_text (ether_medium k) acts own o)
+  reply_outputs acts own None sound = inl refl
+  reply_outputs acts own (Some reply) sound = text_sends acts (reply_bytes own reply) sound
 
-  station_event_says : (m : AppSpec) (served : ℕ → Bool) (own : Addr) (s : Station Act) (d : StationEvent Act) → AllSound s.acts → IsStationEventSound d → Says s.acts (output_of_event m served (ether_medium k) own s d)
-  station_event_says m served own s (OfMedium (Asked pair)) sound h = inr (arp_reply k pair, arp_says s.acts pair.mac 2 pair.mac pair.addr h.1 h.1 h.0)
-  station_event_says m served own s (OfMedium (Replied pair)) sound h = inl refl
-  station_event_says m served own s (OfMedium Ticked) sound h = inl refl
-  station_event_says m served own s (OfNode e) sound h = reply_says s.acts own (step m served s.node e).sent sound
+  station_event_sends : (m : AppSpec) (served : ℕ → Bool) (own : Addr) (s : Station Act) (d : StationEvent Act) → AllSound s.acts → IsStationEventSound d → Says s.acts (output_of_event m served (ether_medium k) own s d)
+  station_event_sends m served own s (OfMedium (Asked pair)) sound h = inr (arp_reply k pair, arp_sends s.acts pair.mac 2 pair.mac pair.addr h.1 h.1 h.0)
+  station_event_sends m served own s (OfMedium (Replied pair)) sound h = inl refl
+  station_event_sends m served own s (OfMedium Ticked) sound h = inl refl
+  station_event_sends m served own s (OfNode e) sound h = reply_outputs s.acts own (step m served s.node e).sent sound
 
   sound_after : (m : AppSpec) (served : ℕ → Bool) (s : Station Act) (d : StationEvent Act) → AllSound s.acts → IsStationEventSound d → AllSound (station_after m served s d).acts
   sound_after m served s (OfMedium a) sound h = sound_more s.acts a sound h
@@ -262,7 +262,7 @@ module _ (k : Host) (mac6 : length k.mac ≡ 6) (addr4 : length k.addr ≡ 4) wh
         let next = station_after m served s d in
         let rest = texts station_events next in
         let more = homes station_events next (sound_after m served s d sound h.0) h.1 in
-        elim (station_event_says m served own s d sound h.0) [
+        elim (station_event_sends m served own s d sound h.0) [
           | inl quiet ↦ quiet_home d station_events s frame i quiet (more i frame (ap (λ l. slice_get (frames_from [] (l ++ rest)) i) (sym quiet) ∙ at) e)
           | inr output ↦
               let f = output.0 in

@@ -1,5 +1,5 @@
 -- Serving a line, restated for other predicates on its medium's events.
-use Rattle.ethernet_arp.proofs.Prelude.{ℕ, Bool, List, Option, AppSpec, Ghosts, ServeEnd, Addr, Node, MediumSpec, AllSaid, StationEvent, PrefixWritten, Station, IsStationed, SaidBy, ServesOver, LineView}
+use Rattle.ethernet_arp.proofs.Prelude.{ℕ, Bool, List, Option, AppSpec, Ghosts, ServeEnd, Addr, Node, MediumSpec, AllWritten, StationEvent, PrefixWritten, Station, IsStationed, WrittenAtEnd, ServesOver, LineView}
 use Rattle.uip_edge.specs.declared.serve_end.ServeEnd.TheVariants as ends
 
 module _ {A S C : Type 0} (g : Ghosts A S) (w : MediumSpec C) (did did' reported reported' : List C → Type 0) (before after : Node A S)
@@ -11,7 +11,7 @@ module _ {A S C : Type 0} (g : Ghosts A S) (w : MediumSpec C) (did did' reported
   stops s p = record { represented = p.represented; acted = last s.acts p.acted }
 
   all_reported : (m : AppSpec) (served : ℕ → Bool) (own : Addr) (station_events : List (StationEvent C)) (a b : Option (List ℕ))
-      → AllSaid m served w own station_events (IsStationed g did before) (IsStationed g did' after) a b → AllSaid m served w own station_events (IsStationed g reported before) (IsStationed g reported' after) a b
+      → AllWritten m served w own station_events (IsStationed g did before) (IsStationed g did' after) a b → AllWritten m served w own station_events (IsStationed g reported before) (IsStationed g reported' after) a b
   all_reported m served own station_events a b v = record { each = λ s p. let it = v.each s (starts s p) in (stops _ it.0, it.1) }
 
   prefix_reported : (m : AppSpec) (served : ℕ → Bool) (own : Addr) (station_events : List (StationEvent C)) (a b : Option (List ℕ))
@@ -23,7 +23,7 @@ module _ {A S C : Type 0} (g : Ghosts A S) (w : MediumSpec C) (did did' reported
   }
 
   reported_by : (end : ServeEnd) (m : AppSpec) (served : ℕ → Bool) (own : Addr) (station_events : List (StationEvent C)) (a b : Option (List ℕ))
-      → SaidBy end m served w own station_events (IsStationed g did before) (IsStationed g did' after) a b → SaidBy end m served w own station_events (IsStationed g reported before) (IsStationed g reported' after) a b
+      → WrittenAtEnd end m served w own station_events (IsStationed g did before) (IsStationed g did' after) a b → WrittenAtEnd end m served w own station_events (IsStationed g reported before) (IsStationed g reported' after) a b
   reported_by ends.End m served own station_events a b v = all_reported m served own station_events a b v
   reported_by ends.Budget m served own station_events a b v = all_reported m served own station_events a b v
   reported_by ends.LinkFault m served own station_events a b v = all_reported m served own station_events a b v

@@ -24,9 +24,9 @@ abbrev pub closed_by : Host → List ℕ → List (MediumInput Act)
 closed_by k part = if is_whole part && is_taken (drop 2 part) then frame_brings k (drop 2 part) else []
 
 -- What a host writes at an event of its own: the reply to a request.
-abbrev pub says_at : Host → Act → List ℕ
-says_at k (Asked pair) = framed (arp_reply k pair)
-says_at k act = []
+abbrev pub writes_at : Host → Act → List ℕ
+writes_at k (Asked pair) = framed (arp_reply k pair)
+writes_at k act = []
 
 -- The text of a datagram after these events.
 abbrev pub ether_text : Host → List Act → List ℕ → List ℕ
@@ -36,6 +36,6 @@ abbrev pub ether_medium : Host → MediumSpec Act
 ether_medium k = record {
   decodes = λ before b. closed_by k (open_from [] before ++ b ∷ []);
   at_tick = Ticked ∷ [];
-  says = λ act. says_at k act;
+  output_at = λ act. writes_at k act;
   text = λ acts datagram. ether_text k acts datagram;
 }

@@ -1,6 +1,6 @@
 -- The names of the definitions of this crate that other files cite, passed on from one place. Declares nothing.
 pub use Rattle.ethernet_arp.specs.ConstantValues.{ConstantValues}
-pub use Rattle.ethernet_arp.specs.EtherWay.{closed_by, ether_medium, ether_text, is_taken, is_whole, open_from, says_at}
+pub use Rattle.ethernet_arp.specs.EtherWay.{closed_by, ether_medium, ether_text, is_taken, is_whole, open_from, writes_at}
 pub use Rattle.ethernet_arp.specs.Frames.{Host, arp_begin, arp_brings, arp_packet, arp_reply, arp_request, broadcast, frame_brings}
 pub use Rattle.ethernet_arp.specs.Frames.{frame_with, framed, is_arp, is_arp_for, is_datagram, is_sendable, mac_at, no_mac, payload_brings}
 pub use Rattle.ethernet_arp.specs.Frames.{sender_of, wrapped, wrapped_to, wrapped_via}

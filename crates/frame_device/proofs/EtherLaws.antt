@@ -1,5 +1,5 @@
 -- Frames of Ethernet: what brings them, and what they are beside those of a line.
-use Rattle.frame_device.proofs.Prelude.{take-append_seam, ◌⊎◌, inl, inr, ◌≡◌, ℕ, ◌+◌, ◌<◌, ◌==◌, ◌&&◌, Bool, true, false, if◌then◌else◌, nat_lt, List, [], ◌∷◌, ◌++◌, Option, None, Some, drop, length, map, take, refl, sym, ap, ◌∙◌, subst, arith, append-nil, length-append, ◌||◌, ⊤, bytes_eq, AppSpec, address_at, word_at, word_bytes, written, Addr, choose, reply_bytes, Reply, Periodic, step, MediumInput, Datagram, Overlong, Own, StationEvent, OfMedium, OfNode, Station, station_after, output, output_of_event, reply_text, station_event_by, ether_text, ether_medium, is_taken, says_at, Host, arp_brings, arp_packet, broadcast, frame_brings, frame_with, framed, is_arp, is_arp_for, is_datagram, is_sendable, mac_at, no_mac, payload_brings, arp_reply, sender_of, wrapped_to, wrapped_via, Act, Asked, Pair, Replied, Ticked, known, IsSilent, as_medium, CallsSlot, DoesNothing, FrameCall, InputsFrame, station_events_by, SentAsOnLine, Interface, IsOneLink, Network, and_zero_r, bytes_eq-Decides, or_left, or_right, slice_index, ether_frames, hop_of, is_on_link, masked, next_hop, no_address, on_line}
+use Rattle.frame_device.proofs.Prelude.{take-append_seam, ◌⊎◌, inl, inr, ◌≡◌, ℕ, ◌+◌, ◌<◌, ◌==◌, ◌&&◌, Bool, true, false, if◌then◌else◌, nat_lt, List, [], ◌∷◌, ◌++◌, Option, None, Some, drop, length, map, take, refl, sym, ap, ◌∙◌, subst, arith, append-nil, length-append, ◌||◌, ⊤, bytes_eq, AppSpec, address_at, word_at, word_bytes, written, Addr, choose, reply_bytes, Reply, Periodic, step, MediumInput, Datagram, Overlong, Own, StationEvent, OfMedium, OfNode, Station, station_after, output, output_of_event, reply_text, station_event_by, ether_text, ether_medium, is_taken, writes_at, Host, arp_brings, arp_packet, broadcast, frame_brings, frame_with, framed, is_arp, is_arp_for, is_datagram, is_sendable, mac_at, no_mac, payload_brings, arp_reply, sender_of, wrapped_to, wrapped_via, Act, Asked, Pair, Replied, Ticked, known, IsSilent, as_medium, CallsSlot, DoesNothing, FrameCall, InputsFrame, station_events_by, SentAsOnLine, Interface, IsOneLink, Network, and_zero_r, bytes_eq-Decides, or_left, or_right, slice_index, ether_frames, hop_of, is_on_link, masked, next_hop, no_address, on_line}
 
 -- what was written in front is read
 pub prefix_of : (old part : List ℕ) → take (length part) (written old 0 part) ≡ part
@@ -82,10 +82,10 @@ module _ (k : Interface) where
     text_on_line acts d =
         text_via acts d (hop_of k d) ∙ ap (λ hop. if is_sendable d then framed (wrapped_via host acts hop d) else []) (one_link k.network host.addr (address_at d 16) one)
 
-    says_on_line : (act : Act) → on_line ((ether_frames k).says act) ≡ says_at host act
-    says_on_line (Asked pair) = some_on_line (arp_reply host pair) (frame_some pair.mac (arp_packet 2 host.mac host.addr pair.mac pair.addr) 2054)
-    says_on_line (Replied pair) = refl
-    says_on_line Ticked = refl
+    sends_on_line : (act : Act) → on_line ((ether_frames k).output_at act) ≡ writes_at host act
+    sends_on_line (Asked pair) = some_on_line (arp_reply host pair) (frame_some pair.mac (arp_packet 2 host.mac host.addr pair.mac pair.addr) 2054)
+    sends_on_line (Replied pair) = refl
+    sends_on_line Ticked = refl
 
     module _ (m : AppSpec) (served : ℕ → Bool) (own : Addr) where
       reply_on_line : (acts : List Act) (o : Option Reply) → on_line (reply_text (as_medium (ether_frames k)) acts own o) ≡ reply_text (ether_medium host) acts own o
@@ -93,7 +93,7 @@ module _ (k : Interface) where
       reply_on_line acts (Some reply) = text_on_line acts (reply_bytes own reply)
 
       station_event_on_line : (d : StationEvent Act) (s : Station Act) → on_line (output_of_event m served (as_medium (ether_frames k)) own s d) ≡ output_of_event m served (ether_medium host) own s d
-      station_event_on_line (OfMedium act) s = says_on_line act
+      station_event_on_line (OfMedium act) s = sends_on_line act
       station_event_on_line (OfNode e) s = reply_on_line s.acts (step m served s.node e).sent
 
       one_on_line : (d : StationEvent Act) (s : Station Act) → on_line (output m served (as_medium (ether_frames k)) own (d ∷ []) s) ≡ output m served (ether_medium host) own (d ∷ []) s

@@ -35,7 +35,7 @@ module _ (k : Interface) (mac6 : length k.host.mac ≡ 6) where
   reply_home acts own None sound = nothing_home acts
   reply_home acts own (Some reply) sound = text_home acts (reply_bytes own reply) sound
 
-  act_home : (acts : List Act) (a : Act) → IsActSound a → IsHome k acts ((ether_frames k).says a)
+  act_home : (acts : List Act) (a : Act) → IsActSound a → IsHome k acts ((ether_frames k).output_at a)
   act_home acts (Asked pair) h = arp_home acts pair.mac (arp_packet 2 host.mac host.addr pair.mac pair.addr) h.1
   act_home acts (Replied pair) h = nothing_home acts
   act_home acts Ticked h = nothing_home acts
@@ -58,7 +58,7 @@ module _ (k : Interface) (mac6 : length k.host.mac ≡ 6) where
     does_home : (a : Act) (s : Station Act) → IsActSound a → AllSound s.acts → IsHomeBy s (OfMedium a ∷ [])
     does_home a s h sound = (
       sound_more s.acts a sound h,
-      subst (λ (l : List ℕ). IsHome k (s.acts ++ a ∷ []) l) (sym (append-nil ((ether_frames k).says a))) (act_home (s.acts ++ a ∷ []) a h),
+      subst (λ (l : List ℕ). IsHome k (s.acts ++ a ∷ []) l) (sym (append-nil ((ether_frames k).output_at a))) (act_home (s.acts ++ a ∷ []) a h),
     )
 
     abbrev CameHome : Station Act → List (MediumInput Act) → Type 0

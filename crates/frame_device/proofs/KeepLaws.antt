@@ -8,10 +8,10 @@ use Rattle.frame_device.proofs.MoveLaws.{MovesOn, moves_on}
 -- ---- what events lead to, and their output
 
 module _ {C : Type 0} (m : AppSpec) (served : ℕ → Bool) where
-  pub said_in : (w : MediumSpec C) (own : Addr) (station_events : List (StationEvent C)) (s : Station C) → output m served w own station_events s ≡ text_in w own s.acts station_events (trace_of m served (events_among station_events) s.node)
-  said_in w own [] s = refl
-  said_in w own (OfMedium a ∷ station_events) s = ap (λ l. w.says a ++ l) (said_in w own station_events (station_after m served s (OfMedium a)))
-  said_in w own (OfNode e ∷ station_events) s = ap (λ l. output_of_event m served w own s (OfNode e) ++ l) (said_in w own station_events (station_after m served s (OfNode e)))
+  pub sent_text_in : (w : MediumSpec C) (own : Addr) (station_events : List (StationEvent C)) (s : Station C) → output m served w own station_events s ≡ text_in w own s.acts station_events (trace_of m served (events_among station_events) s.node)
+  sent_text_in w own [] s = refl
+  sent_text_in w own (OfMedium a ∷ station_events) s = ap (λ l. w.output_at a ++ l) (sent_text_in w own station_events (station_after m served s (OfMedium a)))
+  sent_text_in w own (OfNode e ∷ station_events) s = ap (λ l. output_of_event m served w own s (OfNode e) ++ l) (sent_text_in w own station_events (station_after m served s (OfNode e)))
 
   pub node_after : (station_events : List (StationEvent C)) (s : Station C) → (station_after_all m served station_events s).node ≡ (run m served (events_among station_events) s.node).node
   node_after [] s = refl
@@ -30,7 +30,7 @@ module _ {C : Type 0} (m : AppSpec) (served : ℕ → Bool) where
   pub call_hands_out : (w : FrameSpec C) (own : Addr) (call : FrameCall) (s : Station C) (handed : List ℕ) → handed ≡ output m served (as_medium w) own (station_events_by w own call) s
       → HandsOutFrame w own s.acts (record { answered = record { move = Makes call; handed = handed }; turns = turns_of_call w own call s })
   call_hands_out w own call s handed wrote =
-      record { over = turn_events m served (events_among (station_events_by w own call)) s.node; hands = wrote ∙ said_in (as_medium w) own (station_events_by w own call) s }
+      record { over = turn_events m served (events_among (station_events_by w own call)) s.node; hands = wrote ∙ sent_text_in (as_medium w) own (station_events_by w own call) s }
 
 -- ---- what calls bring
 
@@ -97,7 +97,7 @@ module _ {A S M : Type 0} (g : Ghosts A S) (h : FramesGhosts M) (k : h.Config) (
       let here : Station h.Act = with_value gives it.move s in
       record {
         over = turn_events m g.served (events_among (station_events_of_move (h.spec k) own it.move)) here.node;
-        hands = first.hands ∙ said_in m g.served (as_medium (h.spec k)) own (station_events_of_move (h.spec k) own it.move) here
+        hands = first.hands ∙ sent_text_in m g.served (as_medium (h.spec k)) own (station_events_of_move (h.spec k) own it.move) here
             ∙ ap (λ (acts : List h.Act). text_in (as_medium (h.spec k)) own acts (station_events_of_move (h.spec k) own it.move) (turns_by it.move s)) (same_acts it.move s);
       }
 

@@ -46,8 +46,8 @@ module _ {A S M : Type 0} (g : Ghosts A S) (h : FramesGhosts M) (k : h.Config) (
     pub frames_exact : handed_of all ≡ frames_sent m g.served (h.spec k) gives own (frame_moves_of all) (initial_station own numbers)
     frames_exact = whole.frames
 
-    pub device_stands : RepresentsStation g h k m own new (station_after_moves m g.served (h.spec k) gives own (frame_moves_of all) (initial_station own numbers))
-    device_stands = whole.represented
+    pub device_represents : RepresentsStation g h k m own new (station_after_moves m g.served (h.spec k) gives own (frame_moves_of all) (initial_station own numbers))
+    device_represents = whole.represented
 
     pub same_kept : g.config new.node.shared ≡ g.config old.node.shared
     same_kept = whole.kept

@@ -1,11 +1,11 @@
 -- The names that the proofs of this crate cite: of std, of the crates below, and of its own definitions. Declares nothing.
 pub use Rattle.ethernet_arp.proofs.SendingLaws.{AllSound, IsActSound, kind_of, known_last, last_six, payload_of, sound_more, to_of}
-pub use Rattle.ethernet_arp.specs.Prelude.{Act, Asked, Host, Pair, Replied, Ticked, arp_brings, arp_packet, arp_reply, broadcast, ether_medium, ether_text, frame_brings, frame_with, framed, host_of, is_arp, is_arp_for, is_datagram, is_sendable, is_taken, known, last_learning, mac_at, no_mac, payload_brings, says_at, sender_of, wrapped_to, wrapped_via}
+pub use Rattle.ethernet_arp.specs.Prelude.{Act, Asked, Host, Pair, Replied, Ticked, arp_brings, arp_packet, arp_reply, broadcast, ether_medium, ether_text, frame_brings, frame_with, framed, host_of, is_arp, is_arp_for, is_datagram, is_sendable, is_taken, known, last_learning, mac_at, no_mac, payload_brings, writes_at, sender_of, wrapped_to, wrapped_via}
 pub use Rattle.frame_device.specs.Newest.{HasNewest, NewestConforms, NewestInEachSlot}
 pub use Rattle.frame_device.specs.Prelude.{AllHandOut, AllHome, AnsweredFrame, AnswersAllFrames, AnswersFrameMove, CallsSlot, DecodesBytes, DoesNothing, FrameCall, FrameMove, FrameSpec, FrameTrace, FramesConform, FramesGoHome, Gives, HandsOutFrame, InputsFrame, Interface, IsFrameOfBytes, IsFreshFrameDevice, IsHome, IsOneLink, IsSilent, KeepsU32, Makes, RepresentsStation, SentAsOnLine, Writing, acts_before, acts_in, as_medium, ether_frames, frame_moves_of, frames_sent, handed_of, hop_of, interface_of, is_on_link, masked, next_hop, no_address, on_line, station_after_move, station_after_moves, station_events_by, station_events_of_move, with_value}
 pub use Rattle.frame_device.specs.declared.device.FrameDevice.{FrameDevice}
 pub use Rattle.frame_device.specs.declared.network.Network.{Network}
-pub use Rattle.line_medium.specs.Prelude.{Datagram, MediumInput, MediumSpec, Overlong, Own, acts_among, all_said}
+pub use Rattle.line_medium.specs.Prelude.{Datagram, MediumInput, MediumSpec, Overlong, Own, acts_among, all_written}
 pub use Rattle.line_laws.specs.Prelude.{events_among, text_in}
 pub use Rattle.node_laws.proofs.EveryTraceConforms.{every_step, paged_everywhere}
 pub use Rattle.node_laws.proofs.TurnRuns.{turn_events}

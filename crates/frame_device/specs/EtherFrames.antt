@@ -24,7 +24,7 @@ abbrev pub ether_frames : Interface → FrameSpec Act
 ether_frames k = record {
   decodes = λ frame. if is_taken frame then frame_brings k.host frame else [];
   at_tick = Ticked ∷ [];
-  says = λ act. reply_at k.host act;
+  output_at = λ act. reply_at k.host act;
   text = λ acts datagram. if is_sendable datagram then wrapped_via k.host acts (hop_of k datagram) datagram else [];
 }
 

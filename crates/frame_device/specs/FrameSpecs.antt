@@ -4,7 +4,7 @@ use Rattle.std.proofs.lemmas.List.Elements.{All-cons, All-nil}
 use Rattle.app_events.specs.Prelude.{IsByte}
 use Rattle.uip_node.proofs.Basics.{choose}
 use Rattle.uip_wire.specs.declared.sizes.TheConstants.{LARGEST_DATAGRAM}
-use Rattle.line_medium.specs.Prelude.{MediumInput, Datagram, Own, MediumSpec, all_said}
+use Rattle.line_medium.specs.Prelude.{MediumInput, Datagram, Own, MediumSpec, all_written}
 use Rattle.serve_loop.specs.Prelude.{CarriesBytes, NoAct}
 use Rattle.frame_device.specs.declared.frames.Decoded.{Decoded}
 use Rattle.frame_device.specs.declared.frames.Decoded.TheVariants as brought
@@ -13,15 +13,15 @@ use Rattle.frame_device.specs.declared.frames.Decoded.TheVariants as brought
 pub record FrameSpec (A : Type 0) : Type 0 where
   pub decodes : List ℕ → List (MediumInput A)  -- what a frame decodes to
   pub at_tick : List A  -- what it does at a tick, before the periodic calls
-  pub says : A → List ℕ  -- the frame that it sends at an event of its own, or no bytes
+  pub output_at : A → List ℕ  -- the frame that it sends at an event of its own, or no bytes
   pub text : List A → List ℕ → List ℕ  -- the frame for a datagram after its own events so far, or no bytes
 
 -- the same as the specification of a line, on which a single byte decodes to nothing: the output for events is defined by it
 abbrev pub as_medium : {A : Type 0} → FrameSpec A → MediumSpec A
-as_medium w = record { decodes = λ before b. []; at_tick = w.at_tick; says = w.says; text = w.text }
+as_medium w = record { decodes = λ before b. []; at_tick = w.at_tick; output_at = w.output_at; text = w.text }
 
 abbrev pub acts_output : {A : Type 0} → FrameSpec A → List A → List ℕ
-acts_output w acts = all_said (as_medium w) acts
+acts_output w acts = all_written (as_medium w) acts
 
 -- what it does before the periodic call of a slot: a tick begins with that of slot 0
 abbrev pub acts_before : {A : Type 0} → FrameSpec A → ℕ → List A
@@ -29,12 +29,12 @@ acts_before w slot = if slot == 0 then w.at_tick else []
 
 -- nothing is sent for it, and it is no datagram
 abbrev pub IsSilent : {A : Type 0} → FrameSpec A → List (MediumInput A) → Type 0
-IsSilent {A = A} w cs = (cs ≡ []) ⊎ ((a : A) × (cs ≡ Own a ∷ []) × (w.says a ≡ []))
+IsSilent {A = A} w cs = (cs ≡ []) ⊎ ((a : A) × (cs ≡ Own a ∷ []) × (w.output_at a ≡ []))
 
 -- what is reported of a frame, and what the buffer contains then
 abbrev pub ReportsFrame : {A : Type 0} → FrameSpec A → List ℕ → Decoded → List (MediumInput A) → Type 0
 ReportsFrame w buf brought.Nothing cs = IsSilent w cs
-ReportsFrame {A = A} w buf (brought.Own n) cs = (a : A) × (cs ≡ Own a ∷ []) × (take n buf ≡ w.says a)
+ReportsFrame {A = A} w buf (brought.Own n) cs = (a : A) × (cs ≡ Own a ∷ []) × (take n buf ≡ w.output_at a)
 ReportsFrame w buf (brought.Datagram at n) cs = cs ≡ Datagram (take n (drop at buf)) ∷ []
 
 -- it fits in a buffer of this length
@@ -52,7 +52,7 @@ abbrev pub datagram_frames : FrameSpec NoAct
 datagram_frames = record {
   decodes = λ frame. if nat_lt 0 (length frame) && nat_le (length frame) LARGEST_DATAGRAM then Datagram frame ∷ [] else [];
   at_tick = [];
-  says = λ a. [];
+  output_at = λ a. [];
   text = λ acts datagram. datagram;
 }
 

@@ -1,7 +1,7 @@
 -- What is wanted, and the capture that is taken, for each part that a value stands for.
-use Rattle.httpd.proofs.Prelude.{◌≡◌, ◌+◌, ℕ, ◌≤◌, ◌==◌, ◌&&◌, min, Bool, true, false, not, List, [], ◌∷◌, ◌++◌, Option, length, drop, nat_lt, refl, sym, ap, subst, ◌∙◌, arith, append_assoc, append-nil, length-append, length-drop, if◌then◌else◌, inl, inr, map, codes, cases_eq, eq-eqb, eqb-true, ne_eqb, Snapshot, AppState, Nothing, Send, Close, Abort, File, FileId, SiteContent, files_of, ScriptFunctions, Wanted, wanted, Name, NotYet, Refused, pieces_by, Say, kind_line, reply_pieces_by, says, Made, Plain, is_whole_by, made_by, page_by, page_for_by, reach_by, text_by, whole_for_by, is_acknowledged_by, left_of_by, waits_for_capture_by, web_want_by, made_end, made_first, stopped_end, stopped_text, text_grows, Pages, Thread, Head, Kind, Body, Inside, Making, End, Due, FileReply, body, body_from, calls_in, head_text, is_scripted, kind_text, left_from, reply_by, Fits, IsInner, KeepsDirective, SeesCall, IsDueReply, IsNotDue, left_text, left_whole, want_left, PagesRepresent, IsLeft, IsReplying, SaysNothing, IsRepresentedIn}
+use Rattle.httpd.proofs.Prelude.{◌≡◌, ◌+◌, ℕ, ◌≤◌, ◌==◌, ◌&&◌, min, Bool, true, false, not, List, [], ◌∷◌, ◌++◌, Option, length, drop, nat_lt, refl, sym, ap, subst, ◌∙◌, arith, append_assoc, append-nil, length-append, length-drop, if◌then◌else◌, inl, inr, map, codes, cases_eq, eq-eqb, eqb-true, ne_eqb, Snapshot, AppState, Nothing, Send, Close, Abort, File, FileId, SiteContent, files_of, ScriptFunctions, Wanted, wanted, Name, NotYet, Refused, pieces_by, ScriptPiece, kind_line, reply_pieces_by, piece_output, Made, Plain, is_whole_by, made_by, page_by, page_for_by, reach_by, text_by, whole_for_by, is_acknowledged_by, left_of_by, waits_for_capture_by, web_want_by, made_end, made_first, stopped_end, stopped_text, text_grows, Pages, Thread, Head, Kind, Body, Inside, Making, End, Due, FileReply, body, body_from, calls_in, head_text, is_scripted, kind_text, left_from, reply_by, Fits, IsInner, KeepsDirective, SeesCall, IsDueReply, IsNotDue, left_text, left_whole, want_left, PagesRepresent, IsLeft, IsReplying, SendsNothing, IsRepresentedIn}
 use Rattle.httpd.specs.declared.stage.Stage.TheVariants as stage
-use Rattle.httpd.proofs.Standing.{replying}
+use Rattle.httpd.proofs.Representing.{replying}
 use Rattle.httpd.proofs.Walking.{call_before}
 
 -- what is left of the page of a reply
@@ -11,13 +11,13 @@ text_of g text a site found = left_text (reply_by g text site found a.capture) a
 abbrev end_of : {F R : Type 0} → ScriptFunctions F → (R → List ℕ) → Pages R → SiteContent → Option FileId → Bool
 end_of g text a site found = left_whole (reply_by g text site found a.capture) a.thread
 
-record IsSaid {F : Type 0} (g : ScriptFunctions F) (files : List File) (p : AppState) (text : List ℕ) (whole : Bool) : Type 0 where
+record WasSentIn {F : Type 0} (g : ScriptFunctions F) (files : List File) (p : AppState) (text : List ℕ) (whole : Bool) : Type 0 where
   left : left_of_by g files p ≡ length text
   ends : is_whole_by g files p.input p.snapshots ≡ whole
   within : p.acked ≤ length (page_by g files p.input p.snapshots)
 
-is_said : {F R : Type 0} (g : ScriptFunctions F) (text : R → List ℕ) (a : Pages R) (site : SiteContent) (found : Option FileId) (p : AppState) (name : List ℕ) → IsReplying g text a site name found p → IsSaid g (files_of site) p (text_of g text a site found) (end_of g text a site found)
-is_said g text a site found p name is =
+is_sent : {F R : Type 0} (g : ScriptFunctions F) (text : R → List ℕ) (a : Pages R) (site : SiteContent) (found : Option FileId) (p : AppState) (name : List ℕ) → IsReplying g text a site name found p → WasSentIn g (files_of site) p (text_of g text a site found) (end_of g text a site found)
+is_sent g text a site found p name is =
     let files = files_of site in
     let own : page_by g files p.input p.snapshots ≡ text_by g files (reply_pieces_by g.function_table.named files name) p.snapshots = ap (λ w. page_for_by g files w p.snapshots) is.wanted in
     let ends : is_whole_by g files p.input p.snapshots ≡ reach_by g (reply_pieces_by g.function_table.named files name) p.snapshots = ap (λ w. whole_for_by g files w p.snapshots) is.wanted in
@@ -36,14 +36,14 @@ same_bool a b c d f g = elim (cases_eq a b) [
   | inr e ↦ ne_eqb a b e ∙ sym (ne_eqb c d (λ h. e (g h)))
 ]
 
-acked_all : {F : Type 0} (g : ScriptFunctions F) (files : List File) (p : AppState) (text : List ℕ) (whole : Bool) → IsSaid g files p text whole → is_acknowledged_by g files p ≡ (length text == 0)
+acked_all : {F : Type 0} (g : ScriptFunctions F) (files : List File) (p : AppState) (text : List ℕ) (whole : Bool) → WasSentIn g files p text whole → is_acknowledged_by g files p ≡ (length text == 0)
 acked_all g files p text whole output =
     same_bool p.acked (length (page_by g files p.input p.snapshots)) (length text) 0
     (λ e. omega (arith, e, output.left)) (λ e. omega (arith, e, output.left, output.within))
 
 -- ---- what is requested
 
-want_by : {F : Type 0} (g : ScriptFunctions F) (files : List File) (p : AppState) (text : List ℕ) (whole : Bool) → IsSaid g files p text whole → (p.polls == 20) ≡ false → want_left text whole ≡ web_want_by g files p
+want_by : {F : Type 0} (g : ScriptFunctions F) (files : List File) (p : AppState) (text : List ℕ) (whole : Bool) → WasSentIn g files p text whole → (p.polls == 20) ≡ false → want_left text whole ≡ web_want_by g files p
 want_by g files p text whole output polls = sym (
     ap (λ b. if b then Abort else (if is_whole_by g files p.input p.snapshots && is_acknowledged_by g files p then Close else (if nat_lt 0 (left_of_by g files p) then Send (min 1460 (left_of_by g files p)) else Nothing))) polls
     ∙ (λ i. if output.ends i && acked_all g files p text whole output i then Close else (if nat_lt 0 (output.left i) then Send (min 1460 (output.left i)) else Nothing)))
@@ -52,11 +52,11 @@ pub reply_wants : {F R : Type 0} (g : ScriptFunctions F) (text : R → List ℕ)
     → want_left (text_of g text a site found) (end_of g text a site found) ≡ web_want_by g (files_of site) p
 reply_wants g text a site found p e polls s =
     let is = replying g text a site p found e s in
-    want_by g (files_of site) p (text_of g text a site found) (end_of g text a site found) (is_said g text a site found p is.0 is.1) (ne_eqb p.polls 20 (λ h. polls (s.polls ∙ h)))
+    want_by g (files_of site) p (text_of g text a site found) (end_of g text a site found) (is_sent g text a site found p is.0 is.1) (ne_eqb p.polls 20 (λ h. polls (s.polls ∙ h)))
 
 -- if nothing is sent
-nothing_said : {F : Type 0} (g : ScriptFunctions F) (files : List File) (p : AppState) (w : Wanted) (whole : Bool) → wanted p.input ≡ w → page_for_by g files w p.snapshots ≡ [] → whole_for_by g files w p.snapshots ≡ whole → SaysNothing p → IsSaid g files p [] whole
-nothing_said g files p w whole e text end none =
+nothing_sent : {F : Type 0} (g : ScriptFunctions F) (files : List File) (p : AppState) (w : Wanted) (whole : Bool) → wanted p.input ≡ w → page_for_by g files w p.snapshots ≡ [] → whole_for_by g files w p.snapshots ≡ whole → SendsNothing p → WasSentIn g files p [] whole
+nothing_sent g files p w whole e text end none =
     let size : length (page_by g files p.input p.snapshots) ≡ 0 = ap (λ v. length (page_for_by g files v p.snapshots)) e ∙ ap length text in
     record {
       left = omega (arith, size, none.acked);
@@ -64,11 +64,11 @@ nothing_said g files p w whole e text end none =
       within = omega (arith, none.acked);
     }
 
-pub open_wants : {F : Type 0} (g : ScriptFunctions F) (files : List File) (p : AppState) → wanted p.input ≡ NotYet → SaysNothing p → (p.polls ≡ 20 → ⊥) → Nothing ≡ web_want_by g files p
-open_wants g files p e none polls = want_by g files p [] false (nothing_said g files p NotYet false e refl refl none) (ne_eqb p.polls 20 polls)
+pub open_wants : {F : Type 0} (g : ScriptFunctions F) (files : List File) (p : AppState) → wanted p.input ≡ NotYet → SendsNothing p → (p.polls ≡ 20 → ⊥) → Nothing ≡ web_want_by g files p
+open_wants g files p e none polls = want_by g files p [] false (nothing_sent g files p NotYet false e refl refl none) (ne_eqb p.polls 20 polls)
 
-pub refused_wants : {F : Type 0} (g : ScriptFunctions F) (files : List File) (p : AppState) → wanted p.input ≡ Refused → SaysNothing p → (p.polls ≡ 20 → ⊥) → Close ≡ web_want_by g files p
-refused_wants g files p e none polls = want_by g files p [] true (nothing_said g files p Refused true e refl refl none) (ne_eqb p.polls 20 polls)
+pub refused_wants : {F : Type 0} (g : ScriptFunctions F) (files : List File) (p : AppState) → wanted p.input ≡ Refused → SendsNothing p → (p.polls ≡ 20 → ⊥) → Close ≡ web_want_by g files p
+refused_wants g files p e none polls = want_by g files p [] true (nothing_sent g files p Refused true e refl refl none) (ne_eqb p.polls 20 polls)
 
 pub gives_up : {F : Type 0} (g : ScriptFunctions F) (files : List File) (p : AppState) → p.polls ≡ 20 → Abort ≡ web_want_by g files p
 gives_up g files p e =
@@ -100,7 +100,7 @@ pub none_due : {F R : Type 0} (g : ScriptFunctions F) (text : R → List ℕ) (a
     → prepared g (files_of site) p snapshot ≡ p
 none_due g text a site found p snapshot e due s =
     let is = replying g text a site p found e s in
-    let output = is_said g text a site found p is.0 is.1 in
+    let output = is_sent g text a site found p is.0 is.1 in
     let stays : (is_acknowledged_by g (files_of site) p && waits_for_capture_by g (files_of site) (wanted p.input) p) ≡ false =
     ap (λ w. is_acknowledged_by g (files_of site) p && w) (waits g (files_of site) p is.0 is.1.wanted)
     ∙ unless_whole (is_acknowledged_by g (files_of site) p) (is_whole_by g (files_of site) p.input p.snapshots)
@@ -125,7 +125,7 @@ head_not_due reply at none =
 -- the body of a file that is no script
 body_plain : {F : Type 0} (reply : FileReply F) (at : ℕ) → is_scripted reply.file ≡ false → body_from reply at ≡ Plain (drop at (body reply)) ∷ []
 body_plain reply at e =
-    ap (λ b. if b then map (λ found. says reply.files (body reply) found.piece) (pieces_by reply.functions.function_table.named (body reply) at) else Plain (drop at (body reply)) ∷ []) e
+    ap (λ b. if b then map (λ found. piece_output reply.files (body reply) found.piece) (pieces_by reply.functions.function_table.named (body reply) at) else Plain (drop at (body reply)) ∷ []) e
 
 -- Only a script waits for captures: what is left of any other reply reaches its end.
 pub plain_whole : {F : Type 0} (reply : FileReply F) (thread : Thread) → is_scripted reply.file ≡ false → Fits reply thread → left_whole reply thread ≡ true
@@ -158,16 +158,16 @@ abbrev begins_call : {R : Type 0} → Pages R → R → Thread → Pages R
 begins_call a capture next = record a { capture = capture; thread = next }
 
 -- its text then
-record Begun {F R : Type 0} (g : ScriptFunctions F) (text : R → List ℕ) (site : SiteContent) (found : Option FileId) (old new : R) (pieces : List (Say F)) (f : F) (argument : List ℕ) (next : Thread) : Type 0 where
+record Begun {F R : Type 0} (g : ScriptFunctions F) (text : R → List ℕ) (site : SiteContent) (found : Option FileId) (old new : R) (pieces : List (ScriptPiece F)) (f : F) (argument : List ℕ) (next : Thread) : Type 0 where
   fits : Fits (reply_by g text site found new) next
   takes : g.function_table.takes_capture f ≡ true
-  more : List (Say F)
+  more : List (ScriptPiece F)
   pieces_are : pieces ≡ Made f argument ∷ more
-  says : (later : List Snapshot) → text_by g (files_of site) (left_from (reply_by g text site found new) next) later ≡ text new ++ text_by g (files_of site) more later
+  piece_output : (later : List Snapshot) → text_by g (files_of site) (left_from (reply_by g text site found new) next) later ≡ text new ++ text_by g (files_of site) more later
   ends : (later : List Snapshot) → reach_by g (left_from (reply_by g text site found new) next) later ≡ reach_by g more later
   calls : calls_in g.function_table (left_from (reply_by g text site found new) next) ≡ calls_in g.function_table more
 
-begun : {F R : Type 0} (g : ScriptFunctions F) (text : R → List ℕ) (site : SiteContent) (found : Option FileId) (old new : R) (pieces : List (Say F)) (f : F) (argument : List ℕ) (next : Thread) → SeesCall (reply_by g text site found old) pieces f argument next
+begun : {F R : Type 0} (g : ScriptFunctions F) (text : R → List ℕ) (site : SiteContent) (found : Option FileId) (old new : R) (pieces : List (ScriptPiece F)) (f : F) (argument : List ℕ) (next : Thread) → SeesCall (reply_by g text site found old) pieces f argument next
     → Begun g text site found old new pieces f argument next
 unfolding Fits left_from
 begun g text site found old new pieces f argument next sees =
@@ -177,7 +177,7 @@ begun g text site found old new pieces f argument next sees =
       takes = call.1.takes;
       more = body_from (reply_by g text site found old) call.0;
       pieces_are = call.1.first;
-      says = λ later. refl;
+      piece_output = λ later. refl;
       ends = λ later. refl;
       calls = refl;
     })
@@ -190,7 +190,7 @@ due_left g text a site found p name due capture snapshot is_due is made =
     let reply = reply_pieces_by g.function_table.named files name in
     record {
       text = λ later.
-          b.says later
+          b.piece_output later
           ∙ ap (λ prefix. prefix ++ text_by g files b.more later) made
           ∙ sym (made_first g files due.function due.argument.now b.more snapshot later b.takes)
           ∙ ap (λ ps. text_by g files ps (snapshot ∷ later)) (sym b.pieces_are)
@@ -219,7 +219,7 @@ due_left g text a site found p name due capture snapshot is_due is made =
     }
 
 -- the record is that of the last capture
-taken_by : {F R : Type 0} (g : ScriptFunctions F) (text : R → List ℕ) (site : SiteContent) (found : Option FileId) (old new : R) (pieces : List (Say F)) (f : F) (argument : List ℕ) (next : Thread) (captures : List Snapshot) (snapshot : Snapshot) → SeesCall (reply_by g text site found old) pieces f argument next
+taken_by : {F R : Type 0} (g : ScriptFunctions F) (text : R → List ℕ) (site : SiteContent) (found : Option FileId) (old new : R) (pieces : List (ScriptPiece F)) (f : F) (argument : List ℕ) (next : Thread) (captures : List Snapshot) (snapshot : Snapshot) → SeesCall (reply_by g text site found old) pieces f argument next
     → text new ≡ made_by g (files_of site) f argument snapshot → KeepsDirective (reply_by g text site found new) (captures ++ snapshot ∷ []) next
 taken_by g text site found old new pieces f argument next captures snapshot sees made =
     let call = call_before (reply_by g text site found old) pieces f argument next sees in
@@ -239,15 +239,15 @@ due_waits : {F R : Type 0} (g : ScriptFunctions F) (text : R → List ℕ) (a : 
     → (is_acknowledged_by g (files_of site) p && waits_for_capture_by g (files_of site) (wanted p.input) p) ≡ true
 due_waits g text a site found p name due is_due is =
     let files = files_of site in
-    let output = is_said g text a site found p name is in
+    let output = is_sent g text a site found p name is in
     let b = begun g text site found a.capture a.capture is_due.pieces due.function due.argument.now due.next is_due.call in
     let none : length (text_of g text a site found) ≡ 0 = ap length (sym (is_due.history.text []) ∙ ap (λ ps. text_by g files ps []) b.pieces_are ∙ stopped_text g files due.function due.argument.now b.more b.takes) in
     let stops : end_of g text a site found ≡ false = sym (is_due.history.whole []) ∙ ap (λ ps. reach_by g ps []) b.pieces_are ∙ stopped_end g due.function due.argument.now b.more b.takes in
     (λ i. (acked_all g files p (text_of g text a site found) (end_of g text a site found) output ∙ eq-eqb (length (text_of g text a site found)) 0 none) i && (waits g files p name is.wanted ∙ ap not (output.ends ∙ stops)) i)
 
-pub due_stands : {F R : Type 0} (g : ScriptFunctions F) (text : R → List ℕ) (a : Pages R) (site : SiteContent) (found : Option FileId) (p : AppState) (due : Due F) (capture : R) (snapshot : Snapshot) → a.stage ≡ stage.Reply found → IsDueReply (reply_by g text site found a.capture) a.thread due → PagesRepresent g text a site p
+pub due_represents : {F R : Type 0} (g : ScriptFunctions F) (text : R → List ℕ) (a : Pages R) (site : SiteContent) (found : Option FileId) (p : AppState) (due : Due F) (capture : R) (snapshot : Snapshot) → a.stage ≡ stage.Reply found → IsDueReply (reply_by g text site found a.capture) a.thread due → PagesRepresent g text a site p
     → text capture ≡ made_by g (files_of site) due.function due.argument.now snapshot → PagesRepresent g text (record a { capture = capture; thread = due.next }) site (prepared g (files_of site) p snapshot)
-due_stands g text a site found p due capture snapshot e is_due s made =
+due_represents g text a site found p due capture snapshot e is_due s made =
     let is = replying g text a site p found e s in
     subst (λ q. PagesRepresent g text (begins_call a capture due.next) site q) (sym (prepared_by g (files_of site) p snapshot true (due_waits g text a site found p is.0 due is_due is.1)))
     (record {

@@ -6,8 +6,8 @@ pub mod Walking
 pub mod Finding
 pub mod Words
 pub mod Requesting
-pub mod Standing
-pub mod Telling
+pub mod Representing
+pub mod Reporting
 pub mod Asking
 pub mod Compacting
 pub mod ZeroWriting

@@ -1,5 +1,5 @@
 -- The names that the proofs of this crate cite: of std, of the crates below, and of its own definitions. Declares nothing.
-pub use Rattle.app_events.specs.Prelude.{AppState, CanSay, IsRepresented, Snapshot, text_left}
+pub use Rattle.app_events.specs.Prelude.{AppState, CanSupply, IsRepresented, Snapshot, text_left}
 pub use Rattle.app_events.specs.declared.want.Want.{Want}
 pub use Rattle.app_events.specs.declared.want.Want.TheVariants.{Abort, Close, Nothing, Send}
 pub use Rattle.file_tree.proofs.NamedLemmas.{named-nowhere}
@@ -9,8 +9,8 @@ pub use Rattle.generators.specs.Prelude.{ScriptFunctions, capture_of, capture_te
 pub use Rattle.generators.specs.declared.capture.Capture.{Capture}
 pub use Rattle.generators.specs.declared.capture.Capture.TheVariants.{Empty}
 pub use Rattle.httpd.specs.Compact.{CompactRepresent, ReceivesWord, is_target_stage, pages_kept, word_stage}
-pub use Rattle.httpd.specs.Hearing.{HasName, ReceivesMethod, ReceivesTarget, ReceivesTo, IsDecided, IsFileAsked}
-pub use Rattle.httpd.specs.HttpdRepresents.{HttpdRepresents, IsLeft, IsReplying, PagesRepresent, SaysNothing, IsRepresentedIn}
+pub use Rattle.httpd.specs.Reception.{HasName, ReceivesMethod, ReceivesTarget, ReceivesTo, IsDecided, IsFileAsked}
+pub use Rattle.httpd.specs.HttpdRepresents.{HttpdRepresents, IsLeft, IsReplying, PagesRepresent, SendsNothing, IsRepresentedIn}
 pub use Rattle.httpd.specs.Kept.{EndsCall, EndsDirective, EndsInclude, KeepsAll, KeepsDirective, KeepsOn}
 pub use Rattle.httpd.specs.Lemmas.SameLeft.{left_in, left_of_value}
 pub use Rattle.httpd.specs.Looking.{IsCallBefore, IsInPiece, IsPast, IsSpan, IsText, Leads, Sees, SeesBy, SeesCall, SeesText, SpanFits, span_text}
@@ -18,7 +18,7 @@ pub use Rattle.httpd.specs.Places.{IsBodyPlace, IsFound, IsInner, moved, thread_
 unfoldable pub use Rattle.httpd.specs.Places.{Fits}
 pub use Rattle.httpd.specs.Reply.{FileReply, body, body_from, calls_in, found_file, head_text, included, is_scripted, kind_text, reply_by, reply_in}
 unfoldable pub use Rattle.httpd.specs.Reply.{left_from}
-pub use Rattle.httpd.specs.Saying.{IsDueReply, IsNotDue, left_text, left_whole, want_left}
+pub use Rattle.httpd.specs.Transmission.{IsDueReply, IsNotDue, left_text, left_whole, want_left}
 pub use Rattle.httpd.specs.Web.{WebContent}
 pub use Rattle.httpd.specs.Zero.{IsAsked}
 pub use Rattle.httpd.specs.declared.compact.CompactPages.{CompactPages}
@@ -30,7 +30,7 @@ pub use Rattle.httpd.specs.declared.span.Span.{Span}
 pub use Rattle.httpd.specs.declared.stage.Stage.{Stage}
 pub use Rattle.httpd.specs.declared.thread.Thread.{Thread}
 pub use Rattle.httpd.specs.declared.thread.Thread.TheVariants.{Body, End, Head, Inside, Kind, Making}
-pub use Rattle.protosocket.specs.Prelude.{Line, after, delivered, fresh, hears_joined, is_query_mark, is_stop, none_at_all, none_before, one_before, part_taken, takes_prefix, word_of}
+pub use Rattle.protosocket.specs.Prelude.{Line, after, delivered, fresh, receives_joined, is_query_mark, is_stop, none_at_all, none_before, one_before, part_taken, takes_prefix, word_of}
 pub use Rattle.protosocket.specs.declared.stops.Stops.{Stops}
 pub use Rattle.protosocket.specs.declared.stops.Stops.TheVariants.{Space, SpaceOrLine}
 pub use Rattle.script_lang.proofs.PieceLemmas.{found-goes, pieces_by-step, run-rest}
@@ -63,5 +63,5 @@ pub use Rattle.uip_edge.specs.declared.failed.Failed.{Failed}
 pub use Rattle.web_pages.proofs.Limits.{content_small, kind_small}
 pub use Rattle.web_pages.proofs.OwnState.{made_prefix}
 pub use Rattle.web_pages.proofs.ZeroLaws.{zero_asked, zero_text}
-pub use Rattle.web_pages.specs.Prelude.{Made, Name, NotYet, Plain, Refused, Say, Wanted, after_method, after_more, bytes_or, decided_by_target, ended_more, has_ended, hits_by, is_acknowledged_by, is_whole_by, kind_line, left_of_by, made_by, made_end, made_first, method_of, method_open, more_by, name_in, name_stays, other_method, page_by, page_for_by, place_of, reach_by, refused_stays, reply_pieces_by, reply_to_by, request_for, says, silent_end, silent_text, stopped_end, stopped_text, target_of, target_open, text_by, text_grows, waits_for_capture_by, wanted, web_spec, web_spec_by, web_want_by, whole_for_by, word_more, zero_page, zero_reply, zero_said, zero_snapshot}
+pub use Rattle.web_pages.specs.Prelude.{Made, Name, NotYet, Plain, Refused, ScriptPiece, Wanted, after_method, after_more, bytes_or, decided_by_target, ended_more, has_ended, hits_by, is_acknowledged_by, is_whole_by, kind_line, left_of_by, made_by, made_end, made_first, method_of, method_open, more_by, name_in, name_stays, other_method, page_by, page_for_by, place_of, reach_by, refused_stays, reply_pieces_by, reply_to_by, request_for, piece_output, silent_end, silent_text, stopped_end, stopped_text, target_of, target_open, text_by, text_grows, waits_for_capture_by, wanted, web_spec, web_spec_by, web_want_by, whole_for_by, word_more, zero_page, zero_reply, zero_piece_text, zero_snapshot}
 pub use Rattle.web_pages.specs.declared.TheConstants.{LARGEST_SEGMENT}

@@ -1,11 +1,11 @@
 -- The request line after one more piece.
 use Rattle.httpd.proofs.Prelude.{◌≡◌, ℕ, ◌+◌, ◌&&◌, true, false, not, List, ◌++◌, length, drop, codes, sym, ap, ◌∙◌, if◌then◌else◌, nat_eq, list_any, starts_with, bytes_eq, Space, SpaceOrLine, Line, after, fresh, delivered, is_stop, part_taken, word_of, after_method, has_ended, method_of, name_in, target_of, wanted, Name, Refused, after_more, ended_more, word_more, HasName, ReceivesMethod, ReceivesTarget, decided_by_target, other_method}
-use Rattle.httpd.proofs.Words.{EndsHere, ends_here, prefix_of, get_heard, heard_more, path_heard, rest_of}
+use Rattle.httpd.proofs.Words.{EndsHere, ends_here, prefix_of, get_received, received_more, path_received, rest_of}
 
 -- ---- the first word
 
 method_holds : (old line : Line) (request piece : List ℕ) → ReceivesMethod old request → line ≡ after old piece → line ≡ delivered Space (request ++ piece)
-method_holds old line request piece is e = e ∙ ap (λ l. after l piece) is.holds ∙ heard_more Space request piece
+method_holds old line request piece is e = e ∙ ap (λ l. after l piece) is.holds ∙ received_more Space request piece
 
 pub method_goes_on : (old line : Line) (request piece : List ℕ) → ReceivesMethod old request → line ≡ after old piece → line.done ≡ false → ReceivesMethod line (request ++ piece)
 method_goes_on old line request piece is e open_still =
@@ -14,7 +14,7 @@ method_goes_on old line request piece is e open_still =
 
 -- the method has ended, and whether it is `GET`
 is_get_reported : (line : Line) (bytes : List ℕ) → line ≡ delivered Space bytes → (not line.query && bytes_eq line.name (codes "GET")) ≡ bytes_eq (word_of Space bytes) (codes "GET")
-is_get_reported line bytes holds = ap (λ (l : Line). not l.query && bytes_eq l.name (codes "GET")) holds ∙ get_heard (word_of Space bytes)
+is_get_reported line bytes holds = ap (λ (l : Line). not l.query && bytes_eq l.name (codes "GET")) holds ∙ get_received (word_of Space bytes)
 
 pub method_refused : (old line : Line) (request piece : List ℕ) → ReceivesMethod old request → line ≡ after old piece → line.done ≡ true → (not line.query && bytes_eq line.name (codes "GET")) ≡ false
     → wanted (request ++ piece) ≡ Refused
@@ -63,7 +63,7 @@ goes : (old line : Line) (request piece : List ℕ) → ReceivesTarget old reque
 goes old line request piece is e = record {
   method_ended = ended_more Space request piece is.method_ended;
   method = ap (λ w. bytes_eq w (codes "GET")) (word_more Space request piece is.method_ended) ∙ is.method;
-  holds = e ∙ ap (λ l. after l piece) is.holds ∙ heard_more SpaceOrLine (after_method request) piece
+  holds = e ∙ ap (λ l. after l piece) is.holds ∙ received_more SpaceOrLine (after_method request) piece
       ∙ ap (delivered SpaceOrLine) (sym (after_more request piece is.method_ended));
 }
 
@@ -78,7 +78,7 @@ decided old line request piece is e done =
     let g = goes old line request piece is e in
     decided_by_target (request ++ piece) g.method_ended g.method (sym (ap (λ (l : Line). l.done) g.holds) ∙ done)
     ∙ ap (λ b. if b then Name (name_in (target_of (request ++ piece))) else Refused)
-    (sym (ap (λ (l : Line). starts_with nat_eq l.name (codes "/")) g.holds ∙ path_heard (target_of (request ++ piece))))
+    (sym (ap (λ (l : Line). starts_with nat_eq l.name (codes "/")) g.holds ∙ path_received (target_of (request ++ piece))))
 
 pub target_named : (old line : Line) (request piece : List ℕ) → ReceivesTarget old request → line ≡ after old piece → line.done ≡ true → starts_with nat_eq line.name (codes "/") ≡ true → HasName line (request ++ piece)
 target_named old line request piece is e done path = record {

@@ -1,5 +1,5 @@
 -- The span at a thread in a script.
-use Rattle.httpd.proofs.Prelude.{◌≡◌, ℕ, ◌+◌, ◌-◌, ◌<◌, ◌≤◌, Bool, true, false, ◌⊎◌, inl, inr, List, [], ◌∷◌, length, take, drop, map, min, refl, sym, ap, subst, ◌∙◌, arith, true≢false, if◌then◌else◌, slice_range, nat_lt, ◌&&◌, not, drop-drop, drop-take, take-take, FoundOf, PieceOf, Text, Include, Call, is_byte, word, word_start, word_end, IsPlace, begins, is_directive_mark, is_inside_directive, line_end, before_cr, directive, piece_by, pieces_by, run_end, found-goes, pieces_by-step, run-rest, first_place-is, run-inside, file_named, Say, bytes_or, says, Plain, Made, Span, Body, FileReply, body, body_from, is_scripted, left_from, Fits, IsBodyPlace, IsInner, EndsCall, EndsDirective, EndsInclude, IsSpan, Sees}
+use Rattle.httpd.proofs.Prelude.{◌≡◌, ℕ, ◌+◌, ◌-◌, ◌<◌, ◌≤◌, Bool, true, false, ◌⊎◌, inl, inr, List, [], ◌∷◌, length, take, drop, map, min, refl, sym, ap, subst, ◌∙◌, arith, true≢false, if◌then◌else◌, slice_range, nat_lt, ◌&&◌, not, drop-drop, drop-take, take-take, FoundOf, PieceOf, Text, Include, Call, is_byte, word, word_start, word_end, IsPlace, begins, is_directive_mark, is_inside_directive, line_end, before_cr, directive, piece_by, pieces_by, run_end, found-goes, pieces_by-step, run-rest, first_place-is, run-inside, file_named, ScriptPiece, bytes_or, piece_output, Plain, Made, Span, Body, FileReply, body, body_from, is_scripted, left_from, Fits, IsBodyPlace, IsInner, EndsCall, EndsDirective, EndsInclude, IsSpan, Sees}
 use Rattle.httpd.proofs.Seeing.{IsFurther, sees_first, sees_prefix, span_along}
 
 -- what `next_piece` returns for a piece that it found
@@ -28,21 +28,21 @@ body_place r at is = record { within = is.0; between = λ script opened. between
 pub inner_place : {F : Type 0} (r : FileReply F) (at : ℕ) → is_scripted r.file ≡ true → IsPlace (body r) at → IsInner r at
 inner_place r at script is = record { script = script; goes_on = body_place r at is }
 
-pub script_from : {F : Type 0} (r : FileReply F) (a : ℕ) → is_scripted r.file ≡ true → body_from r a ≡ map (λ found. says r.files (body r) found.piece) (pieces_by r.functions.function_table.named (body r) a)
-script_from r a e = ap (λ b. if b then map (λ found. says r.files (body r) found.piece) (pieces_by r.functions.function_table.named (body r) a) else Plain (drop a (body r)) ∷ []) e
+pub script_from : {F : Type 0} (r : FileReply F) (a : ℕ) → is_scripted r.file ≡ true → body_from r a ≡ map (λ found. piece_output r.files (body r) found.piece) (pieces_by r.functions.function_table.named (body r) a)
+script_from r a e = ap (λ b. if b then map (λ found. piece_output r.files (body r) found.piece) (pieces_by r.functions.function_table.named (body r) a) else Plain (drop a (body r)) ∷ []) e
 
 -- the first piece and the further ones
 pub script_step : {F : Type 0} (r : FileReply F) (at : ℕ) (found : FoundOf F) → is_scripted r.file ≡ true → pieces_by r.functions.function_table.named (body r) at ≡ found ∷ pieces_by r.functions.function_table.named (body r) found.next
-    → left_from r (Body at) ≡ says r.files (body r) found.piece ∷ body_from r found.next
+    → left_from r (Body at) ≡ piece_output r.files (body r) found.piece ∷ body_from r found.next
 unfolding left_from
 script_step r at found script e =
     script_from r at script
-    ∙ ap (λ ps. map (λ f. says r.files (body r) f.piece) ps) e
-    ∙ ap (λ more. says r.files (body r) found.piece ∷ more) (sym (script_from r found.next script))
+    ∙ ap (λ ps. map (λ f. piece_output r.files (body r) f.piece) ps) e
+    ∙ ap (λ more. piece_output r.files (body r) found.piece ∷ more) (sym (script_from r found.next script))
 
 pub script_end : {F : Type 0} (r : FileReply F) (at : ℕ) → is_scripted r.file ≡ true → pieces_by r.functions.function_table.named (body r) at ≡ [] → left_from r (Body at) ≡ []
 unfolding left_from
-script_end r at script e = script_from r at script ∙ ap (λ ps. map (λ f. says r.files (body r) f.piece) ps) e
+script_end r at script e = script_from r at script ∙ ap (λ ps. map (λ f. piece_output r.files (body r) f.piece) ps) e
 
 same_first : {F : Type 0} (f g : FoundOf F) (xs ys : List (FoundOf F)) → f ∷ xs ≡ g ∷ ys → f ≡ g
 same_first f g xs ys e = cc
@@ -115,7 +115,7 @@ run_further r at n script short closed within inside =
       fits = record { within = omega (arith, inside, high); between = λ t opened. absurd (true≢false (sym opened ∙ there.1)) };
       small = omega (arith, inside, high, short);
       pieces = script_from r (at + n) script
-          ∙ ap (λ ps. map (λ f. says r.files (body r) f.piece) ps) rest
+          ∙ ap (λ ps. map (λ f. piece_output r.files (body r) f.piece) ps) rest
           ∙ ap (λ m. Plain (slice_range (body r) (at + n) ((at + n) + (run_end (body r) at - (at + n)))) ∷ m) (sym (script_from r (run_end (body r) at) script))
           ∙ ap (λ f. Plain f ∷ body_from r (run_end (body r) at)) (slice_past (body r) at (run_end (body r) at) n (omega (arith, inside)));
     }
@@ -129,7 +129,7 @@ run_seen {F = F} text r at from len next s script is short read span =
     let place : IsPlace (body r) at = is_place r at script is in
     let closed : is_inside_directive (body r) at ≡ false = closed_at (body r) at before place.1 in
     let run : IsRun (body r) at from len next = run_of r.functions.function_table.named (body r) at from len next (piece_read r.functions.function_table.named (body r) at (text_found from len next) place before read.pieces) in
-    let more : List (Say F) = body_from r next in
+    let more : List (ScriptPiece F) = body_from r next in
     let prefix : slice_range (body r) at (at + len) ≡ slice_range (body r) from (from + len) = ap (λ a. slice_range (body r) a (a + len)) (sym run.from_is) in
     let end_is : at + len ≡ run_end (body r) at = omega (arith, run.len_is, run.next_is, read.after) in
     subst (λ ps. Sees text r ps (record { span = s; here = Body at; next = Body next }))
@@ -150,7 +150,7 @@ long_seen {F = F} text r at n s script is short some long span =
     let before : at < length (body r) = omega (arith, long, high) in
     let closed : is_inside_directive (body r) at ≡ false = closed_at (body r) at before (is_place r at script is).1 in
     let prefix : List ℕ = slice_range (body r) at (run_end (body r) at) in
-    let more : List (Say F) = body_from r (run_end (body r) at) in
+    let more : List (ScriptPiece F) = body_from r (run_end (body r) at) in
     let further : (k : ℕ) → at + k < run_end (body r) at → IsFurther r prefix more (Body at) k = λ k inside. run_further r at k script short closed (omega (arith, before)) inside in
     let here : left_from r (Body at) ≡ Plain prefix ∷ more = ap (λ a. left_from r (Body a)) (omega arith) ∙ (further 0 (omega (arith, long))).pieces in
     let size : length prefix ≡ run_end (body r) at - at = omega (arith, Rattle.std.proofs.Common.length-take (run_end (body r) at - at) (drop at (body r)), Rattle.std.proofs.Common.length-drop at (body r), high) in
@@ -169,14 +169,14 @@ pub include_step : {F : Type 0} (r : FileReply F) (at : ℕ) (script : List ℕ)
     → Plain (bytes_or [] (file_named r.files (slice_range script from (from + len)))) ∷ body_from r read.next ≡ left_from r (Body at)
 include_step r at script read from len e scripted reads is =
     ap (λ s. Plain (bytes_or [] (file_named r.files (slice_range s from (from + len)))) ∷ body_from r read.next) e
-    ∙ ap (λ p. says r.files (body r) p ∷ body_from r read.next) (sym is)
+    ∙ ap (λ p. piece_output r.files (body r) p ∷ body_from r read.next) (sym is)
     ∙ sym (script_step r at read scripted reads.pieces)
 
 pub call_step : {F : Type 0} (r : FileReply F) (at : ℕ) (script : List ℕ) (read : FoundOf F) (f : F) (from len : ℕ) → script ≡ body r → is_scripted r.file ≡ true → Reads r.functions.function_table.named (body r) at read → read.piece ≡ Call f from len
     → Made f (slice_range script from (from + len)) ∷ body_from r read.next ≡ left_from r (Body at)
 call_step r at script read f from len e scripted reads is =
     ap (λ s. Made f (slice_range s from (from + len)) ∷ body_from r read.next) e
-    ∙ ap (λ p. says r.files (body r) p ∷ body_from r read.next) (sym is)
+    ∙ ap (λ p. piece_output r.files (body r) p ∷ body_from r read.next) (sym is)
     ∙ sym (script_step r at read scripted reads.pieces)
 
 -- ---- the directive that ends where a script continues

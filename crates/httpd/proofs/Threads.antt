@@ -1,6 +1,6 @@
 -- The span at each kind of thread.
 -- [add: piece] What a thread in the piece finds.
-use Rattle.httpd.proofs.Prelude.{◌≡◌, ℕ, ◌<◌, ◌≤◌, false, List, [], ◌∷◌, ◌++◌, length, drop, codes, refl, sym, ap, ◌∙◌, arith, true≢false, length-append, if◌then◌else◌, FileId, kind_line, says, Plain, Span, Head, Kind, Body, Inside, Making, End, FileReply, body, body_from, head_text, included, is_scripted, kind_text, left_from, Fits, IsBodyPlace, IsInner, IsSpan, Sees}
+use Rattle.httpd.proofs.Prelude.{◌≡◌, ℕ, ◌<◌, ◌≤◌, false, List, [], ◌∷◌, ◌++◌, length, drop, codes, refl, sym, ap, ◌∙◌, arith, true≢false, length-append, if◌then◌else◌, FileId, kind_line, piece_output, Plain, Span, Head, Kind, Body, Inside, Making, End, FileReply, body, body_from, head_text, included, is_scripted, kind_text, left_from, Fits, IsBodyPlace, IsInner, IsSpan, Sees}
 use Rattle.httpd.proofs.Seeing.{rest_seen}
 
 pub line_short : (kind : List ℕ) → length kind ≤ 64 → length (kind_line kind) ≤ 16777216
@@ -26,7 +26,7 @@ kind_seen text r at s h short is =
     (λ n. refl) refl (λ a. refl) (λ a k. k) refl (prefix_place r) (λ captures. tt)
 
 pub plain_from : {F : Type 0} (r : FileReply F) (a : ℕ) → is_scripted r.file ≡ false → body_from r a ≡ Plain (drop a (body r)) ∷ []
-plain_from r a e = ap (λ b. if b then Rattle.std.specs.Prelude.map (λ found. says r.files (body r) found.piece) (Rattle.script_lang.specs.Pieces.pieces_by r.functions.function_table.named (body r) a) else Plain (drop a (body r)) ∷ []) e
+plain_from r a e = ap (λ b. if b then Rattle.std.specs.Prelude.map (λ found. piece_output r.files (body r) found.piece) (Rattle.script_lang.specs.Pieces.pieces_by r.functions.function_table.named (body r) a) else Plain (drop a (body r)) ∷ []) e
 
 pub plain_seen : {R F : Type 0} (text : R → List ℕ) (r : FileReply F) (at : ℕ) (s : Span R F) → is_scripted r.file ≡ false → at ≤ length (body r) → length (body r) ≤ 16777216 → IsSpan text s (drop at (body r))
     → Sees text r (Plain (drop at (body r)) ∷ []) (record { span = s; here = Body at; next = End })

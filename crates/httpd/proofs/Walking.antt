@@ -1,25 +1,25 @@
 -- Going from piece to piece.
 -- [add: piece] The step to the next piece.
-use Rattle.httpd.proofs.Prelude.{◌≡◌, ℕ, ◌+◌, ◌-◌, ◌<◌, ◌≤◌, ◌==◌, ◌&&◌, min, Bool, true, false, List, [], ◌∷◌, ◌++◌, length, take, drop, nat_lt, refl, sym, ap, subst, ◌∙◌, arith, length-append, length-drop, true≢false, inl, inr, if◌then◌else◌, cases_eq, ne_eqb, lt-ltb, drop-drop, drop_at, Want, Nothing, Send, Close, File, ScriptFunctions, Say, reach_by, text_by, stopped_text, stopped_end, Span, Look, Thread, Head, Kind, Body, Inside, Making, End, FileReply, body_from, left_from, Fits, moved, thread_place, KeepsOn, want_left, IsCallBefore, IsText, IsPast, Leads, Sees, SeesBy, SeesCall, SeesText, span_text}
+use Rattle.httpd.proofs.Prelude.{◌≡◌, ℕ, ◌+◌, ◌-◌, ◌<◌, ◌≤◌, ◌==◌, ◌&&◌, min, Bool, true, false, List, [], ◌∷◌, ◌++◌, length, take, drop, nat_lt, refl, sym, ap, subst, ◌∙◌, arith, length-append, length-drop, true≢false, inl, inr, if◌then◌else◌, cases_eq, ne_eqb, lt-ltb, drop-drop, drop_at, Want, Nothing, Send, Close, File, ScriptFunctions, ScriptPiece, reach_by, text_by, stopped_text, stopped_end, Span, Look, Thread, Head, Kind, Body, Inside, Making, End, FileReply, body_from, left_from, Fits, moved, thread_place, KeepsOn, want_left, IsCallBefore, IsText, IsPast, Leads, Sees, SeesBy, SeesCall, SeesText, span_text}
 use Rattle.httpd.specs.declared.span.Span.TheVariants as span
 use Rattle.httpd.proofs.Seeing.{keeps_in}
 
 -- ---- text past a place
 
-pub past_none : {F : Type 0} (g : ScriptFunctions F) (files : List File) (a : List (Say F)) → IsPast g files 0 a a
+pub past_none : {F : Type 0} (g : ScriptFunctions F) (files : List File) (a : List (ScriptPiece F)) → IsPast g files 0 a a
 past_none g files a = record { text = λ later. refl; whole = λ later. refl; calls = refl }
 
-pub past_more : {F : Type 0} (g : ScriptFunctions F) (files : List File) (n m : ℕ) (a b c : List (Say F)) → IsPast g files n a b → IsPast g files m b c → IsPast g files (n + m) a c
+pub past_more : {F : Type 0} (g : ScriptFunctions F) (files : List File) (n m : ℕ) (a b c : List (ScriptPiece F)) → IsPast g files n a b → IsPast g files m b c → IsPast g files (n + m) a c
 past_more g files n m a b c p q = record {
   text = λ later. q.text later ∙ ap (λ xs. drop m xs) (p.text later) ∙ drop-drop m n (text_by g files a later);
   whole = λ later. q.whole later ∙ p.whole later;
   calls = q.calls ∙ p.calls;
 }
 
-pub past_to : {F : Type 0} (g : ScriptFunctions F) (files : List File) (n m : ℕ) (a b : List (Say F)) → n ≡ m → IsPast g files n a b → IsPast g files m a b
+pub past_to : {F : Type 0} (g : ScriptFunctions F) (files : List File) (n m : ℕ) (a b : List (ScriptPiece F)) → n ≡ m → IsPast g files n a b → IsPast g files m a b
 past_to g files n m a b e p = subst (λ k. IsPast g files k a b) e p
 
-past_leads : {F : Type 0} (g : ScriptFunctions F) (files : List File) (a b : List (Say F)) (prefix : List ℕ) (n : ℕ) → n ≡ length prefix → Leads g files a prefix b → IsPast g files n a b
+past_leads : {F : Type 0} (g : ScriptFunctions F) (files : List File) (a b : List (ScriptPiece F)) (prefix : List ℕ) (n : ℕ) → n ≡ length prefix → Leads g files a prefix b → IsPast g files n a b
 past_leads g files a b prefix n e leads = record {
   text = λ later. sym (ap (λ xs. drop n xs) (leads.text later) ∙ drop_at prefix (text_by g files b later) n (sym e));
   whole = λ later. sym (leads.whole later);
@@ -27,12 +27,12 @@ past_leads g files a b prefix n e leads = record {
 }
 
 -- how much is left past a place
-pub left_past : {F : Type 0} (g : ScriptFunctions F) (files : List File) (n : ℕ) (a b : List (Say F)) → IsPast g files n a b → length (text_by g files b []) ≡ length (text_by g files a []) - n
+pub left_past : {F : Type 0} (g : ScriptFunctions F) (files : List File) (n : ℕ) (a b : List (ScriptPiece F)) → IsPast g files n a b → length (text_by g files b []) ≡ length (text_by g files a []) - n
 left_past g files n a b p = ap length (p.text []) ∙ length-drop n (text_by g files a [])
 
 -- ---- what is seen where text is left
 
-pub call_before : {F : Type 0} (r : FileReply F) (pieces : List (Say F)) (f : F) (argument : List ℕ) (t : Thread) → SeesCall r pieces f argument t → (next : ℕ) × IsCallBefore r pieces f argument next × (t ≡ Making next 0)
+pub call_before : {F : Type 0} (r : FileReply F) (pieces : List (ScriptPiece F)) (f : F) (argument : List ℕ) (t : Thread) → SeesCall r pieces f argument t → (next : ℕ) × IsCallBefore r pieces f argument next × (t ≡ Making next 0)
 call_before r pieces f argument (Making next at) s = (next, s.0, ap (λ n. Making next n) s.1)
 call_before r pieces f argument (Head at) s = absurd s
 call_before r pieces f argument (Kind at) s = absurd s
@@ -41,7 +41,7 @@ call_before r pieces f argument (Inside next file at) s = absurd s
 call_before r pieces f argument End s = absurd s
 
 -- before a call nothing is left, and the end is not reached
-pub call_stops : {F : Type 0} (r : FileReply F) (pieces : List (Say F)) (f : F) (argument : List ℕ) (t : Thread) → SeesCall r pieces f argument t
+pub call_stops : {F : Type 0} (r : FileReply F) (pieces : List (ScriptPiece F)) (f : F) (argument : List ℕ) (t : Thread) → SeesCall r pieces f argument t
     → (text_by r.functions r.files pieces [] ≡ []) × (reach_by r.functions pieces [] ≡ false)
 call_stops r pieces f argument t s =
     let call = call_before r pieces f argument t s in
@@ -50,7 +50,7 @@ call_stops r pieces f argument t s =
       ap (λ p. reach_by r.functions p []) call.1.first ∙ stopped_end r.functions f argument more call.1.takes,
     )
 
-some_by : {R F : Type 0} (text : R → List ℕ) (r : FileReply F) (pieces : List (Say F)) (look : Look R F) (s : Span R F) → SeesBy text r pieces look s → 0 < length (text_by r.functions r.files pieces []) → SeesText text r pieces look
+some_by : {R F : Type 0} (text : R → List ℕ) (r : FileReply F) (pieces : List (ScriptPiece F)) (look : Look R F) (s : Span R F) → SeesBy text r pieces look s → 0 < length (text_by r.functions r.files pieces []) → SeesText text r pieces look
 some_by text r pieces look (span.Bytes world send) sees h = sees
 some_by text r pieces look (span.Line kind at) sees h = sees
 some_by text r pieces look (span.Made capture at end) sees h = sees
@@ -61,7 +61,7 @@ some_by text r pieces look span.End sees h =
     let none : length (text_by r.functions r.files pieces []) ≡ 0 = ap (λ p. length (text_by r.functions r.files p [])) sees in
     absurd (omega (arith, none, h))
 
-pub some_seen : {R F : Type 0} (text : R → List ℕ) (r : FileReply F) (pieces : List (Say F)) (look : Look R F) → Sees text r pieces look → 0 < length (text_by r.functions r.files pieces []) → SeesText text r pieces look
+pub some_seen : {R F : Type 0} (text : R → List ℕ) (r : FileReply F) (pieces : List (ScriptPiece F)) (look : Look R F) → Sees text r pieces look → 0 < length (text_by r.functions r.files pieces []) → SeesText text r pieces look
 some_seen text r pieces look sees h = some_by text r pieces look look.span sees.sees h
 
 -- ---- a walk
@@ -229,21 +229,21 @@ text_unless (span.Made capture at last) call end = tt
 text_unless (span.Call f argument) call end = call f argument refl
 text_unless span.End call end = end refl
 
-plain_by : {R F : Type 0} (text : R → List ℕ) (r : FileReply F) (pieces : List (Say F)) (look : Look R F) (s : Span R F) → IsText s → SeesBy text r pieces look s → SeesText text r pieces look
+plain_by : {R F : Type 0} (text : R → List ℕ) (r : FileReply F) (pieces : List (ScriptPiece F)) (look : Look R F) (s : Span R F) → IsText s → SeesBy text r pieces look s → SeesText text r pieces look
 plain_by text r pieces look (span.Bytes world send) t sees = sees
 plain_by text r pieces look (span.Line kind at) t sees = sees
 plain_by text r pieces look (span.Made capture at end) t sees = sees
 plain_by text r pieces look (span.Call f argument) t sees = absurd t
 plain_by text r pieces look span.End t sees = absurd t
 
-pub plain_seen : {R F : Type 0} (text : R → List ℕ) (r : FileReply F) (pieces : List (Say F)) (look : Look R F) → IsText look.span → Sees text r pieces look → SeesText text r pieces look
+pub plain_seen : {R F : Type 0} (text : R → List ℕ) (r : FileReply F) (pieces : List (ScriptPiece F)) (look : Look R F) → IsText look.span → Sees text r pieces look → SeesText text r pieces look
 plain_seen text r pieces look t sees = plain_by text r pieces look look.span t sees.sees
 
-pub call_seen : {R F : Type 0} (text : R → List ℕ) (r : FileReply F) (pieces : List (Say F)) (look : Look R F) (f : F) (argument : Rattle.std.proofs.Common.Bor (List ℕ)) → look.span ≡ span.Call f argument → Sees text r pieces look
+pub call_seen : {R F : Type 0} (text : R → List ℕ) (r : FileReply F) (pieces : List (ScriptPiece F)) (look : Look R F) (f : F) (argument : Rattle.std.proofs.Common.Bor (List ℕ)) → look.span ≡ span.Call f argument → Sees text r pieces look
     → SeesCall r pieces f argument.now look.next
 call_seen text r pieces look f argument e sees = subst (λ s. SeesBy text r pieces look s) e sees.sees
 
-pub end_reached : {R F : Type 0} (text : R → List ℕ) (r : FileReply F) (pieces : List (Say F)) (look : Look R F) → look.span ≡ span.End → Sees text r pieces look → pieces ≡ []
+pub end_reached : {R F : Type 0} (text : R → List ℕ) (r : FileReply F) (pieces : List (ScriptPiece F)) (look : Look R F) → look.span ≡ span.End → Sees text r pieces look → pieces ≡ []
 end_reached text r pieces look e sees = subst (λ s. SeesBy text r pieces look s) e sees.sees
 
 -- a walk continues after a piece that takes no capture

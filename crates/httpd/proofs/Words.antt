@@ -1,10 +1,10 @@
 -- What a line holds of the words delivered.
-use Rattle.httpd.proofs.Prelude.{◌≡◌, ℕ, suc, ◌+◌, ◌-◌, ◌<◌, ◌≤◌, ◌||◌, ◌&&◌, Bool, true, false, not, cond, List, [], ◌∷◌, ◌++◌, length, take, drop, nat_lt, codes, refl, sym, ap, subst, ◌∙◌, inl, inr, arith, if◌then◌else◌, true≢false, length-append, length-take, append_assoc, nat_eq, before_first, list_any, starts_with, bytes_eq, cases_lt, lt-ltb, le-ltb, ltb-true, ltb-false, or_parts, leb-true, and_parts, drop_all, take_all, take-append-drop, list_any-append, bytes_eq-Decides, File, has_name, IsLoaded, SiteContent, files_of, Stops, Space, SpaceOrLine, Line, after, fresh, delivered, is_query_mark, is_stop, word_of, hears_joined, none_at_all, none_before, one_before, after_method, has_ended, method_of, name_in}
+use Rattle.httpd.proofs.Prelude.{◌≡◌, ℕ, suc, ◌+◌, ◌-◌, ◌<◌, ◌≤◌, ◌||◌, ◌&&◌, Bool, true, false, not, cond, List, [], ◌∷◌, ◌++◌, length, take, drop, nat_lt, codes, refl, sym, ap, subst, ◌∙◌, inl, inr, arith, if◌then◌else◌, true≢false, length-append, length-take, append_assoc, nat_eq, before_first, list_any, starts_with, bytes_eq, cases_lt, lt-ltb, le-ltb, ltb-true, ltb-false, or_parts, leb-true, and_parts, drop_all, take_all, take-append-drop, list_any-append, bytes_eq-Decides, File, has_name, IsLoaded, SiteContent, files_of, Stops, Space, SpaceOrLine, Line, after, fresh, delivered, is_query_mark, is_stop, word_of, receives_joined, none_at_all, none_before, one_before, after_method, has_ended, method_of, name_in}
 use Rattle.httpd.proofs.Sizes.{name_short}
 
 -- a line that was fed some bytes is fed more
-pub heard_more : (stops : Stops) (bytes piece : List ℕ) → after (delivered stops bytes) piece ≡ delivered stops (bytes ++ piece)
-heard_more stops bytes piece = sym ((hears_joined (fresh stops) bytes piece).0)
+pub received_more : (stops : Stops) (bytes piece : List ℕ) → after (delivered stops bytes) piece ≡ delivered stops (bytes ++ piece)
+received_more stops bytes piece = sym ((receives_joined (fresh stops) bytes piece).0)
 
 -- ---- the method
 
@@ -31,8 +31,8 @@ cut_test xs ys n short = elim (cases_lt n (length xs)) [
 ]
 
 -- a word with a `?` in it is not `GET`
-pub get_heard : (word : List ℕ) → (not (list_any is_query_mark word) && bytes_eq (take 64 (before_first is_query_mark word)) (codes "GET")) ≡ bytes_eq word (codes "GET")
-get_heard word = by (list_any is_query_mark word) refl
+pub get_received : (word : List ℕ) → (not (list_any is_query_mark word) && bytes_eq (take 64 (before_first is_query_mark word)) (codes "GET")) ≡ bytes_eq word (codes "GET")
+get_received word = by (list_any is_query_mark word) refl
   where
     by : (m : Bool) → list_any is_query_mark word ≡ m → (not m && bytes_eq (take 64 (before_first is_query_mark word)) (codes "GET")) ≡ bytes_eq word (codes "GET")
     by true e = sym (not_same word (codes "GET") (λ same. true≢false (sym e ∙ ap (λ w. list_any is_query_mark w) same)))
@@ -46,7 +46,7 @@ pub cut_stops : (p : ℕ → Bool) (xs : List ℕ) → list_any p xs ≡ true
     → (list_any p (take (length (before_first p xs) + 1) xs) ≡ true) × (before_first p (take (length (before_first p xs) + 1) xs) ≡ before_first p xs) × (length (before_first p xs) + 1 ≤ length xs)
 cut_stops p xs e =
     let fits : length (before_first p xs) + 1 ≤ length xs =
-    subst (λ b. length (before_first p xs) + (if b then 1 else 0) ≤ length xs) e (Rattle.protosocket.specs.Lemmas.Hearing.stop_fits p xs) in
+    subst (λ b. length (before_first p xs) + (if b then 1 else 0) ≤ length xs) e (Rattle.protosocket.specs.Lemmas.Reception.stop_fits p xs) in
     by (length (before_first p xs) + 1) refl (take-append-drop (length (before_first p xs) + 1) xs) fits (list_any p (take (length (before_first p xs) + 1) xs)) refl
   where
     by : (n : ℕ) → n ≡ length (before_first p xs) + 1 → take n xs ++ drop n xs ≡ xs → n ≤ length xs → (b : Bool) → list_any p (take n xs) ≡ b
@@ -104,9 +104,9 @@ first_later : (p : ℕ → Bool) (x : ℕ) (xs : List ℕ) → p x ≡ false →
 first_later p x xs e = Rattle.std.proofs.lemmas.List.Sums.take_while-cons (λ b. not (p b)) x xs ∙ ap (λ b. cond (not b) (x ∷ before_first p xs) []) e
 
 -- the prefix of its name determines whether a word begins with `/`
-pub path_heard : (word : List ℕ) → starts_with nat_eq (take 64 (before_first is_query_mark word)) (codes "/") ≡ starts_with nat_eq word (codes "/")
-path_heard [] = refl
-path_heard (x ∷ xs) = by (is_query_mark x) refl
+pub path_received : (word : List ℕ) → starts_with nat_eq (take 64 (before_first is_query_mark word)) (codes "/") ≡ starts_with nat_eq word (codes "/")
+path_received [] = refl
+path_received (x ∷ xs) = by (is_query_mark x) refl
   where
     by : (m : Bool) → is_query_mark x ≡ m → starts_with nat_eq (take 64 (before_first is_query_mark (x ∷ xs))) (codes "/") ≡ starts_with nat_eq (x ∷ xs) (codes "/")
     by true e =
@@ -116,9 +116,9 @@ path_heard (x ∷ xs) = by (is_query_mark x) refl
     by false e = ap (λ w. starts_with nat_eq (take 64 w) (codes "/")) (first_later is_query_mark x xs e)
 
 -- the name of a target, from what the line holds of it
-pub name_heard : (word : List ℕ) → nat_lt 64 (length (before_first is_query_mark word)) ≡ false
+pub name_received : (word : List ℕ) → nat_lt 64 (length (before_first is_query_mark word)) ≡ false
     → (if bytes_eq (take 64 (before_first is_query_mark word)) (codes "/") then codes "/index.html" else take 64 (before_first is_query_mark word)) ≡ name_in word
-name_heard word short =
+name_received word short =
     let whole : take 64 (before_first is_query_mark word) ≡ before_first is_query_mark word = take_all 64 (before_first is_query_mark word) (ltb-false 64 (length (before_first is_query_mark word)) short) in
     ap (λ n. if bytes_eq n (codes "/") then codes "/index.html" else n) whole
 
@@ -146,7 +146,7 @@ asked line = if bytes_eq line.name (codes "/") then codes "/index.html" else lin
 -- a line that was fed all of a name holds it
 pub asked_name : (inside line : Line) (bytes : List ℕ) → inside ≡ line → line ≡ delivered SpaceOrLine bytes → inside.over ≡ false → asked line ≡ name_in (word_of SpaceOrLine bytes)
 asked_name inside line bytes e holds short =
-    ap asked holds ∙ name_heard (word_of SpaceOrLine bytes) (sym (ap (λ (l : Line). l.over) (e ∙ holds)) ∙ short)
+    ap asked holds ∙ name_received (word_of SpaceOrLine bytes) (sym (ap (λ (l : Line). l.over) (e ∙ holds)) ∙ short)
 
 -- and of one that is too long for it no file has the name
 pub asked_nobody : (site : SiteContent) (inside line : Line) (bytes : List ℕ) → IsLoaded site → inside ≡ line → line ≡ delivered SpaceOrLine bytes → inside.over ≡ true

@@ -3,8 +3,8 @@ use Rattle.httpd.proofs.Prelude.{◌≡◌, ℕ, true, List, [], ◌∷◌, ◌+
 use Rattle.protosocket.specs.Line.{delivered as received_line}
 
 -- before the target comes
-pub hears_method : (line : Line) → line ≡ received_line SpaceOrLine [] → ReceivesTarget line (codes "GET ")
-hears_method line e = record { method_ended = refl; method = refl; goes_on = refl; holds = e }
+pub receives_method : (line : Line) → line ≡ received_line SpaceOrLine [] → ReceivesTarget line (codes "GET ")
+receives_method line e = record { method_ended = refl; method = refl; goes_on = refl; holds = e }
 
 -- a name that was received is requested
 pub asked_name : (files : List File) (line : Line) (request : List ℕ) (found : Option FileId) → HasName line request → IsFound files found

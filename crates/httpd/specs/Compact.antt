@@ -11,7 +11,7 @@ use Rattle.httpd.specs.declared.httpd.Pages.{Pages}
 use Rattle.httpd.specs.declared.stage.Stage.{Stage}
 use Rattle.httpd.specs.declared.stage.Stage.TheVariants as stage
 use Rattle.httpd.specs.declared.thread.Thread.TheVariants.{Head}
-use Rattle.httpd.specs.Hearing.{ReceivesMethod, ReceivesTarget}
+use Rattle.httpd.specs.Reception.{ReceivesMethod, ReceivesTarget}
 use Rattle.httpd.specs.HttpdRepresents.{PagesRepresent}
 
 -- the stage while a word is received: the second, or the first

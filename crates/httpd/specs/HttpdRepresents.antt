@@ -5,7 +5,7 @@ use Rattle.app_events.specs.declared.now.Now.{Now}
 use Rattle.file_tree.specs.declared.file_id.FileId.{FileId}
 use Rattle.file_tree.specs.Prelude.{SiteContent, files_of}
 use Rattle.site_image.specs.Prelude.{File, file_named}
-use Rattle.web_pages.specs.Prelude.{wanted, Refused, Name, Say, reply_pieces_by, reach_by, text_by, hits_by}
+use Rattle.web_pages.specs.Prelude.{wanted, Refused, Name, ScriptPiece, reply_pieces_by, reach_by, text_by, hits_by}
 use Rattle.generators.specs.Prelude.{ScriptFunctions, uip, capture_text}
 use Rattle.httpd.specs.declared.stage.Stage.{Stage}
 use Rattle.httpd.specs.declared.stage.Stage.TheVariants as stage
@@ -15,10 +15,10 @@ use Rattle.httpd.specs.declared.thread.Thread.{Thread}
 use Rattle.httpd.specs.Reply.{FileReply, calls_in, found_file, left_from, reply_by}
 use Rattle.httpd.specs.Places.{IsFound, Fits}
 use Rattle.httpd.specs.Kept.{KeepsDirective}
-use Rattle.httpd.specs.Hearing.{ReceivesMethod, ReceivesTarget}
+use Rattle.httpd.specs.Reception.{ReceivesMethod, ReceivesTarget}
 
 -- the pieces of the page of a name
-abbrev pub page_pieces : {F : Type 0} → FileReply F → List ℕ → List (Say F)
+abbrev pub page_pieces : {F : Type 0} → FileReply F → List ℕ → List (ScriptPiece F)
 page_pieces reply name = reply_pieces_by reply.functions.function_table.named reply.files name
 
 -- For any further snapshots: what the thread still sends with them is the page of the name after the acknowledged offset. It reaches the
@@ -43,16 +43,16 @@ pub record IsReplying {F R : Type 0} (g : ScriptFunctions F) (text : R → List 
   pub left : IsLeft (reply_by g text site found a.capture) a.thread name part
 
 -- Nothing was sent, captured or acknowledged.
-pub record SaysNothing (part : AppState) : Type 0 where
+pub record SendsNothing (part : AppState) : Type 0 where
   pub snapshots : part.snapshots ≡ []
   pub acked : part.acked ≡ 0
 
 -- The state by the stage of the request.
 abbrev pub IsRepresentedIn : {F R : Type 0} → ScriptFunctions F → (R → List ℕ) → Pages R → SiteContent → AppState → Stage → Type 0
-IsRepresentedIn g text a site part stage.Method = ReceivesMethod a.line part.input × SaysNothing part
-IsRepresentedIn g text a site part stage.Target = ReceivesTarget a.line part.input × SaysNothing part
+IsRepresentedIn g text a site part stage.Method = ReceivesMethod a.line part.input × SendsNothing part
+IsRepresentedIn g text a site part stage.Target = ReceivesTarget a.line part.input × SendsNothing part
 IsRepresentedIn g text a site part (stage.Reply found) = (name : List ℕ) × IsReplying g text a site name found part
-IsRepresentedIn g text a site part stage.Refused = (wanted part.input ≡ Refused) × SaysNothing part
+IsRepresentedIn g text a site part stage.Refused = (wanted part.input ≡ Refused) × SendsNothing part
 
 pub record PagesRepresent {F R : Type 0} (g : ScriptFunctions F) (text : R → List ℕ) (a : Pages R)
     (site : SiteContent) (part : AppState) : Type 0 where

@@ -3,9 +3,9 @@ pub mod Reply
 pub mod Places
 pub mod Kept
 pub mod Looking
-pub mod Saying
+pub mod Transmission
 pub mod Web
-pub mod Hearing
+pub mod Reception
 pub mod HttpdRepresents
 pub mod Compact
 pub mod Zero

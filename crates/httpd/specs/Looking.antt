@@ -5,7 +5,7 @@ use Rattle.app_events.specs.Prelude.{Snapshot}
 use Rattle.generators.specs.Prelude.{ScriptFunctions}
 use Rattle.site_image.specs.Prelude.{File}
 use Rattle.site_image.specs.declared.TheConstants.{LONGEST_IMAGE, LONGEST_KIND}
-use Rattle.web_pages.specs.Prelude.{Say, kind_line, Made, text_by, reach_by}
+use Rattle.web_pages.specs.Prelude.{ScriptPiece, kind_line, Made, text_by, reach_by}
 use Rattle.httpd.specs.declared.texts.TheConstants.{LONGEST_TEXT}
 use Rattle.httpd.specs.declared.span.Span.{Span}
 use Rattle.httpd.specs.declared.span.Span.TheVariants as span
@@ -34,26 +34,26 @@ SpanFits text (span.Call function argument) = Unit {0}
 SpanFits text span.End = Unit {0}
 
 -- The pieces are the text first, and then the others, for any snapshots.
-pub record Leads {F : Type 0} (g : ScriptFunctions F) (files : List File) (pieces : List (Say F)) (prefix : List ℕ)
-    (others : List (Say F)) : Type 0 where
+pub record Leads {F : Type 0} (g : ScriptFunctions F) (files : List File) (pieces : List (ScriptPiece F)) (prefix : List ℕ)
+    (others : List (ScriptPiece F)) : Type 0 where
   pub text : (later : List Snapshot) → text_by g files pieces later ≡ prefix ++ text_by g files others later
   pub whole : (later : List Snapshot) → reach_by g pieces later ≡ reach_by g others later
   pub calls : calls_in g.function_table pieces ≡ calls_in g.function_table others
 
 -- The others are the pieces after their first n bytes.
-pub record IsPast {F : Type 0} (g : ScriptFunctions F) (files : List File) (n : ℕ) (pieces others : List (Say F)) : Type 0 where
+pub record IsPast {F : Type 0} (g : ScriptFunctions F) (files : List File) (n : ℕ) (pieces others : List (ScriptPiece F)) : Type 0 where
   pub text : (later : List Snapshot) → text_by g files others later ≡ drop n (text_by g files pieces later)
   pub whole : (later : List Snapshot) → reach_by g others later ≡ reach_by g pieces later
   pub calls : calls_in g.function_table others ≡ calls_in g.function_table pieces
 
 -- an offset n bytes further in the same piece
-pub record IsInPiece {F : Type 0} (reply : FileReply F) (pieces : List (Say F)) (here : Thread) (n : ℕ) : Type 0 where
+pub record IsInPiece {F : Type 0} (reply : FileReply F) (pieces : List (ScriptPiece F)) (here : Thread) (n : ℕ) : Type 0 where
   pub fits : Fits reply (moved here n)
   pub small : thread_place here + n < 2 ^ 31
   pub history : IsPast reply.functions reply.files n pieces (left_from reply (moved here n))
 
 -- The first piece takes no snapshot. The span is its whole rest, or a prefix of a long one.
-pub record SeesText {R F : Type 0} (text : R → List ℕ) (reply : FileReply F) (pieces : List (Say F)) (look : Look R F) : Type 0 where
+pub record SeesText {R F : Type 0} (text : R → List ℕ) (reply : FileReply F) (pieces : List (ScriptPiece F)) (look : Look R F) : Type 0 where
   pub leads : Leads reply.functions reply.files pieces (span_text text look.span) (left_from reply look.next)
   pub no_more : length (left_from reply look.next) ≤ length pieces
   pub fewer : length (span_text text look.span) ≡ 0 → length (left_from reply look.next) < length pieces
@@ -62,7 +62,7 @@ pub record SeesText {R F : Type 0} (text : R → List ℕ) (reply : FileReply F)
   pub within : (n : ℕ) → n < length (span_text text look.span) → IsInPiece reply pieces look.here n
 
 -- The piece is a call that takes a snapshot. The script continues after the directive of the call.
-pub record IsCallBefore {F : Type 0} (reply : FileReply F) (pieces : List (Say F)) (function : F) (argument : List ℕ)
+pub record IsCallBefore {F : Type 0} (reply : FileReply F) (pieces : List (ScriptPiece F)) (function : F) (argument : List ℕ)
     (next : ℕ) : Type 0 where
   pub first : pieces ≡ Made function argument ∷ body_from reply next
   pub takes : reply.functions.function_table.takes_capture function ≡ true
@@ -70,7 +70,7 @@ pub record IsCallBefore {F : Type 0} (reply : FileReply F) (pieces : List (Say F
   pub directive : EndsCall reply next function argument
 
 -- The thread is at the start of the text of its record.
-abbrev pub SeesCall : {F : Type 0} → FileReply F → List (Say F) → F → List ℕ → Thread → Type 0
+abbrev pub SeesCall : {F : Type 0} → FileReply F → List (ScriptPiece F) → F → List ℕ → Thread → Type 0
 SeesCall reply pieces function argument (Making next at) = IsCallBefore reply pieces function argument next × (at ≡ 0)
 SeesCall reply pieces function argument (Head at) = ⊥
 SeesCall reply pieces function argument (Kind at) = ⊥
@@ -78,7 +78,7 @@ SeesCall reply pieces function argument (Body at) = ⊥
 SeesCall reply pieces function argument (Inside next file at) = ⊥
 SeesCall reply pieces function argument End = ⊥
 
-abbrev pub SeesBy : {R F : Type 0} → (R → List ℕ) → FileReply F → List (Say F) → Look R F → Span R F → Type 0
+abbrev pub SeesBy : {R F : Type 0} → (R → List ℕ) → FileReply F → List (ScriptPiece F) → Look R F → Span R F → Type 0
 SeesBy text reply pieces look (span.Bytes world send) = SeesText text reply pieces look
 SeesBy text reply pieces look (span.Line kind at) = SeesText text reply pieces look
 SeesBy text reply pieces look (span.Made capture at end) = SeesText text reply pieces look
@@ -86,7 +86,7 @@ SeesBy text reply pieces look (span.Call function argument) = SeesCall reply pie
 SeesBy text reply pieces look span.End = pieces ≡ []
 
 -- what the thread sees of the remaining pieces
-pub record Sees {R F : Type 0} (text : R → List ℕ) (reply : FileReply F) (pieces : List (Say F)) (look : Look R F) : Type 0 where
+pub record Sees {R F : Type 0} (text : R → List ℕ) (reply : FileReply F) (pieces : List (ScriptPiece F)) (look : Look R F) : Type 0 where
   pub sees : SeesBy text reply pieces look look.span
   pub fits : SpanFits text look.span
 

@@ -9,7 +9,7 @@ use Rattle.file_tree.specs.declared.file_id.FileId.{FileId}
 use Rattle.file_tree.specs.Prelude.{SiteContent, files_of}
 use Rattle.generators.specs.declared.capture.Capture.{Capture}
 use Rattle.generators.specs.Prelude.{ScriptFunctions, uip, capture_text}
-use Rattle.web_pages.specs.Prelude.{Say, bytes_or, found_head, kind_line, missing_head, says, Plain, Made}
+use Rattle.web_pages.specs.Prelude.{ScriptPiece, bytes_or, found_head, kind_line, missing_head, piece_output, Plain, Made}
 use Rattle.httpd.specs.declared.thread.Thread.{Thread}
 use Rattle.httpd.specs.declared.thread.Thread.TheVariants.{Head, Kind, Body, Inside, Making, End}
 
@@ -54,10 +54,10 @@ abbrev pub body : {F : Type 0} → FileReply F → List ℕ
 body reply = body_bytes reply.files reply.file
 
 -- the pieces of the body from an offset on
-abbrev pub body_from : {F : Type 0} → FileReply F → ℕ → List (Say F)
+abbrev pub body_from : {F : Type 0} → FileReply F → ℕ → List (ScriptPiece F)
 body_from reply at =
     if is_scripted reply.file
-    then map (λ found. says reply.files (body reply) found.piece) (pieces_by reply.functions.function_table.named (body reply) at)
+    then map (λ found. piece_output reply.files (body reply) found.piece) (pieces_by reply.functions.function_table.named (body reply) at)
     else Plain (drop at (body reply)) ∷ []
 
 -- the bytes of an included file
@@ -65,7 +65,7 @@ abbrev pub included : {F : Type 0} → FileReply F → FileId → List ℕ
 included reply file = bytes_or [] (slice_get reply.files file.0)
 
 -- what is left to be sent
-unfoldable pub left_from : {F : Type 0} → FileReply F → Thread → List (Say F)
+unfoldable pub left_from : {F : Type 0} → FileReply F → Thread → List (ScriptPiece F)
 left_from reply (Head at) = Plain (drop at (head_text reply.file)) ∷ Plain (kind_line (kind_text reply.file)) ∷ body_from reply 0
 left_from reply (Kind at) = Plain (drop at (kind_line (kind_text reply.file))) ∷ body_from reply 0
 left_from reply (Body at) = body_from reply at
@@ -74,7 +74,7 @@ left_from reply (Making next at) = Plain (drop at reply.made) ∷ body_from repl
 left_from reply End = []
 
 -- the number of calls among pieces that take a snapshot
-abbrev pub calls_in : {F : Type 0} → Calling F → List (Say F) → ℕ
+abbrev pub calls_in : {F : Type 0} → Calling F → List (ScriptPiece F) → ℕ
 calls_in c [] = 0
 calls_in c (Plain text ∷ more) = calls_in c more
 calls_in c (Made function argument ∷ more) = if c.takes_capture function then 1 + calls_in c more else calls_in c more

@@ -1,13 +1,13 @@
 //! The web server on one connection, in less memory.
 
 ghost use Rattle.std.specs.Prelude.{◌≡◌, ℕ, List, [], ◌+◌, ◌++◌, false, length, min, take};
-ghost use Rattle.app_events.specs.Prelude.{AppState, IsRepresented, CanSay, text_left};
+ghost use Rattle.app_events.specs.Prelude.{AppState, IsRepresented, CanSupply, text_left};
 ghost use Rattle.app_events.specs.declared.now.Now.{Now};
 ghost use Rattle.file_tree.specs.Prelude.{SiteContent, files_of};
 ghost use Rattle.generators.specs.Prelude.{script_functions};
 ghost use Rattle.web_pages.specs.Prelude.{wanted, NotYet, hits_by, web_spec_by, web_want_by};
 ghost use Rattle.httpd.specs.Compact.{CompactRepresent, ReceivesWord, is_target_stage, polls_of, with_polls};
-ghost use Rattle.httpd.specs.Hearing.{IsDecided};
+ghost use Rattle.httpd.specs.Reception.{IsDecided};
 ghost use Rattle.httpd.specs.Web.{IsCounted};
 
 use crate::reply::{acked_reply, due_call, fill_reply, want_reply};
@@ -221,7 +221,7 @@ impl<R: CallRecord> CompactPages<R> {
     /// Writes the text after the acknowledged offset, as much as `out` holds.
     pub fn fill_from<B: Image>(&self, site: &SiteOf<B>, out: &mut [u8])
         requires { let g = script_functions R.Function.calling R.output in
-            CanSay (λ site. web_spec_by g (files_of site)) (CompactRepresent g R.text) self.now site.now (length out.old) }
+            CanSupply (λ site. web_spec_by g (files_of site)) (CompactRepresent g R.text) self.now site.now (length out.old) }
         ensures { let g = script_functions R.Function.calling R.output in
             (p : AppState) → CompactRepresent g R.text self.now site.now p
             → out.new ≡ take (length out.old) (text_left (web_spec_by g (files_of site.now)) p) }
@@ -241,7 +241,7 @@ impl<R: CallRecord> CompactPages<R> {
     /// Advances the acknowledged offset by `count` bytes.
     pub fn pass<B: Image>(&mut self, site: &SiteOf<B>, count: usize)
         requires { let g = script_functions R.Function.calling R.output in
-            CanSay (λ site. web_spec_by g (files_of site)) (CompactRepresent g R.text) self.old site.now count }
+            CanSupply (λ site. web_spec_by g (files_of site)) (CompactRepresent g R.text) self.old site.now count }
         ensures { let represented = CompactRepresent (script_functions R.Function.calling R.output) R.text in
             (p : AppState) → represented self.old site.now p
             → represented self.new site.now (record p { acked = p.acked + count; polls = 0 }) }

@@ -1,7 +1,7 @@
 //! The web server on one connection.
 
 ghost use Rattle.std.specs.Prelude.{◌≡◌, ◌==◌, ℕ, ◌+◌, ◌++◌, false, length, min, take};
-ghost use Rattle.app_events.specs.Prelude.{AppState, IsRepresented, CanSay, text_left};
+ghost use Rattle.app_events.specs.Prelude.{AppState, IsRepresented, CanSupply, text_left};
 ghost use Rattle.file_tree.specs.Prelude.{SiteContent, files_of};
 ghost use Rattle.generators.specs.Prelude.{script_functions};
 ghost use Rattle.web_pages.specs.Prelude.{web_spec_by, web_want_by};
@@ -131,7 +131,7 @@ impl<R: CallRecord> Pages<R> {
     /// Writes the text after the acknowledged offset, as much as `out` holds.
     pub fn fill_from<B: Image>(&self, site: &SiteOf<B>, out: &mut [u8])
         requires { let g = script_functions R.Function.calling R.output in
-            CanSay (λ site. web_spec_by g (files_of site)) (PagesRepresent g R.text) self.now site.now (length out.old) }
+            CanSupply (λ site. web_spec_by g (files_of site)) (PagesRepresent g R.text) self.now site.now (length out.old) }
         ensures { let g = script_functions R.Function.calling R.output in
             (p : AppState) → PagesRepresent g R.text self.now site.now p
             → out.new ≡ take (length out.old) (text_left (web_spec_by g (files_of site.now)) p) }
@@ -144,7 +144,7 @@ impl<R: CallRecord> Pages<R> {
     /// Advances the acknowledged offset by `count` bytes.
     pub fn pass<B: Image>(&mut self, site: &SiteOf<B>, count: usize)
         requires { let g = script_functions R.Function.calling R.output in
-            CanSay (λ site. web_spec_by g (files_of site)) (PagesRepresent g R.text) self.old site.now count }
+            CanSupply (λ site. web_spec_by g (files_of site)) (PagesRepresent g R.text) self.old site.now count }
         ensures { Becomes (PagesRepresent (script_functions R.Function.calling R.output) R.text) site.now
             (λ p. record p { acked = p.acked + count; polls = 0 }) self.old self.new }
     {
@@ -169,7 +169,7 @@ impl<R: CallRecord> Pages<R> {
 impl App for Httpd {
     ghost use Rattle.generators.specs.ScriptFunctions.{uip};
     ghost use Rattle.web_pages.specs.Serving.{is_served};
-    ghost use Rattle.web_pages.specs.WebMeaning.{web_spec};
+    ghost use Rattle.web_pages.specs.WebSpec.{web_spec};
     ghost use Rattle.web_pages.specs.Lemmas.WebLaws.{web_lawful, web_starts};
     ghost use Rattle.httpd.specs.HttpdRepresents.{HttpdRepresents};
     ghost use Rattle.httpd.specs.Lemmas.SameLeft.{same_left};

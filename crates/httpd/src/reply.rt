@@ -7,7 +7,7 @@ ghost use Rattle.httpd.specs.Reply.{left_from, reply_by};
 ghost use Rattle.httpd.specs.Places.{Fits, IsFound};
 ghost use Rattle.httpd.specs.Kept.{KeepsOn};
 ghost use Rattle.httpd.specs.Looking.{IsPast};
-ghost use Rattle.httpd.specs.Saying.{IsDueReply, IsNotDue, left_text, left_whole, want_left};
+ghost use Rattle.httpd.specs.Transmission.{IsDueReply, IsNotDue, left_text, left_whole, want_left};
 
 use crate::next_span::look;
 use crate::span::{Span, span_len, write_at};

@@ -7,7 +7,7 @@ ghost use Rattle.site_image.specs.Prelude.{file_named};
 ghost use Rattle.protosocket.specs.declared.stops.Stops.TheVariants.{SpaceOrLine};
 ghost use Rattle.protosocket.specs.Prelude.{after, delivered, part_taken, word_of};
 ghost use Rattle.web_pages.specs.Prelude.{place_of, name_in, wanted, NotYet, hits_by};
-ghost use Rattle.httpd.specs.Hearing.{ReceivesMethod, ReceivesTarget, ReceivesTo, IsDecided};
+ghost use Rattle.httpd.specs.Reception.{ReceivesMethod, ReceivesTarget, ReceivesTo, IsDecided};
 ghost use Rattle.httpd.specs.Places.{IsFound};
 ghost use Rattle.httpd.specs.Reply.{found_file};
 ghost use Rattle.httpd.specs.Web.{IsCounted};

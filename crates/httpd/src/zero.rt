@@ -3,7 +3,7 @@
 ghost use Rattle.std.specs.Prelude.{◌≡◌, ◌++◌, List, ℕ, codes, length};
 ghost use Rattle.file_tree.specs.Prelude.{files_of};
 ghost use Rattle.web_pages.specs.Prelude.{wanted, request_for, zero_snapshot, zero_page, zero_reply};
-ghost use Rattle.httpd.specs.Hearing.{ReceivesTarget};
+ghost use Rattle.httpd.specs.Reception.{ReceivesTarget};
 ghost use Rattle.httpd.specs.Looking.{SpanFits, span_text};
 ghost use Rattle.httpd.specs.Places.{IsFound};
 ghost use Rattle.generators.specs.Prelude.{capture_text};
@@ -31,7 +31,7 @@ pub fn page_zero<K: Sink>(site: &Site, target: &[u8], sink: &mut K) -> Result<()
 {
     match asked(site, target) {
         Some(found) => write_reply(site, found, sink),
-        None => say(sink, b""),
+        None => write_out(sink, b""),
     }
 }
 
@@ -59,7 +59,7 @@ fn ended(site: &Site, mut line: LineIn) -> Option<Option<FileId>>
 }
 
 /// Writes a piece.
-fn say<K: Sink>(sink: &mut K, piece: &[u8]) -> Result<(), Failed>
+fn write_out<K: Sink>(sink: &mut K, piece: &[u8]) -> Result<(), Failed>
     ensures { Writes (sink_view K.Sink sink.old) (sink_view K.Sink sink.new) result piece.now }
 {
     sink.write_whole(piece)
@@ -79,26 +79,26 @@ fn write_reply<K: Sink>(site: &Site, found: Option<FileId>, sink: &mut K) -> Res
         match seen.span {
             Span::End => return Ok(()),
             Span::Call { function, .. } => capture = take(function, 0, &zero_now()),
-            _ => say_span(&seen.span, sink)?,
+            _ => write_one_span(&seen.span, sink)?,
         }
     }
 }
 
 /// Writes what is left of a piece.
-fn say_span<K: Sink>(span: &Span<Capture, Function>, sink: &mut K) -> Result<(), Failed>
+fn write_one_span<K: Sink>(span: &Span<Capture, Function>, sink: &mut K) -> Result<(), Failed>
     requires { SpanFits capture_text span.now }
     ensures { Writes (sink_view K.Sink sink.old) (sink_view K.Sink sink.new) result (span_text capture_text span.now) }
 {
     if let Span::Bytes { world, send } = span {
-        return say(sink, &world[send.run.at as usize..send.run.end as usize]);
+        return write_out(sink, &world[send.run.at as usize..send.run.end as usize]);
     }
     let len = span_len(span);
     let mut room = [0; LONGEST_TEXT];
-    say_prefix(span, &mut room[..len], sink)
+    write_prefix(span, &mut room[..len], sink)
 }
 
 /// Writes what is left of a piece through a buffer of its length.
-fn say_prefix<K: Sink>(
+fn write_prefix<K: Sink>(
     span: &Span<Capture, Function>,
     room: &mut [u8],
     sink: &mut K,
@@ -108,7 +108,7 @@ fn say_prefix<K: Sink>(
     ensures { Writes (sink_view K.Sink sink.old) (sink_view K.Sink sink.new) result (span_text capture_text span.now) }
 {
     write_span(span, room);
-    say(sink, room)
+    write_out(sink, room)
 }
 
 /// Returns a snapshot with an empty history.

@@ -4,10 +4,10 @@ use Rattle.line_laws.proofs.Prelude.{All, ◌≡◌, ℕ, ◌+◌, ◌<◌, Bool
 -- ---- what is written in the turns of a line
 
 module _ {A : Type 0} (m : AppSpec) (served : ℕ → Bool) (w : MediumSpec A) (own : Addr) where
-  said_in : (station_events : List (StationEvent A)) (s : Station A) → text_in w own s.acts station_events (trace_of m served (events_among station_events) s.node) ≡ output m served w own station_events s
-  said_in [] s = refl
-  said_in (OfMedium a ∷ station_events) s = ap (λ l. w.says a ++ l) (said_in station_events (station_after m served s (OfMedium a)))
-  said_in (OfNode e ∷ station_events) s = ap (λ l. output_of_event m served w own s (OfNode e) ++ l) (said_in station_events (station_after m served s (OfNode e)))
+  sent_text_in : (station_events : List (StationEvent A)) (s : Station A) → text_in w own s.acts station_events (trace_of m served (events_among station_events) s.node) ≡ output m served w own station_events s
+  sent_text_in [] s = refl
+  sent_text_in (OfMedium a ∷ station_events) s = ap (λ l. w.output_at a ++ l) (sent_text_in station_events (station_after m served s (OfMedium a)))
+  sent_text_in (OfNode e ∷ station_events) s = ap (λ l. output_of_event m served w own s (OfNode e) ++ l) (sent_text_in station_events (station_after m served s (OfNode e)))
 
 -- ---- where its events come from
 
@@ -71,7 +71,7 @@ every_line {A = A} w decodes m model steady bytes speaks served numbers words ow
       line = record {
         turns = trace_of m served (events_among station_events) node;
         over = turn_events m served (events_among station_events) node;
-        written = said_in m served w own station_events (initial_station own numbers);
+        written = sent_text_in m served w own station_events (initial_station own numbers);
         keeps = kept.0;
       };
       read = kept.1;

@@ -63,7 +63,7 @@ module _ {A : Type 0} (w : MediumSpec A) (own : Addr) where
         split = c.split;
         over = c.over;
         text = c.text;
-        written = ap (λ l. w.says a ++ l) c.written ∙ sym (append_assoc (w.says a) (text_in w own (acts ++ a ∷ []) xs c.first) c.text);
+        written = ap (λ l. w.output_at a ++ l) c.written ∙ sym (append_assoc (w.output_at a) (text_in w own (acts ++ a ∷ []) xs c.first) c.text);
       }
   cut acts (OfNode x ∷ xs) ys [] e = absurd (cc e)
   cut acts (OfNode x ∷ xs) ys (t ∷ turns) e =

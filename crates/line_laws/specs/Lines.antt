@@ -18,7 +18,7 @@ events_among (OfNode e ∷ station_events) = e ∷ events_among station_events
 -- reply.
 abbrev pub text_in : {A : Type 0} → MediumSpec A → Addr → List A → List (StationEvent A) → List TraceEntry → List ℕ
 text_in w own acts [] turns = []
-text_in w own acts (OfMedium a ∷ station_events) turns = w.says a ++ text_in w own (acts ++ a ∷ []) station_events turns
+text_in w own acts (OfMedium a ∷ station_events) turns = w.output_at a ++ text_in w own (acts ++ a ∷ []) station_events turns
 text_in w own acts (OfNode e ∷ station_events) (t ∷ turns) = reply_text w acts own t.sent ++ text_in w own acts station_events turns
 text_in w own acts (OfNode e ∷ station_events) [] = []
 

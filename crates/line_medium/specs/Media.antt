@@ -14,7 +14,7 @@ pub data MediumInput (A : Type 0) : Type 0 where
 pub record MediumSpec (A : Type 0) : Type 0 where
   pub decodes : List ℕ → ℕ → List (MediumInput A)  -- what a byte decodes to after the bytes before it
   pub at_tick : List A  -- its acts at a tick, before the periodic calls
-  pub says : A → List ℕ  -- the bytes that it writes for an act
+  pub output_at : A → List ℕ  -- the bytes that it writes for an act
   pub text : List A → List ℕ → List ℕ  -- the encoding of a datagram after the acts so far
 
 -- what bytes decode to after others
@@ -30,16 +30,16 @@ acts_among (Datagram d ∷ cs) = acts_among cs
 acts_among (Overlong ∷ cs) = acts_among cs
 
 -- the bytes written for all acts
-abbrev pub all_said : {A : Type 0} → MediumSpec A → List A → List ℕ
-all_said w [] = []
-all_said w (a ∷ acts) = w.says a ++ all_said w acts
+abbrev pub all_written : {A : Type 0} → MediumSpec A → List A → List ℕ
+all_written w [] = []
+all_written w (a ∷ acts) = w.output_at a ++ all_written w acts
 
 -- What a result reports, if these bytes can be read from the medium.
 abbrev pub ReportsBrought : {A : Type 0} → MediumSpec A → List ℕ → Decoded → List (MediumInput A) → Type 0
 ReportsBrought w shown brought.Nothing cs = cs ≡ []
 ReportsBrought w shown brought.Overlong cs = cs ≡ Overlong ∷ []
 ReportsBrought w shown (brought.Datagram n) cs = cs ≡ Datagram shown ∷ []
-ReportsBrought {A = A} w shown (brought.Own n) cs = (a : A) × (cs ≡ Own a ∷ []) × (w.says a ≡ shown)
+ReportsBrought {A = A} w shown (brought.Own n) cs = (a : A) × (cs ≡ Own a ∷ []) × (w.output_at a ≡ shown)
 
 -- what a result leaves to be read
 abbrev pub ShowsBrought : (ℕ → Type 0) → List ℕ → Decoded → Type 0

@@ -3,7 +3,7 @@
 ghost use Rattle.std.specs.Prelude.{[], ◌≡◌, ◌<◌, ◌≤◌, ◌++◌, List, ℕ, length, take, OnOk, OnErr};
 ghost use Rattle.std.specs.Io.KnownBytes.{Appends};
 ghost use Rattle.uip_edge.specs.Prelude.{HasCause, AppendsPrefix};
-ghost use Rattle.line_medium.specs.Media.{MediumSpec, ShowsBrought, ReportsBrought, all_decoded, all_said, acts_among};
+ghost use Rattle.line_medium.specs.Media.{MediumSpec, ShowsBrought, ReportsBrought, all_decoded, all_written, acts_among};
 
 use uip_edge::{Failed, Sink};
 
@@ -70,7 +70,7 @@ pub trait Medium {
 
     /// Counts a tick, at which it writes nothing.
     fn tick(&mut self)
-        ensures silent { (k : Self.Config) → all_said (spec k) (spec k).at_tick ≡ [] }
+        ensures silent { (k : Self.Config) → all_written (spec k) (spec k).at_tick ≡ [] }
         ensures fed { (k : Self.Config) (before : List ℕ) → fed self.old k before → fed self.new k before }
         ensures did { (k : Self.Config) (acts : List Self.Act) → did self.old k acts
             → did self.new k (acts ++ (spec k).at_tick) };

@@ -94,10 +94,10 @@ meant_to_one zero (Some pair) datagram n = absurd (n refl)
 meant_to_one (suc number) (Some pair) datagram n = refl
 
 -- the bytes of a segment to the client with its sockets
-node_said : (addr : Addr) (sockets : Sockets) (id : ℕ) (s : PlainSegment) (ss : List Side) (pair : SocketPair) (number : ℕ) → number ≡ addressed 1 sockets ss
+node_sent : (addr : Addr) (sockets : Sockets) (id : ℕ) (s : PlainSegment) (ss : List Side) (pair : SocketPair) (number : ℕ) → number ≡ addressed 1 sockets ss
     → meant_for number (Some pair) (datagram_bytes (datagram_to addr sockets id s)) ≡ option_map_or (node_bytes addr id s) (numbered ss number) []
-node_said addr sockets id s ss pair zero e = refl
-node_said addr sockets id s ss pair (suc k) e =
+node_sent addr sockets id s ss pair zero e = refl
+node_sent addr sockets id s ss pair (suc k) e =
     let r = addressed_is 1 sockets k ss (sym e) in
     let at : k ≡ r.index = omega (arith, r.is) in
     ap (λ (p : Sockets). datagram_bytes (datagram_to addr p id s)) r.same ∙ sym (ap (λ (o : Option Side). option_map_or (node_bytes addr id s) o []) (ap (slice_get ss) at ∙ r.get))
@@ -112,7 +112,7 @@ answer_posted P w (Echo request) xs to number again datagram meant t a d m n e p
 answer_posted P w (TcpReply sockets id again' s) xs to number again datagram meant t a d m n e post =
     let to_whom : number ≡ addressed 1 sockets w.sides = n.some (pair_at sockets) t w.sides m in
     let bytes : meant ≡ option_map_or (node_bytes w.node.addr id s) (numbered w.sides number) []
-    = e ∙ ap (λ (o : Option SocketPair). meant_for number o datagram) t ∙ ap (meant_for number (Some (pair_at sockets))) d ∙ node_said w.node.addr sockets id s w.sides (pair_at sockets) number to_whom in
+    = e ∙ ap (λ (o : Option SocketPair). meant_for number o datagram) t ∙ ap (meant_for number (Some (pair_at sockets))) d ∙ node_sent w.node.addr sockets id s w.sides (pair_at sockets) number to_whom in
     subst (λ (k : ℕ). P (posts w (FromNode k) again' (OfSegment id s))) to_whom (subst (λ (b : Bool). P (posts w (FromNode number) b (OfSegment id s))) a (post (OfSegment id s) bytes))
 
 -- the node sent nothing

@@ -1,9 +1,9 @@
 -- The web server answers a request in as many texts as its pieces need.
 -- [add: counter] Counter: the greatest length of a page.
 -- [add: function] Function: the texts that its script needs.
-use Rattle.link_replay.proofs.Prelude.{div_ceil, ◌≡◌, ◌≢◌, ℕ, suc, ◌+◌, ◌-◌, ◌<◌, ◌≤◌, ◌==◌, min, Bool, true, false, if◌then◌else◌, ◌&&◌, not, ◌⊎◌, inl, inr, List, [], ◌∷◌, ◌++◌, length, decimal, replicate, flat_map, refl, sym, ap, ◌∙◌, subst, arith, nat_lt, nat_le, length-append, true≢false, and_parts, eqb-true, ltb-true, leb-true, le-leb, cases_lt, common_steps, length-replicate, sum_by-cons, AppState, Snapshot, IsSnapshot, Row, Want, Nothing, Send, Close, Abort, Function, FileStats, TcpConnections, NetStats, Ticks, Unknown, length_at_most, takes_capture, File, in_ten_places, counter_line, row_parts, row_text, uip, Wanted, wanted, NotYet, Refused, Name, name_stays, Say, Plain, Made, made_text, hits_of, page_text, reach_end, page_for, whole_for, page, is_page_whole, silent_text, silent_end, stopped_text, made_first, made_end, newdata_grows, with_capture, web_spec, web_want, is_acknowledged, waits_for_capture, left_of, silent_none, text_bound, uip_short, GoesOnBy, AnswersIn, AnswersPolled, prefix_length, both_ways, ltb-zero, not-true, all_nil, all_cons, most_of, texts_for, pieces_for}
+use Rattle.link_replay.proofs.Prelude.{div_ceil, ◌≡◌, ◌≢◌, ℕ, suc, ◌+◌, ◌-◌, ◌<◌, ◌≤◌, ◌==◌, min, Bool, true, false, if◌then◌else◌, ◌&&◌, not, ◌⊎◌, inl, inr, List, [], ◌∷◌, ◌++◌, length, decimal, replicate, flat_map, refl, sym, ap, ◌∙◌, subst, arith, nat_lt, nat_le, length-append, true≢false, and_parts, eqb-true, ltb-true, leb-true, le-leb, cases_lt, common_steps, length-replicate, sum_by-cons, AppState, Snapshot, IsSnapshot, Row, Want, Nothing, Send, Close, Abort, Function, FileStats, TcpConnections, NetStats, Ticks, Unknown, length_at_most, takes_capture, File, in_ten_places, counter_line, row_parts, row_text, uip, Wanted, wanted, NotYet, Refused, Name, name_stays, ScriptPiece, Plain, Made, made_text, hits_of, page_text, reach_end, page_for, whole_for, page, is_page_whole, silent_text, silent_end, stopped_text, made_first, made_end, newdata_grows, with_capture, web_spec, web_want, is_acknowledged, waits_for_capture, left_of, silent_none, text_bound, uip_short, GoesOnBy, AnswersIn, AnswersPolled, prefix_length, both_ways, ltb-zero, not-true, all_nil, all_cons, most_of, texts_for, pieces_for}
 use Rattle.std.proofs.lemmas.Bool.{eq-eqb}
-use Rattle.link_replay.proofs.TextCounts.{left_in, behind, counted, shorter, one_less}
+use Rattle.link_replay.proofs.TextCounts.{left_in, the_rest_after, counted, shorter, one_less}
 
 not_twenty : (n : ℕ) → n < 20 → (n == 20) ≡ false
 not_twenty n l = grind (arith, common_steps)
@@ -38,7 +38,7 @@ module _ (files : List File) where
       omega (arith, all, ap length (made_first uip files function argument [] capture [] e), length-append (made_text files function argument capture) [])
 
   -- ---- the lengths of pieces: of a call its greatest, until its capture is taken
-  abbrev pub sizes : List (Say Function) → List Snapshot → List ℕ
+  abbrev pub sizes : List (ScriptPiece Function) → List Snapshot → List ℕ
   sizes [] captures = []
   sizes (Plain text ∷ more) captures = length text ∷ sizes more captures
   sizes (Made function argument ∷ more) [] = length_at_most function ∷ sizes more []
@@ -46,12 +46,12 @@ module _ (files : List File) where
       if takes_capture function then length (made_text files function argument capture) ∷ sizes more later
       else length_at_most function ∷ sizes more (capture ∷ later)
 
-  taken_size : (function : Function) (argument : List ℕ) (more : List (Say Function)) (capture : Snapshot) (later : List Snapshot) → takes_capture function ≡ true →
+  taken_size : (function : Function) (argument : List ℕ) (more : List (ScriptPiece Function)) (capture : Snapshot) (later : List Snapshot) → takes_capture function ≡ true →
       sizes (Made function argument ∷ more) (capture ∷ later) ≡ length (made_text files function argument capture) ∷ sizes more later
   taken_size function argument more capture later e =
       ap (λ b. if b then length (made_text files function argument capture) ∷ sizes more later else length_at_most function ∷ sizes more (capture ∷ later)) e
 
-  silent_size : (function : Function) (argument : List ℕ) (more : List (Say Function)) (captures : List Snapshot) → takes_capture function ≡ false →
+  silent_size : (function : Function) (argument : List ℕ) (more : List (ScriptPiece Function)) (captures : List Snapshot) → takes_capture function ≡ false →
       sizes (Made function argument ∷ more) captures ≡ length_at_most function ∷ sizes more captures
   silent_size function argument more [] e = refl
   silent_size function argument more (capture ∷ later) e =
@@ -66,10 +66,10 @@ module _ (files : List File) where
         one_less mss some n a x output ns l (omega (arith, within, e)) (elim whole [ inl i ↦ inl i | inr i ↦ inr (i ∙ e) ])
         (λ h. rest (a - n) (omega (arith, within, e, h)) (elim whole [ inl i ↦ inl i | inr i ↦ inr (omega (arith, i, e, h)) ]))
 
-    abbrev Less : List (Say Function) → List Snapshot → ℕ → ℕ → Type 0
+    abbrev Less : List (ScriptPiece Function) → List Snapshot → ℕ → ℕ → Type 0
     Less pieces captures a x = left_in mss some (sizes pieces captures) (a + x) < left_in mss some (sizes pieces captures) a
 
-    pub less_left : (pieces : List (Say Function)) (captures : List Snapshot) (a x : ℕ) → 0 < x → a + x ≤ length (page_text files pieces captures) → (x ≡ mss) ⊎ (a + x ≡ length (page_text files pieces captures)) → Less pieces captures a x
+    pub less_left : (pieces : List (ScriptPiece Function)) (captures : List Snapshot) (a x : ℕ) → 0 < x → a + x ≤ length (page_text files pieces captures) → (x ≡ mss) ⊎ (a + x ≡ length (page_text files pieces captures)) → Less pieces captures a x
     less_left [] captures a x l within whole = absurd (omega arith)
     less_left (Plain text ∷ more) captures a x l within whole =
         by_piece (length text) (length (page_text files more captures)) (length (text ++ page_text files more captures)) a x (sizes more captures) (length-append text (page_text files more captures)) l within whole
@@ -100,9 +100,9 @@ module _ (files : List File) where
     past_piece : (n output a : ℕ) (after before : List ℕ) → a ≡ n + output → Fewer after before output → Fewer (n ∷ after) (n ∷ before) a
     past_piece n output a after before e h =
         let rest : a - n ≡ output = omega (arith, e) in
-        omega (arith, behind mss some n a after (omega (arith, e)), behind mss some n a before (omega (arith, e)), ap (λ k. left_in mss some after k) rest, ap (λ k. left_in mss some before k) rest, h)
+        omega (arith, the_rest_after mss some n a after (omega (arith, e)), the_rest_after mss some n a before (omega (arith, e)), ap (λ k. left_in mss some after k) rest, ap (λ k. left_in mss some before k) rest, h)
 
-    fewer_left : (pieces : List (Say Function)) (captures : List Snapshot) (capture : Snapshot) (a : ℕ) → IsSnapshot capture → reach_end pieces captures ≡ false → a ≡ length (page_text files pieces captures) →
+    fewer_left : (pieces : List (ScriptPiece Function)) (captures : List Snapshot) (capture : Snapshot) (a : ℕ) → IsSnapshot capture → reach_end pieces captures ≡ false → a ≡ length (page_text files pieces captures) →
         Fewer (sizes pieces (captures ++ capture ∷ [])) (sizes pieces captures) a
     fewer_left [] captures capture a is stops h = absurd (cc)
     fewer_left (Plain text ∷ more) captures capture a is stops h =
@@ -131,10 +131,10 @@ module _ (files : List File) where
         (fewer_left more (first ∷ later) capture (length (page_text files more (first ∷ later))) is (sym (silent_end uip function argument more (first ∷ later) e) ∙ stops) refl))))
 
     -- and the text continues
-    abbrev Longer : List (Say Function) → List Snapshot → Snapshot → Type 0
+    abbrev Longer : List (ScriptPiece Function) → List Snapshot → Snapshot → Type 0
     Longer pieces captures capture = length (page_text files pieces captures) < length (page_text files pieces (captures ++ capture ∷ []))
 
-    text_longer : (pieces : List (Say Function)) (captures : List Snapshot) (capture : Snapshot) → IsSnapshot capture → 0 < length capture.now.rows → reach_end pieces captures ≡ false → Longer pieces captures capture
+    text_longer : (pieces : List (ScriptPiece Function)) (captures : List Snapshot) (capture : Snapshot) → IsSnapshot capture → 0 < length capture.now.rows → reach_end pieces captures ≡ false → Longer pieces captures capture
     text_longer [] captures capture is l stops = absurd (cc)
     text_longer (Plain text ∷ more) captures capture is l stops =
         omega (arith, length-append text (page_text files more captures), length-append text (page_text files more (captures ++ capture ∷ [])), text_longer more captures capture is l stops)
@@ -171,7 +171,7 @@ module _ (files : List File) where
         ))
 
     -- at the start
-    counted_all : (pieces : List (Say Function)) → left_in mss some (sizes pieces []) 0 ≤ texts_for mss pieces
+    counted_all : (pieces : List (ScriptPiece Function)) → left_in mss some (sizes pieces []) 0 ≤ texts_for mss pieces
     counted_all [] = omega arith
     counted_all (Plain text ∷ more) =
         omega (arith, counted mss some (length text) (sizes more []), counted_all more, sum_by-cons (λ piece. div_ceil (most_of piece) mss) (Plain text) more)
@@ -179,7 +179,7 @@ module _ (files : List File) where
         omega (arith, counted mss some (length_at_most function) (sizes more []), counted_all more, sum_by-cons (λ piece. div_ceil (most_of piece) mss) (Made function argument) more)
 
 module _ (files : List File) (request : List ℕ) (decided : wanted request ≢ NotYet) (mss : ℕ) (some : 0 < mss) (low : mss ≤ 1460) where
-  abbrev wanted_pieces : List (Say Function)
+  abbrev wanted_pieces : List (ScriptPiece Function)
   wanted_pieces = pieces_for files (wanted request)
 
   -- it was polled this often, and no more is acknowledged than was sent
@@ -191,22 +191,22 @@ module _ (files : List File) (request : List ℕ) (decided : wanted request ≢ 
   left p = left_in mss some (sizes files wanted_pieces p.snapshots) p.acked
 
   -- the output is that of the pieces of the whole request
-  record SaysPieces (p : AppState) : Type 0 where
+  record SendsPieces (p : AppState) : Type 0 where
     text : page files p.input p.snapshots ≡ page_text files wanted_pieces p.snapshots
     whole : is_page_whole files p.input p.snapshots ≡ reach_end wanted_pieces p.snapshots
 
-  says_named : (p : AppState) (rest name : List ℕ) → p.input ++ rest ≡ request → wanted p.input ≡ Name name → SaysPieces p
-  says_named p rest name joined e =
+  sends_named : (p : AppState) (rest name : List ℕ) → p.input ++ rest ≡ request → wanted p.input ≡ Name name → SendsPieces p
+  sends_named p rest name joined e =
       let all : wanted request ≡ Name name = ap wanted (sym joined) ∙ name_stays p.input rest name e in
       record {
         text = ap (λ w. page_for files w p.snapshots) e ∙ ap (λ w. page_text files (pieces_for files w) p.snapshots) (sym all);
         whole = ap (λ w. whole_for files w p.snapshots) e ∙ ap (λ w. reach_end (pieces_for files w) p.snapshots) (sym all);
       }
 
-  says_some : (p : AppState) (rest : List ℕ) → p.input ++ rest ≡ request → (w : Wanted) → wanted p.input ≡ w → 0 < length (page files p.input p.snapshots) → SaysPieces p
-  says_some p rest joined NotYet e h = absurd (let z : ⊥ = omega (arith, h, ap (λ w. length (page_for files w p.snapshots)) e) in z)
-  says_some p rest joined Refused e h = absurd (let z : ⊥ = omega (arith, h, ap (λ w. length (page_for files w p.snapshots)) e) in z)
-  says_some p rest joined (Name name) e h = says_named p rest name joined e
+  outputs_some : (p : AppState) (rest : List ℕ) → p.input ++ rest ≡ request → (w : Wanted) → wanted p.input ≡ w → 0 < length (page files p.input p.snapshots) → SendsPieces p
+  outputs_some p rest joined NotYet e h = absurd (let z : ⊥ = omega (arith, h, ap (λ w. length (page_for files w p.snapshots)) e) in z)
+  outputs_some p rest joined Refused e h = absurd (let z : ⊥ = omega (arith, h, ap (λ w. length (page_for files w p.snapshots)) e) in z)
+  outputs_some p rest joined (Name name) e h = sends_named p rest name joined e
 
   -- after this number of polls
   module _ (waited : ℕ) (patient : waited < 20) where
@@ -240,7 +240,7 @@ module _ (files : List File) (request : List ℕ) (decided : wanted request ≢ 
         sends : (q : AppState) (most : ℕ) (rest : List ℕ) → q.input ++ rest ≡ request → IsFine q → left q ≤ most → 0 < left_of files q → GoesOnBy (web_spec files) request mss (fine waited) left q most (Send (min 1460 (left_of files q)))
         sends q most rest joined is few l =
             let x : ℕ = min (min 1460 (left_of files q)) mss in
-            let says = says_some q rest joined (wanted q.input) refl (omega (arith, l)) in
+            let says = outputs_some q rest joined (wanted q.input) refl (omega (arith, l)) in
             let size : length (page files q.input q.snapshots) ≡ length (page_text files wanted_pieces q.snapshots) = ap length says.text in
             let whole : (x ≡ mss) ⊎ (q.acked + x ≡ length (page_text files wanted_pieces q.snapshots)) =
             elim (cases_lt (left_of files q) mss) [ inl h ↦ inr (omega (arith, h, low, is.acked, size)) | inr h ↦ inl (omega (arith, h, low)) ] in
@@ -277,11 +277,11 @@ module _ (files : List File) (request : List ℕ) (decided : wanted request ≢ 
         let q : AppState = with_capture p capture in
         let fine_p = is_fine p f in
         let at_end : p.acked ≡ length (page files p.input p.snapshots) = eqb-true p.acked (length (page files p.input p.snapshots)) acked in
-        let says = says_named p rest name joined named in
-        let says_more = says_named q rest name joined named in
+        let says = sends_named p rest name joined named in
+        let sends_more = sends_named q rest name joined named in
         let stops : reach_end wanted_pieces p.snapshots ≡ false = sym says.whole ∙ not-true (is_page_whole files p.input p.snapshots) waits in
         let more = text_longer files mss some wanted_pieces p.snapshots capture is l stops in
-        let longer : p.acked < length (page files q.input q.snapshots) = omega (arith, at_end, ap length says.text, ap length says_more.text, more) in
+        let longer : p.acked < length (page files q.input q.snapshots) = omega (arith, at_end, ap length says.text, ap length sends_more.text, more) in
         let goes : p.acked ≤ length (page files q.input q.snapshots) = omega (arith, longer) in
         wants_on q (left p) rest joined (as_fine q fine_p.polls goes)
         (fewer_left files mss some wanted_pieces p.snapshots capture p.acked is stops (at_end ∙ ap length says.text))

@@ -1,7 +1,7 @@
 -- Giving up and closing never meet at a connection of the web server.
 -- [add: function] Function: a text that may be empty.
 -- [add: state] State: whether the node can give up in it.
-use Rattle.link_replay.proofs.Prelude.{◌≡◌, ℕ, zero, suc, ◌+◌, ◌-◌, ◌<◌, Bool, true, false, not, ◌&&◌, List, [], ◌∷◌, ◌++◌, length, length-append, replicate, set, refl, sym, ap, ◌∙◌, subst, arith, eqb, eq-eqb, ltb, Some, slice_get, decimal, flat_map, length-replicate, and-false, PlainSegment, has_fin, has_rst, Beat, Function, FileStats, TcpConnections, NetStats, Ticks, Unknown, AppState, After, Snapshot, AppSpec, Now, Row, State, Closed, SynRcvd, Established, CloseWait, FinWait1, FinWait2, Closing, TimeWait, LastAck, counter_line, in_ten_places, row_parts, row_text, File, Connection, Sockets, closed, is_live, rows_from, Outcome, after_own_fin, asked, asked_for, closes, does_as_wanted, idles, peer_has_closed, prepared, accepted, by_state, fin_acked, fin_waits, stays_established, has_text, delivers_text, in_established, is_acked, is_out_of_order, on_segment, peer_closes, rests, with_part, by_beat, on_tick, outstanding, Step, Event, AbstractNode, snapshot, hits_of, is_page_whole, made_text, page, page_for, page_text, reach_end, whole_for, Say, reply_pieces, Plain, Made, Wanted, wanted, NotYet, Refused, Name, is_acknowledged, left_of, waits_for_capture, web_spec, web_want, MOST_POLLS, and_true, choose, eqb-eq, ltb-zero, not-true, by_own_fin, on_tick_by, every, AbortAndCloseApart, ClosesInTime, is_at_end}
+use Rattle.link_replay.proofs.Prelude.{◌≡◌, ℕ, zero, suc, ◌+◌, ◌-◌, ◌<◌, Bool, true, false, not, ◌&&◌, List, [], ◌∷◌, ◌++◌, length, length-append, replicate, set, refl, sym, ap, ◌∙◌, subst, arith, eqb, eq-eqb, ltb, Some, slice_get, decimal, flat_map, length-replicate, and-false, PlainSegment, has_fin, has_rst, Beat, Function, FileStats, TcpConnections, NetStats, Ticks, Unknown, AppState, After, Snapshot, AppSpec, Now, Row, State, Closed, SynRcvd, Established, CloseWait, FinWait1, FinWait2, Closing, TimeWait, LastAck, counter_line, in_ten_places, row_parts, row_text, File, Connection, Sockets, closed, is_live, rows_from, Outcome, after_own_fin, asked, asked_for, closes, does_as_wanted, idles, peer_has_closed, prepared, accepted, by_state, fin_acked, fin_waits, stays_established, has_text, delivers_text, in_established, is_acked, is_out_of_order, on_segment, peer_closes, rests, with_part, by_beat, on_tick, outstanding, Step, Event, AbstractNode, snapshot, hits_of, is_page_whole, made_text, page, page_for, page_text, reach_end, whole_for, ScriptPiece, reply_pieces, Plain, Made, Wanted, wanted, NotYet, Refused, Name, is_acknowledged, left_of, waits_for_capture, web_spec, web_want, MOST_POLLS, and_true, choose, eqb-eq, ltb-zero, not-true, by_own_fin, on_tick_by, every, AbortAndCloseApart, ClosesInTime, is_at_end}
 
 -- ---- the text of a capture is never empty
 
@@ -17,12 +17,12 @@ some_of_many : {X : Type 0} (f : X → List ℕ) (xs : List X) → 0 < length xs
 some_of_many f [] l h = absurd (omega (arith, l))
 some_of_many f (x ∷ xs) l h = omega (arith, h x, length-append (f x) (flat_map f xs))
 
-row_says : (row : Row) → 0 < length (row_text row)
+row_sends : (row : Row) → 0 < length (row_text row)
 unfolding row_parts
-row_says row = omega arith
+row_sends row = omega arith
 
-counter_says : (n : ℕ) → 0 < length (counter_line n)
-counter_says n = omega (arith, length-append (in_ten_places n) (10 ∷ []))
+counter_sends : (n : ℕ) → 0 < length (counter_line n)
+counter_sends n = omega (arith, length-append (in_ten_places n) (10 ∷ []))
 
 not_silent : (x : ℕ) (xs : List ℕ) → ltb 0 (length (x ∷ xs)) ≡ false → ⊥
 not_silent x xs e = absurd (let z : length (x ∷ xs) ≡ 0 = ltb-zero (length (x ∷ xs)) e in omega (arith, z))
@@ -30,13 +30,13 @@ not_silent x xs e = absurd (let z : length (x ∷ xs) ≡ 0 = ltb-zero (length (
 -- ---- a capture makes a page longer
 
 module _ (files : List File) where
-  behind : (f : Function) (argument : List ℕ) (more : List (Say Function)) (first : Snapshot) (later : List Snapshot) (new : Snapshot) → length (page_text files more later) < length (page_text files more (later ++ new ∷ []))
+  the_rest_after : (f : Function) (argument : List ℕ) (more : List (ScriptPiece Function)) (first : Snapshot) (later : List Snapshot) (new : Snapshot) → length (page_text files more later) < length (page_text files more (later ++ new ∷ []))
       → length (made_text files f argument first ++ page_text files more later) < length (made_text files f argument first ++ page_text files more (later ++ new ∷ []))
-  behind f argument more first later new l =
+  the_rest_after f argument more first later new l =
       let output : List ℕ = made_text files f argument first in
       omega (arith, l, length-append output (page_text files more later), length-append output (page_text files more (later ++ new ∷ [])))
 
-  grows : (pieces : List (Say Function)) (captures : List Snapshot) (new : Snapshot) → IsSeen new.now → reach_end pieces captures ≡ false
+  grows : (pieces : List (ScriptPiece Function)) (captures : List Snapshot) (new : Snapshot) → IsSeen new.now → reach_end pieces captures ≡ false
       → length (page_text files pieces captures) < length (page_text files pieces (captures ++ new ∷ []))
   grows [] captures new g h = absurd (cc)
   grows (Plain text ∷ more) captures new g h =
@@ -44,16 +44,16 @@ module _ (files : List File) where
   grows (Made FileStats argument ∷ more) [] new g h =
       omega (arith, ten_places (hits_of files new.numbers argument), length-append (made_text files FileStats argument new) (page_text files more []))
   grows (Made TcpConnections argument ∷ more) [] new g h =
-      omega (arith, some_of_many row_text new.now.rows g.rows row_says, length-append (made_text files TcpConnections argument new) (page_text files more []))
+      omega (arith, some_of_many row_text new.now.rows g.rows row_sends, length-append (made_text files TcpConnections argument new) (page_text files more []))
   grows (Made NetStats argument ∷ more) [] new g h =
-      omega (arith, some_of_many counter_line new.now.net g.net counter_says, length-append (made_text files NetStats argument new) (page_text files more []))
+      omega (arith, some_of_many counter_line new.now.net g.net counter_sends, length-append (made_text files NetStats argument new) (page_text files more []))
   grows (Made Ticks argument ∷ more) [] new g h =
       omega (arith, ten_places new.now.ticks, length-append (made_text files Ticks argument new) (page_text files more []))
   grows (Made Unknown argument ∷ more) [] new g h = grows more [] new g h
-  grows (Made FileStats argument ∷ more) (first ∷ later) new g h = behind FileStats argument more first later new (grows more later new g h)
-  grows (Made TcpConnections argument ∷ more) (first ∷ later) new g h = behind TcpConnections argument more first later new (grows more later new g h)
-  grows (Made NetStats argument ∷ more) (first ∷ later) new g h = behind NetStats argument more first later new (grows more later new g h)
-  grows (Made Ticks argument ∷ more) (first ∷ later) new g h = behind Ticks argument more first later new (grows more later new g h)
+  grows (Made FileStats argument ∷ more) (first ∷ later) new g h = the_rest_after FileStats argument more first later new (grows more later new g h)
+  grows (Made TcpConnections argument ∷ more) (first ∷ later) new g h = the_rest_after TcpConnections argument more first later new (grows more later new g h)
+  grows (Made NetStats argument ∷ more) (first ∷ later) new g h = the_rest_after NetStats argument more first later new (grows more later new g h)
+  grows (Made Ticks argument ∷ more) (first ∷ later) new g h = the_rest_after Ticks argument more first later new (grows more later new g h)
   grows (Made Unknown argument ∷ more) (first ∷ later) new g h = grows more (first ∷ later) new g h
 
   -- ---- a connection that is not at the end of its page
@@ -136,13 +136,13 @@ module _ (files : List File) where
       wanted_apart fresh (prepared m now o.connection o.numbers) o.numbers (prepared_apart o.numbers o.connection.part now (g.seen o.connection h.0) h.1)
   asked_apart at g o _ h = h
 
-  heard_apart : (numbers : List ℕ) (p : AppState) (text : List ℕ) → Apart p → Apart (delivers_text m numbers p text).part
-  heard_apart numbers p [] h = h
-  heard_apart numbers p (x ∷ xs) h = moved_apart (delivers_text m numbers p (x ∷ xs)).part refl
+  received_apart : (numbers : List ℕ) (p : AppState) (text : List ℕ) → Apart p → Apart (delivers_text m numbers p text).part
+  received_apart numbers p [] h = h
+  received_apart numbers p (x ∷ xs) h = moved_apart (delivers_text m numbers p (x ∷ xs)).part refl
 
-  nothing_heard : (numbers : List ℕ) (p : AppState) (text : List ℕ) → ltb 0 (length text) ≡ false → is_at_end files p ≡ false → is_at_end files (delivers_text m numbers p text).part ≡ false
-  nothing_heard numbers p [] e h = h
-  nothing_heard numbers p (x ∷ xs) e h = absurd (not_silent x xs e)
+  nothing_received : (numbers : List ℕ) (p : AppState) (text : List ℕ) → ltb 0 (length text) ≡ false → is_at_end files p ≡ false → is_at_end files (delivers_text m numbers p text).part ≡ false
+  nothing_received numbers p [] e h = h
+  nothing_received numbers p (x ∷ xs) e h = absurd (not_silent x xs e)
 
   -- nothing is acknowledged and nothing comes
   idle_still : (acked text : Bool) → not acked && not text ≡ true → (acked ≡ false) × (text ≡ false)
@@ -154,19 +154,19 @@ module _ (files : List File) where
       → Leaves (in_established m acked c numbers s)
   unfolding in_established peer_closes stays_established
   established_apart acked c numbers s e h i =
-      let delivered = heard_apart numbers c.part s.text h in
+      let delivered = received_apart numbers c.part s.text h in
       let incarnations : is_live c.state ≡ true = ap is_live e in
       choose (λ (o : Outcome). Leaves o) (has_fin s.flags) _ _
       (λ f. choose (λ (o : Outcome). Leaves o) (ltb 0 c.len) _ _ (λ l. record { idle = λ st z. absurd (let y : CloseWait ≡ Established = st in cc); apart = delivered }) (λ l. (refl, delivered)))
       (λ f. choose (λ (o : Outcome). Leaves o) (not acked && not (has_text s)) _ _
-      (λ g. (let both = idle_still acked (has_text s) g in record { idle = λ st z. nothing_heard numbers c.part s.text both.1 (i both.0 z); apart = delivered }))
+      (λ g. (let both = idle_still acked (has_text s) g in record { idle = λ st z. nothing_received numbers c.part s.text both.1 (i both.0 z); apart = delivered }))
       (λ g. choose (λ (o : Outcome). Leaves o) (ltb 0 c.len) _ _ (λ l. record { idle = λ st z. absurd (let y : ltb 0 0 ≡ true = subst (λ n. ltb 0 n ≡ true) z l in cc); apart = delivered }) (λ l. (incarnations, delivered))))
 
   state_apart : (st : State) (acked : Bool) (c : Connection) (numbers : List ℕ) (s : PlainSegment) → c.state ≡ st → ClosesInTime files c → Leaves (by_state m st acked c numbers s)
   unfolding fin_acked fin_waits
   state_apart SynRcvd true c numbers s e h =
       let start : After = m.connected numbers c.sockets.own_port.0 in
-      (refl, heard_apart start.numbers start.part s.text (moved_apart start.part refl))
+      (refl, received_apart start.numbers start.part s.text (moved_apart start.part refl))
   state_apart SynRcvd false c numbers s e h = h
   state_apart Established true c numbers s e h =
       let reported : After = m.acked numbers c.part c.len in
@@ -189,9 +189,9 @@ module _ (files : List File) where
   state_apart TimeWait acked c numbers s e h = h
   state_apart Closed acked c numbers s e h = h
 
-  hears_apart : (at : Connection → Now) → IsAt at → (c : Connection) (numbers : List ℕ) (s : PlainSegment) → ClosesInTime files c → ClosesInTime files (asked m at (on_segment m c numbers s)).connection
+  receives_apart : (at : Connection → Now) → IsAt at → (c : Connection) (numbers : List ℕ) (s : PlainSegment) → ClosesInTime files c → ClosesInTime files (asked m at (on_segment m c numbers s)).connection
   unfolding on_segment
-  hears_apart at g c numbers s h =
+  receives_apart at g c numbers s h =
       let o : Outcome = on_segment m c numbers s in
       asked_apart at g o o.step
       (choose (λ (x : Outcome). Leaves x) (has_rst s.flags) _ _ (λ r. closes_apart c h.apart)
@@ -239,4 +239,4 @@ module _ (files : List File) where
 
 pub abort_and_close_apart : AbortAndCloseApart
 abort_and_close_apart files c r =
-    every (web_spec files) (ClosesInTime files) (IsAt files) (snapshots files) (shut_apart files) (born_apart files) (hears_apart files) (ticks_apart files) r.served r.events r.addr r.numbers r.slot c r.there
+    every (web_spec files) (ClosesInTime files) (IsAt files) (snapshots files) (shut_apart files) (born_apart files) (receives_apart files) (ticks_apart files) r.served r.events r.addr r.numbers r.slot c r.there

@@ -41,8 +41,8 @@ buried_by true g x s h = record {
 buried_by false g x s h = h
 
 -- a client whose epoch is raised represents one whose epoch is raised
-buried_stands : (g : Connection) (x : CodeSide) (s : Side) → SideRepresents x s → SideRepresents (buried (pair_at g.sockets) x) (retires_in g s)
-buried_stands g x s h =
+buried_represents : (g : Connection) (x : CodeSide) (s : Side) → SideRepresents x s → SideRepresents (buried (pair_at g.sockets) x) (retires_in g s)
+buried_represents g x s h =
     let e : same_sockets g.sockets (sockets_for x.client.setup) ≡ same_sockets g.sockets (client_sockets s) = has_same g.sockets x s h in
     subst (λ (b : Bool). SideRepresents (buried (pair_at g.sockets) x) (if b then record s { history = s.history ++ record { iss = g.iss; snapshots = g.part.snapshots } ∷ [] } else s)) e
     (buried_by (same_sockets g.sockets (sockets_for x.client.setup)) g x s h)
@@ -53,7 +53,7 @@ all_buried gone g [] (s ∷ ss) e h = absurd (omega (arith, h.same_length))
 all_buried gone g (x ∷ xs) [] e h = absurd (omega (arith, h.same_length))
 all_buried gone g (x ∷ xs) (s ∷ ss) e h =
     matched_cons SideRepresents (buried gone x) (retires_in g s) (map (buried gone) xs) (retires (Some g) ss)
-    (subst (λ (p : SocketPair). SideRepresents (buried p x) (retires_in g s)) e (buried_stands g x s (matched_head SideRepresents x s xs ss h)))
+    (subst (λ (p : SocketPair). SideRepresents (buried p x) (retires_in g s)) e (buried_represents g x s (matched_head SideRepresents x s xs ss h)))
     (all_buried gone g xs ss e (matched_tail SideRepresents x s xs ss h))
 
 stays : (x : CodeSide) → OnlyEpoch x x

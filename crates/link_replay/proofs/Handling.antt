@@ -1,7 +1,7 @@
 -- The world after a step of its node.
 use Rattle.link_replay.proofs.Prelude.{◌≡◌, ℕ, zero, suc, ◌<◌, get_or, drop, ◌+◌, ◌++◌, ◌∷◌, [], Bool, false, List, length, refl, sym, ap, ◌∙◌, subst, arith, Option, Some, None, length-append, if◌then◌else◌, AppSpec, Ghosts, Addr, PlainSegment, Sockets, Event, Reply, tick, Arrived, Periodic, Echo, TcpReply, AbstractNode, NodeStep, step, connection_in, Node, Represents, AbstractClient, ClientStep, client_takes, client_acts, handed, receives_datagram, World, Side, at_side, retires, client_stepped, node_handles, node_stepped, numbered, posts, posts_reply, with_client, with_side, OfSegment, FromClient, where_there, owner, pair_at, WorldRepresents, LinkRepresents, IsLink, AreTo, IsTo, SocketPair, Link, CodeWorld}
 use Rattle.link_replay.proofs.Pairs.{left_is}
-use Rattle.link_replay.proofs.Replies.{SaidTo, arrived_reply, periodic_reply}
+use Rattle.link_replay.proofs.Replies.{SentTo, arrived_reply, periodic_reply}
 use Rattle.link_replay.proofs.Staying.{step_addr}
 
 reply_node : (w : World) (r : Option Reply) → (posts_reply w r).node ≡ w.node
@@ -35,7 +35,7 @@ module _ {A S : Type 0} (g : Ghosts A S) where
   recorded m served event node world w same n l i k f =
       handled m served event world w (subst (λ (x : Node A S). Represents g x (step m served w.node event).node (step m served w.node event).node.history) (sym same) n) l i k f
 
-sent_to : (sockets : Sockets) (to : Option SocketPair) (r : Reply) → to ≡ Some (pair_at sockets) → SaidTo sockets r → IsTo to r
+sent_to : (sockets : Sockets) (to : Option SocketPair) (r : Reply) → to ≡ Some (pair_at sockets) → SentTo sockets r → IsTo to r
 sent_to sockets to r e h = subst (λ x. IsTo to x) (sym h.is) e
 
 -- the answer to a segment goes to its sender

@@ -49,9 +49,9 @@ module _ (files : List File) where
   closes_counts c how numbers s = record { hits = reported_same how c.state c.part numbers ∙ sym (same_by numbers (asks c)); fresh = tt }
 
   -- what the application receives
-  hears_hits : (numbers : List ℕ) (p : AppState) (text : List ℕ) → (delivers_text m numbers p text).numbers ≡ hits_by files numbers (wanted p.input) (wanted (delivers_text m numbers p text).part.input)
-  hears_hits numbers p [] = sym (same_by numbers (wanted p.input))
-  hears_hits numbers p (x ∷ xs) = refl
+  receives_hits : (numbers : List ℕ) (p : AppState) (text : List ℕ) → (delivers_text m numbers p text).numbers ≡ hits_by files numbers (wanted p.input) (wanted (delivers_text m numbers p text).part.input)
+  receives_hits numbers p [] = sym (same_by numbers (wanted p.input))
+  receives_hits numbers p (x ∷ xs) = refl
 
   -- ---- asking
 
@@ -89,15 +89,15 @@ module _ (files : List File) where
   closes_in : (c : Connection) (numbers : List ℕ) (s : PlainSegment) → Counts (asks c) numbers (peer_closes m c numbers s)
   unfolding peer_closes
   closes_in c numbers s =
-      choose (λ (o : Outcome). Counts (asks c) numbers o) (ltb 0 c.len) _ _ (λ e. record { hits = hears_hits numbers c.part s.text; fresh = tt }) (λ e. record { hits = hears_hits numbers c.part s.text; fresh = tt })
+      choose (λ (o : Outcome). Counts (asks c) numbers o) (ltb 0 c.len) _ _ (λ e. record { hits = receives_hits numbers c.part s.text; fresh = tt }) (λ e. record { hits = receives_hits numbers c.part s.text; fresh = tt })
 
   goes_on_in : (acked : Bool) (c : Connection) (numbers : List ℕ) (s : PlainSegment) → c.state ≡ Established → Counts (asks c) numbers (stays_established m acked c numbers s)
   unfolding stays_established
   goes_on_in acked c numbers s st =
       let d : Connection = with_window s.window (with_part (delivers_text m numbers c.part s.text).part (takes (length s.text) c)) in
       let f : Fresh d.state d = at_state d Established st tt in
-      choose (λ (o : Outcome). Counts (asks c) numbers o) (not acked && not (has_text s)) _ _ (λ e. record { hits = hears_hits numbers c.part s.text; fresh = f })
-      (λ e. choose (λ (o : Outcome). Counts (asks c) numbers o) (ltb 0 c.len) _ _ (λ g. record { hits = hears_hits numbers c.part s.text; fresh = f }) (λ g. record { hits = hears_hits numbers c.part s.text; fresh = f }))
+      choose (λ (o : Outcome). Counts (asks c) numbers o) (not acked && not (has_text s)) _ _ (λ e. record { hits = receives_hits numbers c.part s.text; fresh = f })
+      (λ e. choose (λ (o : Outcome). Counts (asks c) numbers o) (ltb 0 c.len) _ _ (λ g. record { hits = receives_hits numbers c.part s.text; fresh = f }) (λ g. record { hits = receives_hits numbers c.part s.text; fresh = f }))
 
   established_counts : (acked : Bool) (c : Connection) (numbers : List ℕ) (s : PlainSegment) → c.state ≡ Established → Counts (asks c) numbers (in_established m acked c numbers s)
   unfolding in_established
@@ -109,7 +109,7 @@ module _ (files : List File) where
   by_state_counts SynRcvd true c numbers s e f =
       let start : After = m.connected numbers c.sockets.own_port.0 in
       let o : Outcome = by_state m SynRcvd true c numbers s in
-      record { hits = hears_hits start.numbers start.part s.text ∙ ap (λ xs. hits_by files numbers (wanted xs) (asks o.connection)) (sym f); fresh = tt }
+      record { hits = receives_hits start.numbers start.part s.text ∙ ap (λ xs. hits_by files numbers (wanted xs) (asks o.connection)) (sym f); fresh = tt }
   by_state_counts SynRcvd false c numbers s e f = quiet c c numbers Step.Drop refl (at_state c SynRcvd e f)
   by_state_counts Established true c numbers s e f =
       let reported : After = m.acked numbers c.part c.len in

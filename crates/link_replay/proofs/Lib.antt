@@ -17,10 +17,10 @@ pub mod Losing
 pub mod Answered
 pub mod Opened
 pub mod Played
-pub mod Hearing
+pub mod Reception
 pub mod Listing
-pub mod Saying
-pub mod Standing
+pub mod Transmission
+pub mod Representing
 pub mod Shown
 pub mod ReportWritten
 pub mod WorkedReports

@@ -1,6 +1,6 @@
 -- The texts of a list's elements, one after another, and the digits of bytes.
 use Rattle.link_replay.proofs.Prelude.{◌≡◌, ℕ, ◌+◌, ◌<◌, ◌≤◌, List, [], ◌∷◌, ◌++◌, length, take, drop, get_or, Option, Some, Result, Ok, Err, inl, inr, refl, sym, ap, ◌∙◌, arith, add-one, drop-cons, slice_index, slice_get, ◌/◌, ◌%◌, take-append-drop, drop_all, slice_get_cases, slice_get_within, get_or_from_slice_get, encode_with, encode_lower, Matched, numbered_texts, Wrote}
-use Rattle.link_replay.proofs.Saying.{Saying, saying_more, saying_stops, saying_done}
+use Rattle.link_replay.proofs.Transmission.{Transmission, sending_more, sending_stops, sending_done}
 
 pub encode_with-append : (t xs ys : List ℕ) → encode_with t (xs ++ ys) ≡ encode_with t xs ++ encode_with t ys
 unfolding encode_with
@@ -34,27 +34,27 @@ texts_step {X} text n i xs x at =
 module _ {X Y : Type 0} (P : X → Y → Type 0) (xs : List X) (ys : List Y) (text : ℕ → Y → List ℕ) (m : Matched P xs ys) where
   -- one more
   pub texts_more : {T E : Type 0} (i : ℕ) (x : X) (first mid now : Option (List ℕ)) (t : T) → slice_get xs i ≡ Some x
-      → Saying first mid (numbered_texts text 1 ys) (numbered_texts text (i + 1) (drop i ys))
+      → Transmission first mid (numbered_texts text 1 ys) (numbered_texts text (i + 1) (drop i ys))
       → ((y : Y) → slice_get ys i ≡ Some y → P x y → Wrote {T = T} {E = E} mid now (Ok t) (text (i + 1) y))
-      → Saying first now (numbered_texts text 1 ys) (numbered_texts text (i + 1 + 1) (drop (i + 1) ys))
+      → Transmission first now (numbered_texts text 1 ys) (numbered_texts text (i + 1 + 1) (drop (i + 1) ys))
   texts_more i x first mid now t at s w =
       let there = partner P xs ys i x m at in
-      saying_more first mid now (numbered_texts text 1 ys) (numbered_texts text (i + 1) (drop i ys)) (text (i + 1) there.0) _ t s
+      sending_more first mid now (numbered_texts text 1 ys) (numbered_texts text (i + 1) (drop i ys)) (text (i + 1) there.0) _ t s
       (texts_step text (i + 1) i ys there.0 there.1) (w there.0 there.1 there.2)
 
   -- one failed
   pub texts_stop : {T U E D : Type 0} (i : ℕ) (x : X) (first mid now : Option (List ℕ)) (e : E) (d : D) (r : Result U D) → r ≡ Err d → slice_get xs i ≡ Some x
-      → Saying first mid (numbered_texts text 1 ys) (numbered_texts text (i + 1) (drop i ys))
+      → Transmission first mid (numbered_texts text 1 ys) (numbered_texts text (i + 1) (drop i ys))
       → ((y : Y) → slice_get ys i ≡ Some y → P x y → Wrote {T = T} {E = E} mid now (Err e) (text (i + 1) y))
       → Wrote first now r (numbered_texts text 1 ys)
   texts_stop i x first mid now e d r is at s w =
       let there = partner P xs ys i x m at in
-      saying_stops first mid now (numbered_texts text 1 ys) (numbered_texts text (i + 1) (drop i ys)) (text (i + 1) there.0) _ e d r is s
+      sending_stops first mid now (numbered_texts text 1 ys) (numbered_texts text (i + 1) (drop i ys)) (text (i + 1) there.0) _ e d r is s
       (texts_step text (i + 1) i ys there.0 there.1) (w there.0 there.1 there.2)
 
   -- all are written
   pub texts_end : {T E : Type 0} (i : ℕ) (first now : Option (List ℕ)) (t : T) → length xs ≤ i
-      → Saying first now (numbered_texts text 1 ys) (numbered_texts text (i + 1) (drop i ys)) → Wrote {T = T} {E = E} first now (Ok t) (numbered_texts text 1 ys)
+      → Transmission first now (numbered_texts text 1 ys) (numbered_texts text (i + 1) (drop i ys)) → Wrote {T = T} {E = E} first now (Ok t) (numbered_texts text 1 ys)
   texts_end i first now t le s =
       let none : drop i ys ≡ [] = drop_all i ys (omega (arith, m.same_length)) in
-      saying_done first now (numbered_texts text 1 ys) (numbered_texts text (i + 1) (drop i ys)) t s (ap (λ (l : List Y). numbered_texts text (i + 1) l) none)
+      sending_done first now (numbered_texts text 1 ys) (numbered_texts text (i + 1) (drop i ys)) t s (ap (λ (l : List Y). numbered_texts text (i + 1) l) none)

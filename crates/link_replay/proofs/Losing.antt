@@ -146,11 +146,11 @@ lost_by : {A S : Type 0} (g : Ghosts A S) (k : g.Config) (c : Conn A) (a : Conne
 lost_by g k c a None h = refl
 lost_by g k c a (Some p) h = ap (λ (b : Bool). if b then None else Some p) (at_serves g k c a p h)
 
-abbrev AllStand : {A S : Type 0} (g : Ghosts A S) → g.Config → List (Conn A) → List Connection → Type 0
-AllStand {A} g k cs abstracts = (i : ℕ) (c : Conn A) (a : Connection) → slice_get cs i ≡ Some c → slice_get abstracts i ≡ Some a → ConnRepresents g k c a
+abbrev AllRepresent : {A S : Type 0} (g : Ghosts A S) → g.Config → List (Conn A) → List Connection → Type 0
+AllRepresent {A} g k cs abstracts = (i : ℕ) (c : Conn A) (a : Connection) → slice_get cs i ≡ Some c → slice_get abstracts i ≡ Some a → ConnRepresents g k c a
 
 lost_agrees : {A S : Type 0} (g : Ghosts A S) (k : g.Config) (pairs : List (Option SocketPair)) (cs : List (Conn A)) (abstracts : List Connection) → length abstracts ≡ length cs →
-    AllStand g k cs abstracts → lost pairs cs ≡ left pairs abstracts
+    AllRepresent g k cs abstracts → lost pairs cs ≡ left pairs abstracts
 lost_agrees g k [] cs abstracts e h = refl
 lost_agrees g k (p ∷ pairs) [] [] e h = refl
 lost_agrees g k (p ∷ pairs) [] (a ∷ abstracts) e h = absurd (omega (arith, e))
@@ -171,7 +171,7 @@ owner_agrees : {A S : Type 0} (g : Ghosts A S) (k : g.Config) (c : Conn A) (a : 
 owner_agrees g k c a h = agrees g k c a (λ b q. if b then Some q else None) (λ x y. refl) h
 
 owners_agree : {A S : Type 0} (g : Ghosts A S) (k : g.Config) (cs : List (Conn A)) (abstracts : List Connection) → length abstracts ≡ length cs →
-    AllStand g k cs abstracts → map owner_in cs ≡ map owner abstracts
+    AllRepresent g k cs abstracts → map owner_in cs ≡ map owner abstracts
 owners_agree g k [] [] e h = refl
 owners_agree g k [] (a ∷ abstracts) e h = absurd (omega (arith, e))
 owners_agree g k (c ∷ cs) [] e h = absurd (omega (arith, e))
@@ -180,5 +180,5 @@ owners_agree g k (c ∷ cs) (a ∷ abstracts) e h =
     ∙ ap (λ (os : List (Option SocketPair)). owner a ∷ os) (owners_agree g k cs abstracts (omega (arith, e)) (λ i d b f g. h (suc i) d b f g))
 
 -- the owners of the slots of the code are those of the slots over plain data
-pub owners_stand : {A S : Type 0} (g : Ghosts A S) (k : g.Config) (cs : List (Conn A)) (abstracts : List Connection) → SlotsRepresent g k cs abstracts → map owner_in cs ≡ map owner abstracts
-owners_stand g k cs abstracts h = owners_agree g k cs abstracts h.same_length h.each
+pub owners_represent : {A S : Type 0} (g : Ghosts A S) (k : g.Config) (cs : List (Conn A)) (abstracts : List Connection) → SlotsRepresent g k cs abstracts → map owner_in cs ≡ map owner abstracts
+owners_represent g k cs abstracts h = owners_agree g k cs abstracts h.same_length h.each

@@ -95,8 +95,8 @@ all_planned plans sides h k p g =
     let s = slice_get-element sides k (omega (arith, l, h.same_length)) in
     subst IsPlanned (sym (r.is ∙ ap (λ (n : ℕ). planned n r.plan) (first_number k))) (h.each k r.plan s.0 r.get s.1).in_range
 
-pub sides_stand : (plans : List Plan) (sides : List CodeSide) → AreFresh plans sides → Matched SideRepresents sides (map fresh_side (plan_from 1 plans))
-sides_stand plans sides h = record {
+pub sides_represent : (plans : List Plan) (sides : List CodeSide) → AreFresh plans sides → Matched SideRepresents sides (map fresh_side (plan_from 1 plans))
+sides_represent plans sides h = record {
   same_length = h.same_length ∙ sym (length-map (plan_from 1 plans) fresh_side ∙ plan_length 1 plans);
   each = λ i x y g f.
       (let m = get_map fresh_side (plan_from 1 plans) i y f in
@@ -166,5 +166,5 @@ is_plan plans apart each = record {
 }
 
 -- no datagram
-pub none_stand : (w : World) (sent : List CodeSent) → sent ≡ [] → Matched (SentRepresents w) sent []
-none_stand w sent none = record { same_length = ap length none; each = λ i x y g h. absurd (cc) }
+pub none_represent : (w : World) (sent : List CodeSent) → sent ≡ [] → Matched (SentRepresents w) sent []
+none_represent w sent none = record { same_length = ap length none; each = λ i x y g h. absurd (cc) }

@@ -1,5 +1,5 @@
 -- What is due for a schedule that was played by the server of a site.
-use Rattle.link_replay.proofs.Prelude.{All, ◌≡◌, ℕ, List, Result, Ok, Err, length, sym, subst, refl, inl, inr, ap, ◌∙◌, Bool, lit<, All-replicate, AppSpec, IsByte, IsPaged, IsU32, Pages, SiteContent, IsLoaded, files_of, File, pages_of, web_spec, keeps_page_laws, ReadsSchedule, IfOk, MatchResult, Some, slice_get, BadText, SchedulePlan, read_text, ReadSchedule, Bad, HasBytes, plays, World, plan_from, PlaysSchedule, Reaches, Refuses, IsAt, bad_schedule, outcome, is_served, no_hits, WritesDue, IsPlayDue, IsTextDue, WritesFault, reported_of, HasReached, ServesHonest, KeepsPromises, ReplayEnd, Telling, Report, Planned, IsPlanned, WritesEnd, SinkView}
+use Rattle.link_replay.proofs.Prelude.{All, ◌≡◌, ℕ, List, Result, Ok, Err, length, sym, subst, refl, inl, inr, ap, ◌∙◌, Bool, lit<, All-replicate, AppSpec, IsByte, IsPaged, IsU32, Pages, SiteContent, IsLoaded, files_of, File, pages_of, web_spec, keeps_page_laws, ReadsSchedule, IfOk, MatchResult, Some, slice_get, BadText, SchedulePlan, read_text, ReadSchedule, Bad, HasBytes, plays, World, plan_from, PlaysSchedule, Reaches, Refuses, IsAt, bad_schedule, outcome, is_served, no_hits, WritesDue, IsPlayDue, IsTextDue, WritesFault, reported_of, HasReached, ServesHonest, KeepsPromises, ReplayEnd, OutputForm, Report, Planned, IsPlanned, WritesEnd, SinkView}
 use Rattle.link_schedule.specs.declared.read_schedule.ReadSchedule.TheVariants.{NoMemory}
 use Rattle.link_replay.specs.declared.commands.replay_end.ReplayEnd.TheVariants as ends
 use Rattle.link_replay.proofs.Honest.{honest_at}
@@ -58,27 +58,27 @@ module _ {X : Type 0} (Now : X → World → Type 0) (content : SchedulePlan) (s
       let reach : Reaches (web_spec (files_of site)) is_served (Now x) (outcome (files_of site) content) = plays in
       reached_where (ServesHonest (files_of site) content) x reach (honest_at site loaded content are_planned reach.world reach.meant_so)
 
-module _ (site : SiteContent) (loaded : IsLoaded site) (content : SchedulePlan) (telling : Telling) (old new : SinkView) (result : ReplayEnd) where
+module _ (site : SiteContent) (loaded : IsLoaded site) (content : SchedulePlan) (chosen_form : OutputForm) (old new : SinkView) (result : ReplayEnd) where
   -- the schedule was played to its end, and its world reported
   pub played_due : All IsByte site.image → (Now : World → Type 0)
       → ((k : ℕ) (p : Planned) → slice_get (plan_from 1 content.clients) k ≡ Some p → IsPlanned p)
       → Reaches (web_spec (files_of site)) is_served Now (outcome (files_of site) content)
-      → ((m : AppSpec) (served : ℕ → Bool) (w : World) → Now w → IsAt m served w → WritesEnd ends.Done ends.WriteFault old new (reported_of telling w) result)
-      → WritesDue (IsPlayDue (files_of site) content telling) old new result
+      → ((m : AppSpec) (served : ℕ → Bool) (w : World) → Now w → IsAt m served w → WritesEnd ends.Done ends.WriteFault old new (reported_of chosen_form w) result)
+      → WritesDue (IsPlayDue (files_of site) content chosen_form) old new result
   played_due bytes Now are_planned reach wrote =
-      let due : IsPlayDue (files_of site) content telling (reported_of telling reach.world) ends.Done = record {
+      let due : IsPlayDue (files_of site) content chosen_form (reported_of chosen_form reach.world) ends.Done = record {
         world = reach.world;
         plays = reach.meant_so;
         reported = refl;
         promises = keeps_promises site loaded bytes is_served reach.world reach.at;
         honest = honest_at site loaded content are_planned reach.world reach.meant_so;
       } in
-      inl (reported_of telling reach.world, ends.Done, due, wrote (web_spec (files_of site)) is_served reach.world reach.now reach.at)
+      inl (reported_of chosen_form reach.world, ends.Done, due, wrote (web_spec (files_of site)) is_served reach.world reach.now reach.at)
 
   -- a line of it was refused, and is reported
   pub refused_due : {X : Type 0} (Now : X → World → Type 0) (fault : ReadSchedule)
       → PlaysSchedule (web_spec (files_of site)) is_served (no_hits (files_of site)) content Now (Err fault)
-      → WritesFault fault old new result → WritesDue (IsPlayDue (files_of site) content telling) old new result
+      → WritesFault fault old new result → WritesDue (IsPlayDue (files_of site) content chosen_form) old new result
   refused_due Now NoMemory plays short = inr short
   refused_due Now (Bad line why) plays (inr short) = inr short
   refused_due Now (Bad line why) plays (inl wrote) =

@@ -20,10 +20,10 @@ pub use Rattle.link_replay.specs.declared.world.client_steps.Own.{Own}
 pub use Rattle.link_replay.specs.declared.commands.replay_end.ReplayEnd.{ReplayEnd}
 pub use Rattle.link_replay.specs.declared.world.socket_pair.SocketPair.{SocketPair}
 pub use Rattle.link_replay.specs.declared.report.tally.Tally.{Tally}
-pub use Rattle.link_replay.specs.declared.commands.output_form.Telling.{Telling}
-pub use Rattle.link_replay.specs.declared.commands.output_form.Telling.TheVariants.{Report, Summary}
+pub use Rattle.link_replay.specs.declared.commands.output_form.OutputForm.{OutputForm}
+pub use Rattle.link_replay.specs.declared.commands.output_form.OutputForm.TheVariants.{Report, Summary}
 pub use Rattle.link_schedule.proofs.Keeping.{kept_where_read, lines_keep, of_words}
-pub use Rattle.link_schedule.proofs.Kept.{anything, behind, either, tested, within_range}
+pub use Rattle.link_schedule.proofs.Kept.{anything, the_rest_after, either, tested, within_range}
 pub use Rattle.link_schedule.specs.Answer.{ReadsSchedule}
 pub use Rattle.link_schedule.specs.Clients.{Plan, got, is_target, plan_of, plan_with, raw, request_of, side_of}
 pub use Rattle.link_schedule.specs.Events.{event_of_words}
@@ -42,7 +42,7 @@ pub use Rattle.link_schedule.specs.declared.why.Why.TheVariants.{Clients, Form, 
 pub use Rattle.link_world.proofs.Accepting.{AreKept, FineLines, IsKept, IsOpening, keeps_again, keeps_half, keeps_lose, keeps_reverse, keeps_round, keeps_tick, keeps_twice, kept_append, kept_fine, kept_replicate, opening_ready, opens_fine}
 pub use Rattle.link_world.proofs.Damages.{act_harmless}
 pub use Rattle.link_world.proofs.Doing.{damaged, goes_on_with, where_there, with_mark}
-pub use Rattle.link_world.proofs.Hearing.{same_hearing}
+pub use Rattle.link_world.proofs.Reception.{same_receiving}
 pub use Rattle.link_world.proofs.Honest.{honest_link}
 pub use Rattle.link_world.proofs.HonestNode.{mss_low}
 pub use Rattle.link_world.proofs.Lines.{line_acts, lines_are_acts, runs_joined, runs_mark}
@@ -115,7 +115,7 @@ pub use Rattle.web_pages.proofs.Bounds.{silent_none, text_bound}
 pub use Rattle.web_pages.proofs.ByteLaws.{made_of_bytes}
 pub use Rattle.web_pages.proofs.Limits.{uip_short}
 pub use Rattle.web_pages.proofs.PageLaws.{keeps_page_laws}
-pub use Rattle.web_pages.specs.Prelude.{Made, Name, NotYet, Plain, Refused, Say, Wanted, hit_at, hits_by, hits_of, is_acknowledged, is_page_whole, is_served, left_of, made_end, made_first, made_text, name_stays, newdata_grows, no_hits, page, page_for, page_text, pages_of, place_of, reach_end, reply_pieces, silent_end, silent_text, stopped_text, waits_for_capture, wanted, web_spec, web_want, whole_for, with_capture}
+pub use Rattle.web_pages.specs.Prelude.{Made, Name, NotYet, Plain, Refused, ScriptPiece, Wanted, hit_at, hits_by, hits_of, is_acknowledged, is_page_whole, is_served, left_of, made_end, made_first, made_text, name_stays, newdata_grows, no_hits, page, page_for, page_text, pages_of, place_of, reach_end, reply_pieces, silent_end, silent_text, stopped_text, waits_for_capture, wanted, web_spec, web_want, whole_for, with_capture}
 pub use Rattle.web_pages.specs.declared.TheConstants.{MOST_POLLS}
 pub use Rattle.workload.proofs.Keeping.{of_drawn}
 pub use Rattle.workload.specs.Prelude.{client_of, event_drawn, events_of, happens, numbered_from, words_from, workload_of}

@@ -1,5 +1,5 @@
 -- The prefix of a text that is read of its file shows all that the whole text does.
-use Rattle.link_replay.proofs.Prelude.{◌≡◌, ℕ, ◌+◌, List, length, take, Result, Ok, Err, Option, Some, None, refl, sym, ap, subst, ◌∙◌, inl, inr, Bool, arith, IsSomeAnd, nat_le, ◌==◌, if◌then◌else◌, MatchResult, ⊤, slice_split, cases_lt, lt-leb, take_all, length-take-le, HoldsFile, File, FindsInFiles, site_read, Files, BadText, SchedulePlan, nothing_yet, read_lines, read_text, Long, bad_schedule, IsReplayText, IsPlayDue, IsTextDue, Telling, Report, ReplayEnd}
+use Rattle.link_replay.proofs.Prelude.{◌≡◌, ℕ, ◌+◌, List, length, take, Result, Ok, Err, Option, Some, None, refl, sym, ap, subst, ◌∙◌, inl, inr, Bool, arith, IsSomeAnd, nat_le, ◌==◌, if◌then◌else◌, MatchResult, ⊤, slice_split, cases_lt, lt-leb, take_all, length-take-le, HoldsFile, File, FindsInFiles, site_read, Files, BadText, SchedulePlan, nothing_yet, read_lines, read_text, Long, bad_schedule, IsReplayText, IsPlayDue, IsTextDue, OutputForm, Report, ReplayEnd}
 use Rattle.link_replay.specs.declared.commands.replay_end.ReplayEnd.TheVariants as ends
 
 -- a text that is longer than the limit is so by one byte more than it
@@ -40,10 +40,10 @@ IsPlayEnd ends.Done = ⊤
 IsPlayEnd (ends.BadSchedule line why) = ⊤
 IsPlayEnd _ = ⊥
 
-play_ends : (files : List File) (content : SchedulePlan) (telling : Telling) (text : List ℕ) (end : ReplayEnd) → IsPlayDue files content telling text end → IsPlayEnd end
-play_ends files content telling text ends.Done due = tt
-play_ends files content telling text (ends.BadSchedule line why) due = tt
-play_ends files content telling text _ due = due
+play_ends : (files : List File) (content : SchedulePlan) (chosen_form : OutputForm) (text : List ℕ) (end : ReplayEnd) → IsPlayDue files content chosen_form text end → IsPlayEnd end
+play_ends files content chosen_form text ends.Done due = tt
+play_ends files content chosen_form text (ends.BadSchedule line why) due = tt
+play_ends files content chosen_form text _ due = due
 
 pub text_ends : (files : List File) (bytes : List ℕ) (show : Bool) (text : List ℕ) (end : ReplayEnd) → IsTextDue files bytes show text end → IsPlayEnd end
 text_ends files bytes show text end due = go (read_text bytes) due

@@ -1,5 +1,5 @@
 -- A client's step in the world.
-use Rattle.link_replay.proofs.Prelude.{◌≡◌, ℕ, zero, suc, ◌<◌, ◌≤◌, ◌⊎◌, inl, inr, ◌++◌, replicate, drop, false, List, [], ◌∷◌, length, take, set, refl, sym, ap, ◌∙◌, subst, arith, Option, Some, None, slice_get, length-take, if◌then◌else◌, PlainSegment, datagram_bytes, option_map_or, closed, drop_all, take_all, append_nothing, abstract_client, Sends, client_datagram, client_hands, client_receives, FitsRequest, AbstractClient, ClientStep, client_takes, ClientState, Idle, Setup, same_hearing, ticks_of, handed, bytes_by, client_bytes, World, Side, at_side, numbered, epoch, past_connection_of, becomes_opened, client_stepped, with_client, with_side, OfSegment, FromClient, get_set_same, set_same, Stepped, Addr, CodeSent, LinkRepresents, SideRepresents, IsLink, Link, link_of, PostsOfClient, CodeSide}
+use Rattle.link_replay.proofs.Prelude.{◌≡◌, ℕ, zero, suc, ◌<◌, ◌≤◌, ◌⊎◌, inl, inr, ◌++◌, replicate, drop, false, List, [], ◌∷◌, length, take, set, refl, sym, ap, ◌∙◌, subst, arith, Option, Some, None, slice_get, length-take, if◌then◌else◌, PlainSegment, datagram_bytes, option_map_or, closed, drop_all, take_all, append_nothing, abstract_client, Sends, client_datagram, client_hands, client_receives, FitsRequest, AbstractClient, ClientStep, client_takes, ClientState, Idle, Setup, same_receiving, ticks_of, handed, bytes_by, client_bytes, World, Side, at_side, numbered, epoch, past_connection_of, becomes_opened, client_stepped, with_client, with_side, OfSegment, FromClient, get_set_same, set_same, Stepped, Addr, CodeSent, LinkRepresents, SideRepresents, IsLink, Link, link_of, PostsOfClient, CodeSide}
 use Rattle.link_replay.proofs.Pairs.{partner}
 use Rattle.link_replay.proofs.Places.{link_put, side_put}
 
@@ -140,8 +140,8 @@ stepped_handed w n s None g = ap (λ (xs : List Side). record w { sides = xs }) 
 stepped_handed w n s (Some x) g = refl
 
 -- what a client does with the bytes that it receives
-pub heard_handed : (w : World) (number n : ℕ) (s : Side) (bytes : List ℕ) → number ≡ suc n → slice_get w.sides n ≡ Some s →
+pub received_handed : (w : World) (number n : ℕ) (s : Side) (bytes : List ℕ) → number ≡ suc n → slice_get w.sides n ≡ Some s →
     client_stepped w number s (client_hands s.client (client_receives s.client.setup bytes)) ≡ handed w number bytes s
-heard_handed w number n s bytes is g =
+received_handed w number n s bytes is g =
     subst (λ k. client_stepped w k s (client_hands s.client (client_receives s.client.setup bytes)) ≡ handed w k bytes s) (sym is)
-    (stepped_handed w n s (client_receives s.client.setup bytes) g ∙ ap (λ (o : Option PlainSegment). option_map_or (λ x. client_stepped w (suc n) s (client_takes s.client x)) o w) (same_hearing s.client.setup bytes))
+    (stepped_handed w n s (client_receives s.client.setup bytes) g ∙ ap (λ (o : Option PlainSegment). option_map_or (λ x. client_stepped w (suc n) s (client_takes s.client x)) o w) (same_receiving s.client.setup bytes))

@@ -13,9 +13,9 @@ pub sides_reported : (xs : List CodeSide) (ss : List Side) → Matched SideRepre
 sides_reported xs ss m = same_images SideRepresents (λ x. code_side_shown x) (λ s. side_shown s) xs ss side_reported m
 
 -- and so the lines of the clients
-pub lines_stand : (show : Bool) (xs : List CodeSide) (ss : List Side) → Matched SideRepresents xs ss
+pub lines_represent : (show : Bool) (xs : List CodeSide) (ss : List Side) → Matched SideRepresents xs ss
     → numbered_texts (lines_of_client show) 1 (map code_side_shown xs) ≡ numbered_texts (lines_of_client show) 1 (map side_shown ss)
-lines_stand show xs ss m = ap (λ (shown : List ShownSide). numbered_texts (lines_of_client show) 1 shown) (sides_reported xs ss m)
+lines_represent show xs ss m = ap (λ (shown : List ShownSide). numbered_texts (lines_of_client show) 1 shown) (sides_reported xs ss m)
 
 -- and the tally
 pub tally_reported : (link : Link) (w : World) → LinkRepresents link w

@@ -16,20 +16,20 @@ use Rattle.link_replay.specs.Outcome.{bad_schedule, outcome}
 use Rattle.link_replay.specs.Promises.{KeepsPromises}
 use Rattle.link_replay.specs.declared.commands.replay_end.ReplayEnd.{ReplayEnd}
 use Rattle.link_replay.specs.declared.commands.replay_end.ReplayEnd.TheVariants as ends
-use Rattle.link_replay.specs.declared.commands.output_form.Telling.{Telling}
-use Rattle.link_replay.specs.declared.commands.output_form.Telling.TheVariants.{Report, Summary}
+use Rattle.link_replay.specs.declared.commands.output_form.OutputForm.{OutputForm}
+use Rattle.link_replay.specs.declared.commands.output_form.OutputForm.TheVariants.{Report, Summary}
 
 -- the text reported about a world
-abbrev pub reported_of : Telling → World → List ℕ
+abbrev pub reported_of : OutputForm → World → List ℕ
 reported_of (Report show) w = report show w
 reported_of Summary w = summary_of w
 
 -- The schedule was played to its end by the server of these files. The text reports the world reached, which satisfies the guarantees. If
 -- the schedule has one client over a link that loses nothing, the client has its whole page.
-pub record ReportsWorld (files : List File) (content : SchedulePlan) (telling : Telling) (text : List ℕ) : Type 0 where
+pub record ReportsWorld (files : List File) (content : SchedulePlan) (chosen_form : OutputForm) (text : List ℕ) : Type 0 where
   pub world : World
   pub plays : outcome files content ≡ Ok world
-  pub reported : text ≡ reported_of telling world
+  pub reported : text ≡ reported_of chosen_form world
   pub promises : KeepsPromises files world
   pub honest : (plan : Plan) → IsHonest files content plan → IsServedWhole (pages_of files) world
 
@@ -45,11 +45,11 @@ abbrev pub ServesHonest : List File → SchedulePlan → World → Type 0
 ServesHonest files content w = (plan : Plan) → IsHonest files content plan → IsServedWhole (pages_of files) w
 
 -- the text that is due with an end, for the files of a site and a schedule
-abbrev pub IsPlayDue : List File → SchedulePlan → Telling → List ℕ → ReplayEnd → Type 0
-IsPlayDue files content telling text ends.Done = ReportsWorld files content telling text
-IsPlayDue files content telling text (ends.BadSchedule line why) =
+abbrev pub IsPlayDue : List File → SchedulePlan → OutputForm → List ℕ → ReplayEnd → Type 0
+IsPlayDue files content chosen_form text ends.Done = ReportsWorld files content chosen_form text
+IsPlayDue files content chosen_form text (ends.BadSchedule line why) =
     Refuses content.lines (outcome files content) line why × (text ≡ bad_schedule line why)
-IsPlayDue files content telling text _ = ⊥
+IsPlayDue files content chosen_form text _ = ⊥
 
 -- The text that is due with an end, for the files of a site and the text of a schedule. It is that of the schedule in the text, or the
 -- line of its first bad line.

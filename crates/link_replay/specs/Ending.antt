@@ -8,11 +8,11 @@ use Rattle.uip_edge.specs.Prelude.{Rose, Files, IsMissing, WritesAll, WritesPref
 use Rattle.link_replay.specs.Due.{IsPlayDue, IsTextDue}
 use Rattle.link_replay.specs.declared.commands.replay_end.ReplayEnd.{ReplayEnd}
 use Rattle.link_replay.specs.declared.commands.replay_end.ReplayEnd.TheVariants as ends
-use Rattle.link_replay.specs.declared.commands.output_form.Telling.TheVariants.{Summary}
+use Rattle.link_replay.specs.declared.commands.output_form.OutputForm.TheVariants.{Summary}
 use Rattle.workload.specs.Prelude.{workload_of}
 
 -- A text that is due was written with this end, and the fault counter of the shelf is unchanged.
-pub record Tells (Wrote : SinkView → SinkView → List ℕ → Type 0) (Is : List ℕ → Type 0) (old new : WorkView) : Type 0 where
+pub record ReportsRun (Wrote : SinkView → SinkView → List ℕ → Type 0) (Is : List ℕ → Type 0) (old new : WorkView) : Type 0 where
   pub text : List ℕ
   pub is : Is text
   pub wrote : Wrote old.sink new.sink text
@@ -26,10 +26,10 @@ pub record Lacks (Missing : Type 0) (old new : WorkView) : Type 0 where
 
 -- How a command ends, given the text due with each end and when a file is missing. A failed write leaves a prefix of the text.
 abbrev pub EndsWith : (Option Files → List ℕ → ReplayEnd → Type 0) → (Option Files → Type 0) → WorkView → WorkView → ReplayEnd → Type 0
-EndsWith Is Missing old new ends.WriteFault = Tells WritesPrefix (λ text. (end : ReplayEnd) × Is old.shelf.held text end) old new
+EndsWith Is Missing old new ends.WriteFault = ReportsRun WritesPrefix (λ text. (end : ReplayEnd) × Is old.shelf.held text end) old new
 EndsWith Is Missing old new ends.ShelfFault = Lacks (Missing old.shelf.held) old new
 EndsWith Is Missing old new ends.NoMemory = new ≡ old
-EndsWith Is Missing old new end = Tells WritesAll (λ text. Is old.shelf.held text end) old new
+EndsWith Is Missing old new end = ReportsRun WritesAll (λ text. Is old.shelf.held text end) old new
 
 -- The text due for these files, with its end. It is the line of a bad image, or what the server and the text of the schedule give.
 abbrev pub IsReplayText : List ℕ → List ℕ → Bool → Option Files → List ℕ → ReplayEnd → Type 0

@@ -6,7 +6,7 @@ pub mod Epochs
 pub mod Plain
 pub mod State
 pub mod Represents
-pub mod Telling
+pub mod Reporting
 pub mod Moving
 pub mod Opening
 pub mod Playing

@@ -14,7 +14,7 @@ use Rattle.link_world.specs.declared.who.Who.{Who}
 use Rattle.link_replay.specs.Noting.{IsBefore, gone_pair, is_sent_again}
 use Rattle.link_replay.specs.Reaching.{IsAt}
 use Rattle.link_replay.specs.Represents.{IsLink, LinkRepresents, SentRepresents, WorldRepresents}
-use Rattle.link_replay.specs.Telling.{AnswersTo, AreTo, IsTo, sees}
+use Rattle.link_replay.specs.Reporting.{AnswersTo, AreTo, IsTo, sees}
 use Rattle.link_replay.specs.declared.world.before_call.Before.{Before}
 use Rattle.link_replay.specs.Plain.{CodeSent, CodeSide}
 use Rattle.link_replay.specs.declared.world.socket_pair.SocketPair.{SocketPair}

@@ -13,7 +13,7 @@ use Rattle.link_world.specs.Prelude.{World, Side, is_clean, Planned, IsPlan, Sta
 use Rattle.link_world.specs.Prelude.{started, plays, OfLine, IsAct, IsServed, IsServedWhole}
 use Rattle.link_schedule.specs.declared.event.Event.{Event}
 use Rattle.link_schedule.specs.declared.event.Event.TheVariants.{Opens, Round}
-use Rattle.web_pages.specs.Prelude.{Wanted, wanted, NotYet, Refused, Name, Say, reply_pieces, Plain, Made, pages_of, web_spec}
+use Rattle.web_pages.specs.Prelude.{Wanted, wanted, NotYet, Refused, Name, ScriptPiece, reply_pieces, Plain, Made, pages_of, web_spec}
 
 -- The lines of a schedule, each accepted, reach this world from the server of a site and some clients. Damage is a line like any other.
 pub record IsReplayed (site : SiteContent) (w : World) : Type 0 where
@@ -30,16 +30,16 @@ PagesAreReceived =
     (k : ℕ) (side : Side) → slice_get w.sides k ≡ Some side → is_clean side ≡ true → IsServed (pages_of (files_of site)) w side
 
 -- the greatest length of a piece
-abbrev pub most_of : Say Function → ℕ
+abbrev pub most_of : ScriptPiece Function → ℕ
 most_of (Plain text) = length text
 most_of (Made function argument) = length_at_most function
 
 -- a number of segments of at most mss bytes that suffices for the pieces, if each segment stays in one piece
-abbrev pub texts_for : ℕ → List (Say Function) → ℕ
+abbrev pub texts_for : ℕ → List (ScriptPiece Function) → ℕ
 texts_for mss pieces = sum_by (λ piece. div_ceil (most_of piece) mss) pieces
 
 -- the pieces of the reply to a request
-abbrev pub pieces_for : List File → Wanted → List (Say Function)
+abbrev pub pieces_for : List File → Wanted → List (ScriptPiece Function)
 pieces_for files NotYet = []
 pieces_for files Refused = []
 pieces_for files (Name name) = reply_pieces files name

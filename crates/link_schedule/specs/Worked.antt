@@ -20,8 +20,8 @@ plan port request = record {
   request = request;
 }
 
-abbrev pub line_said : ℕ → Event → Line
-line_said number event = record { at = number; event = event }
+abbrev pub schedule_line : ℕ → Event → Line
+schedule_line number event = record { at = number; event = event }
 
 abbrev pub schedule : List Plan → List Line → Result SchedulePlan BadText
 schedule clients lines = Ok (record { clients = clients; lines = lines })
@@ -40,17 +40,17 @@ client_lines count = flat_map (λ p. codes "client 10.0.0.2 " ++ (48 + p / 10) �
 pub record AreWorkedSchedules : Type 0 where
   -- one client, and what happens
   pub page : read_text (codes "client 10.0.0.2 1025 0 536 get /\nopen 1\nround\n")
-      ≡ schedule (prefix_page ∷ []) (line_said 2 (Opens 1) ∷ line_said 3 Round ∷ [])
+      ≡ schedule (prefix_page ∷ []) (schedule_line 2 (Opens 1) ∷ schedule_line 3 Round ∷ [])
   -- the last line may have no end; empty lines and remarks are counted and ignored
   pub no_end : read_text (codes "# one page\n\nclient 10.0.0.2 1025 0 536 get /\nopen 1")
-      ≡ schedule (prefix_page ∷ []) (line_said 4 (Opens 1) ∷ [])
+      ≡ schedule (prefix_page ∷ []) (schedule_line 4 (Opens 1) ∷ [])
   pub nothing : read_text [] ≡ schedule [] []
   -- a request as bytes in digits
   pub raw : read_text (codes "client 10.0.0.2 1025 0 536 raw 474554") ≡ schedule (plan 1025 (codes "GET") ∷ []) []
   pub raw_odd : read_text (codes "client 10.0.0.2 1025 0 536 raw 47455") ≡ bad Form 1
   -- numbers
   pub ticks : read_text (codes "tick\ntick 300\ndamage 4 45 1")
-      ≡ schedule [] (line_said 1 (Tick 1) ∷ line_said 2 (Tick 300) ∷ line_said 3 (Damage 4 45 1) ∷ [])
+      ≡ schedule [] (schedule_line 1 (Tick 1) ∷ schedule_line 2 (Tick 300) ∷ schedule_line 3 (Damage 4 45 1) ∷ [])
   pub no_ticks : read_text (codes "tick 0") ≡ bad Form 1
   pub leading_zero : read_text (codes "give 01") ≡ bad Form 1
   pub space_after : read_text (codes "round ") ≡ bad Form 1

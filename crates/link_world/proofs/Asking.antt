@@ -1,6 +1,6 @@
 -- The progress of a client's request: what its steps add to what it sent, and what a step of the connection accepts of it. No
 -- premise on the other side.
-use Rattle.link_world.proofs.Prelude.{◌≡◌, ℕ, ◌+◌, ◌-◌, ◌<◌, ◌≤◌, min, Bool, true, false, not, ◌&&◌, ◌||◌, ◌⊎◌, inl, inr, List, length, length-append, drop, refl, sym, ap, ◌∙◌, arith, Some, eqb, ltb, length-take, if◌then◌else◌, wrap, PlainSegment, has_syn, has_fin, has_rst, has_ack, Beat, AppState, After, AppSpec, Pages, IsPaged, Now, State, Closed, SynRcvd, Established, CloseWait, FinWait1, FinWait2, Closing, TimeWait, LastAck, Connection, rcv_nxt, occupies_sequence_space, segment_of, Outcome, ask, asked, prepared, is_out_of_order, is_acked, has_text, delivers_text, connects, in_established, peer_closes, stays_established, fin_acked, fin_waits, by_state, on_segment, by_beat, on_tick, Step, AbstractClient, ClientStep, ack_of, client_aborts, client_again, client_closes, client_opens, client_takes, fin_out, fin_sent, has_outstanding, receives_ack, is_receiving, keeps, may_finish, next_own, one_if, opened_by, own_fin, own_first, own_request, own_reset, sends_next, steps_with, syn_of, takes_in_order, takes_text, advertises_window, ClientState, FinAt, choose, and_true, and_false, only_some, eqb-eq, not-false, not-true, ltb-zero, same_place, hears_is, asked_by, on_tick_by, wanted_unmoved}
+use Rattle.link_world.proofs.Prelude.{◌≡◌, ℕ, ◌+◌, ◌-◌, ◌<◌, ◌≤◌, min, Bool, true, false, not, ◌&&◌, ◌||◌, ◌⊎◌, inl, inr, List, length, length-append, drop, refl, sym, ap, ◌∙◌, arith, Some, eqb, ltb, length-take, if◌then◌else◌, wrap, PlainSegment, has_syn, has_fin, has_rst, has_ack, Beat, AppState, After, AppSpec, Pages, IsPaged, Now, State, Closed, SynRcvd, Established, CloseWait, FinWait1, FinWait2, Closing, TimeWait, LastAck, Connection, rcv_nxt, occupies_sequence_space, segment_of, Outcome, ask, asked, prepared, is_out_of_order, is_acked, has_text, delivers_text, connects, in_established, peer_closes, stays_established, fin_acked, fin_waits, by_state, on_segment, by_beat, on_tick, Step, AbstractClient, ClientStep, ack_of, client_aborts, client_again, client_closes, client_opens, client_takes, fin_out, fin_sent, has_outstanding, receives_ack, is_receiving, keeps, may_finish, next_own, one_if, opened_by, own_fin, own_first, own_request, own_reset, sends_next, steps_with, syn_of, takes_in_order, takes_text, advertises_window, ClientState, FinAt, choose, and_true, and_false, only_some, eqb-eq, not-false, not-true, ltb-zero, same_place, receives_is, asked_by, on_tick_by, wanted_unmoved}
 use Rattle.link_client.specs.declared.client_state.ClientState.TheVariants as Is
 use Rattle.link_world.proofs.CleanClientInvariant.{Steady, is_early}
 use Rattle.link_world.proofs.ClientCases.{of_aborts, of_again, of_closes, of_opens, of_order, of_sends, of_takes}
@@ -74,14 +74,14 @@ finishing_late _ r e = absurd (cc)
 quiet_asks : (c d : AbstractClient) → used d ≡ used c → asked_bytes d ≡ asked_bytes c → d.acked ≡ c.acked → own_first d ≡ own_first c → Asks c (keeps d)
 quiet_asks c d u b a f = record { more = omega (arith, u); further = omega (arith, b); acked = a; iss = f; early = λ y. u; ends = λ st x p. absurd (cc) }
 
-says_asks : (c d : AbstractClient) (s : PlainSegment) → used d ≡ used c → asked_bytes d ≡ asked_bytes c → d.acked ≡ c.acked → own_first d ≡ own_first c → (Steady d → EndsIn d s) → Asks c (steps_with d s)
-says_asks c d s u b a f e = record { more = omega (arith, u); further = omega (arith, b); acked = a; iss = f; early = λ y. u; ends = λ st x p. only_some (λ (y : PlainSegment). EndsIn d y) s x p (e st) }
+sends_asks : (c d : AbstractClient) (s : PlainSegment) → used d ≡ used c → asked_bytes d ≡ asked_bytes c → d.acked ≡ c.acked → own_first d ≡ own_first c → (Steady d → EndsIn d s) → Asks c (steps_with d s)
+sends_asks c d s u b a f e = record { more = omega (arith, u); further = omega (arith, b); acked = a; iss = f; early = λ y. u; ends = λ st x p. only_some (λ (y : PlainSegment). EndsIn d y) s x p (e st) }
 
 asks_next : (owed : Bool) (c : AbstractClient) → Asks c (sends_next owed c)
 asks_next owed c =
     let d : AbstractClient = record c { out = min c.setup.seg (length c.request - c.acked) } in
     let e : AbstractClient = record c { fin = FinAt.Out } in
-    of_sends (λ x. Asks c x) c owed (quiet_asks c c refl refl refl refl) (says_asks c c (ack_of c) refl refl refl refl (λ st nr ns z. absurd (cc)))
+    of_sends (λ x. Asks c x) c owed (quiet_asks c c refl refl refl refl) (sends_asks c c (ack_of c) refl refl refl refl (λ st nr ns z. absurd (cc)))
     (λ o r. (let none = nothing_waits c o in record {
       more = omega (arith, none);
       further = omega (arith, none);
@@ -125,8 +125,8 @@ record HasDelivered (c : AbstractClient) (s : PlainSegment) (d : AbstractClient)
   iss : own_first d ≡ own_first c
   acked : (d.acked ≡ c.acked) ⊎ ((has_ack s.flags ≡ true) × (s.ack ≡ next_own c) × (d.acked ≡ c.acked + c.out))
 
-has_heard : (c : AbstractClient) (s : PlainSegment) → HasDelivered c s (receives_ack c s)
-has_heard c s =
+has_received : (c : AbstractClient) (s : PlainSegment) → HasDelivered c s (receives_ack c s)
+has_received c s =
     choose (λ d. HasDelivered c s d) (has_ack s.flags && (has_outstanding c && eqb s.ack (next_own c))) _ _
     (λ e. (let a = and_true (has_ack s.flags) (has_outstanding c && eqb s.ack (next_own c)) e in
     let b = and_true (has_outstanding c) (eqb s.ack (next_own c)) a.1 in
@@ -136,7 +136,7 @@ has_heard c s =
 in_order_asks : (c : AbstractClient) (s : PlainSegment) → has_rst s.flags ≡ false → AsksOn c s (takes_in_order (receives_ack c s) s)
 in_order_asks c s nr =
     let d : AbstractClient = receives_ack c s in
-    let h = has_heard c s in
+    let h = has_received c s in
     let acked = elim h.acked as (λ _. (d.acked ≡ c.acked) ⊎ ((has_rst s.flags ≡ false) × (has_ack s.flags ≡ true) × (s.ack ≡ next_own c) × (d.acked ≡ c.acked + c.out))) [ inl e ↦ inl e | inr e ↦ inr (nr, e.0, e.1, e.2) ] in
     let same : used d ≡ used c = h.used_is in
     of_order (λ x. AsksOn c s x) d s (as_asked c d s (sends_next true d) same h.asked_is h.iss acked (asks_next true d)) (as_asked c d s (sends_next false d) same h.asked_is h.iss acked (asks_next false d))
@@ -152,7 +152,7 @@ client_asks c s =
 pub opens_asks : (c : AbstractClient) → Asks c (client_opens c)
 opens_asks c =
     let d : AbstractClient = record c { state = Is.Opening } in
-    of_opens (λ x. Asks c x) c (quiet_asks c c refl refl refl refl) (λ e. says_asks c d (syn_of d) refl refl refl refl (λ st nr ns. absurd (cc)))
+    of_opens (λ x. Asks c x) c (quiet_asks c c refl refl refl refl) (λ e. sends_asks c d (syn_of d) refl refl refl refl (λ st nr ns. absurd (cc)))
 
 out_is_sent : (f : FinAt) → fin_out f ≡ true → fin_sent f ≡ true
 out_is_sent FinAt.NotSent e = absurd (cc)
@@ -161,8 +161,8 @@ out_is_sent FinAt.Acked e = refl
 
 pub again_asks : (c : AbstractClient) → Asks c (client_again c)
 again_asks c =
-    of_again (λ x. Asks c x) c (quiet_asks c c refl refl refl refl) (says_asks c c (syn_of c) refl refl refl refl (λ st nr ns. absurd (cc))) (says_asks c c (own_request c) refl refl refl refl (request_ends c))
-    (λ f. says_asks c c (own_fin c) refl refl refl refl (fin_ends c (out_is_sent c.fin f))) (says_asks c c (ack_of c) refl refl refl refl (λ st nr ns z. absurd (cc)))
+    of_again (λ x. Asks c x) c (quiet_asks c c refl refl refl refl) (sends_asks c c (syn_of c) refl refl refl refl (λ st nr ns. absurd (cc))) (sends_asks c c (own_request c) refl refl refl refl (request_ends c))
+    (λ f. sends_asks c c (own_fin c) refl refl refl refl (fin_ends c (out_is_sent c.fin f))) (sends_asks c c (ack_of c) refl refl refl refl (λ st nr ns z. absurd (cc)))
 
 pub closes_asks : (c : AbstractClient) → Asks c (client_closes c)
 closes_asks c =
@@ -170,7 +170,7 @@ closes_asks c =
     (λ e. (let g = asks_next false (record c { state = Is.Closing }) in record { more = g.more; further = g.further; acked = g.acked; iss = g.iss; early = g.early; ends = g.ends }))
 
 pub aborts_asks : (c : AbstractClient) → Asks c (client_aborts c)
-aborts_asks c = of_aborts (λ x. Asks c x) c (quiet_asks c c refl refl refl refl) (λ e. says_asks c (record c { state = Is.Reset }) (own_reset c) refl refl refl refl (λ st nr. absurd (cc)))
+aborts_asks c = of_aborts (λ x. Asks c x) c (quiet_asks c c refl refl refl refl) (λ e. sends_asks c (record c { state = Is.Reset }) (own_reset c) refl refl refl refl (λ st nr. absurd (cc)))
 
 pub window_asks : (x : ℕ) (c : AbstractClient) → Asks c (advertises_window x c)
 window_asks x c = quiet_asks c (record c { window = x }) refl refl refl refl
@@ -223,8 +223,8 @@ row_fin : (c d : Connection) (s : PlainSegment) → has_fin s.flags ≡ true →
 row_fin c d s f p t h = record { peer = p; count = length s.text + 1; more = t; most = omega (arith, ap one_if f); handed = length s.text; input = h; handed_text = omega arith; handed_taken = omega arith }
 
 module _ (m : AppSpec) (pages : Pages) (lawful : IsPaged m pages) where
-  hears_at_most : (numbers : List ℕ) (p : AppState) (text : List ℕ) → length (delivers_text m numbers p text).part.input ≤ length p.input + length text
-  hears_at_most numbers p text = omega (arith, ap (λ (y : List ℕ). length y) (hears_is m pages lawful numbers p text).input, length-append p.input text)
+  receives_at_most : (numbers : List ℕ) (p : AppState) (text : List ℕ) → length (delivers_text m numbers p text).part.input ≤ length p.input + length text
+  receives_at_most numbers p text = omega (arith, ap (λ (y : List ℕ). length y) (receives_is m pages lawful numbers p text).input, length-append p.input text)
 
   pub asked_takes : (now : Connection → Now) (c : Connection) (s : PlainSegment) (o : Outcome) → Refines c o.connection s → Refines c (asked m now o).connection s
   asked_takes now c s o t =
@@ -255,7 +255,7 @@ module _ (m : AppSpec) (pages : Pages) (lawful : IsPaged m pages) where
   established_row acked b c numbers s g =
       let with_fin = ap (λ n. n + (length s.text + 1)) g.taken in
       let with_text = ap (λ n. n + length s.text) g.taken in
-      let output : length (delivers_text m numbers c.part s.text).part.input ≤ length b.part.input + length s.text = omega (arith, as_long b.part c.part g.input, hears_at_most numbers c.part s.text) in
+      let output : length (delivers_text m numbers c.part s.text).part.input ≤ length b.part.input + length s.text = omega (arith, as_long b.part c.part g.input, receives_at_most numbers c.part s.text) in
       choose (λ (o : Outcome). Row b o.connection s) (has_fin s.flags) _ _
       (λ f. choose (λ (o : Outcome). Row b o.connection s) (ltb 0 c.len) _ _ (λ l. row_fin b _ s f g.peer with_fin output) (λ l. row_fin b _ s f g.peer with_fin output))
       (λ f. choose (λ (o : Outcome). Row b o.connection s) (not acked && not (has_text s)) _ _ (λ l. row_text b _ s g.peer with_text output)
@@ -265,7 +265,7 @@ module _ (m : AppSpec) (pages : Pages) (lawful : IsPaged m pages) where
   connects_at_most c numbers s =
       let start : After = m.connected numbers c.sockets.own_port.0 in
       let none : length start.part.input ≡ 0 = ap (λ (x : List ℕ). length x) (lawful.connected_input numbers c.sockets.own_port.0) in
-      omega (arith, none, hears_at_most start.numbers start.part s.text)
+      omega (arith, none, receives_at_most start.numbers start.part s.text)
 
   -- text is discarded
   let_go_fin : (c d : Connection) (s : PlainSegment) → has_fin s.flags ≡ true → d.irs ≡ c.irs → d.taken ≡ c.taken + (length s.text + 1) → d.part.input ≡ c.part.input → Row c d s
@@ -339,11 +339,11 @@ module _ (m : AppSpec) (pages : Pages) (lawful : IsPaged m pages) where
       })
 
   -- what a connection sends acknowledges all that it accepted
-  pub says_taken : (d : Connection) (step : Step) (x : PlainSegment) → segment_of m d step ≡ Some x → has_rst x.flags ≡ false → x.ack ≡ rcv_nxt d
-  says_taken d Step.Drop x e n = absurd (cc)
-  says_taken d Step.Ack x e n = only_some (λ (y : PlainSegment). y.ack ≡ rcv_nxt d) _ x e refl
-  says_taken d (Step.SynAck again) x e n = only_some (λ (y : PlainSegment). y.ack ≡ rcv_nxt d) _ x e refl
-  says_taken d (Step.Text again) x e n = only_some (λ (y : PlainSegment). y.ack ≡ rcv_nxt d) _ x e refl
-  says_taken d (Step.Fin again) x e n = only_some (λ (y : PlainSegment). y.ack ≡ rcv_nxt d) _ x e refl
-  says_taken d Step.Reset x e n = only_some (λ (y : PlainSegment). y.ack ≡ rcv_nxt d) _ x e refl
-  says_taken d (Step.Ask fresh) x e n = absurd (cc)
+  pub sends_taken : (d : Connection) (step : Step) (x : PlainSegment) → segment_of m d step ≡ Some x → has_rst x.flags ≡ false → x.ack ≡ rcv_nxt d
+  sends_taken d Step.Drop x e n = absurd (cc)
+  sends_taken d Step.Ack x e n = only_some (λ (y : PlainSegment). y.ack ≡ rcv_nxt d) _ x e refl
+  sends_taken d (Step.SynAck again) x e n = only_some (λ (y : PlainSegment). y.ack ≡ rcv_nxt d) _ x e refl
+  sends_taken d (Step.Text again) x e n = only_some (λ (y : PlainSegment). y.ack ≡ rcv_nxt d) _ x e refl
+  sends_taken d (Step.Fin again) x e n = only_some (λ (y : PlainSegment). y.ack ≡ rcv_nxt d) _ x e refl
+  sends_taken d Step.Reset x e n = only_some (λ (y : PlainSegment). y.ack ≡ rcv_nxt d) _ x e refl
+  sends_taken d (Step.Ask fresh) x e n = absurd (cc)

@@ -123,7 +123,7 @@ module _ (m : AppSpec) (n : ℕ) (it : Sent) where
   there_mark k side c sent i e g = g
 
   there_steps : (w : World) (o : Outcome) (k : ℕ) (side : Side) → slice_get w.sent n ≡ Some it → Steps m There there_other there_reset there_evict there_mark w o k side
-  there_steps w o k side g = record { quiet = λ x l. g; quiet_last = λ x l. g; says = λ s e l tick id. get_older w.sent _ it n g; says_last = λ s e l tick id. get_older w.sent _ it n g }
+  there_steps w o k side g = record { quiet = λ x l. g; quiet_last = λ x l. g; says = λ s e l tick id. get_older w.sent _ it n g; sends_last = λ s e l tick id. get_older w.sent _ it n g }
 
   there_takes : (w : World) (k : ℕ) (base : Side) (c : Connection) (t : ClientStep) → slice_get w.sent n ≡ Some it → Refines m There there_other there_reset there_evict there_mark w k base c t
   there_takes w k base c t g = record { quiet = λ x. g; says = λ s e tick. get_older w.sent _ it n g }

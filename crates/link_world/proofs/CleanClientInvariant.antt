@@ -108,10 +108,10 @@ pub record IsData (client : AbstractClient) (opened : Option ℕ) (s : PlainSegm
   pub part : IsPart client.request s.text at
   pub seq : 0 < length s.text → s.seq ≡ wrap (own_first client + 1 + at)
 
-pub data ClientSaid (client : AbstractClient) (opened : Option ℕ) (at_epoch : ℕ) (s : PlainSegment) : Type 0 where
-  said_reset : has_rst s.flags ≡ true → ClientSaid client opened at_epoch s
-  said_syn : IsSyn client opened at_epoch s → ClientSaid client opened at_epoch s
-  said_data : IsData client opened s → ClientSaid client opened at_epoch s
+pub data ClientSent (client : AbstractClient) (opened : Option ℕ) (at_epoch : ℕ) (s : PlainSegment) : Type 0 where
+  sent_reset : has_rst s.flags ≡ true → ClientSent client opened at_epoch s
+  sent_syn : IsSyn client opened at_epoch s → ClientSent client opened at_epoch s
+  sent_data : IsData client opened s → ClientSent client opened at_epoch s
 
 -- What the node has sent. IsOpen: the client opened in the epoch of the datagram.
 pub record IsText (speaker : Speaker) (client : AbstractClient) (iss : ℕ) (captures : List Snapshot) (s : PlainSegment) : Type 0 where
@@ -138,17 +138,17 @@ pub record IsAck (s : PlainSegment) : Type 0 where
   pub no_fin : has_fin s.flags ≡ false
   pub no_text : s.text ≡ []
 
-pub data NodeSaid (speaker : Speaker) (client : AbstractClient) (IsOpen : Type 0) (iss : ℕ) (captures : List Snapshot) (s : PlainSegment) : Type 0 where
-  node_reset : has_rst s.flags ≡ true → NodeSaid speaker client IsOpen iss captures s
-  node_syn : has_rst s.flags ≡ false → IsSynAck iss s → NodeSaid speaker client IsOpen iss captures s
-  node_ack : has_rst s.flags ≡ false → IsAck s → NodeSaid speaker client IsOpen iss captures s
-  node_text : has_rst s.flags ≡ false → IsOpen → IsText speaker client iss captures s → NodeSaid speaker client IsOpen iss captures s
-  node_fin : has_rst s.flags ≡ false → IsOpen → IsFin speaker client iss captures s → NodeSaid speaker client IsOpen iss captures s
+pub data NodeSent (speaker : Speaker) (client : AbstractClient) (IsOpen : Type 0) (iss : ℕ) (captures : List Snapshot) (s : PlainSegment) : Type 0 where
+  node_reset : has_rst s.flags ≡ true → NodeSent speaker client IsOpen iss captures s
+  node_syn : has_rst s.flags ≡ false → IsSynAck iss s → NodeSent speaker client IsOpen iss captures s
+  node_ack : has_rst s.flags ≡ false → IsAck s → NodeSent speaker client IsOpen iss captures s
+  node_text : has_rst s.flags ≡ false → IsOpen → IsText speaker client iss captures s → NodeSent speaker client IsOpen iss captures s
+  node_fin : has_rst s.flags ≡ false → IsOpen → IsFin speaker client iss captures s → NodeSent speaker client IsOpen iss captures s
 
 -- One step of a connection that lives, seen from its client.
 pub record SentGood (speaker : Speaker) (opened : Option ℕ) (client : AbstractClient) (c : Connection) (s : PlainSegment) : Type 0 where
   pub incarnations : has_rst s.flags ≡ false → is_live c.state ≡ true
-  pub output : NodeSaid speaker client (is_some opened ≡ true) c.iss c.part.snapshots s
+  pub output : NodeSent speaker client (is_some opened ≡ true) c.iss c.part.snapshots s
 
 -- the connection afterwards, d, beside the one before, c
 pub record Moved (speaker : Speaker) (opened : Option ℕ) (client : AbstractClient) (c d : Connection) : Type 0 where
@@ -164,12 +164,12 @@ pub record StepGood (speaker : Speaker) (opened : Option ℕ) (client : Abstract
 -- What is kept of each datagram.
 pub record FromGood (client : AbstractClient) (opened : Option ℕ) (history : List PastConnection) (e : Sent) : Type 0 where
   pub time : e.epoch ≤ length history
-  pub output : ClientSaid client opened e.epoch (seg e)
+  pub output : ClientSent client opened e.epoch (seg e)
 
 pub record ToGood (speaker : Speaker) (client : AbstractClient) (opened : Option ℕ) (history : List PastConnection) (c : Connection) (e : Sent) : Type 0 where
   pub time : e.epoch ≤ length history
   pub incarnations : has_rst (seg e).flags ≡ false → e.epoch ≡ length history → is_live c.state ≡ true
-  pub output : NodeSaid speaker client (opened ≡ Some e.epoch) (era history c e.epoch).iss (era history c e.epoch).snapshots (seg e)
+  pub output : NodeSent speaker client (opened ≡ Some e.epoch) (era history c e.epoch).iss (era history c e.epoch).snapshots (seg e)
 
 -- it has not opened
 abbrev pub is_early : ClientState → Bool
@@ -221,4 +221,4 @@ pub record TookGood (speaker : Speaker) (client : AbstractClient) (history : Lis
   pub setup : own_first took.client ≡ own_first client
   pub steady : Steady took.client
   pub opened_good : OpenedGood speaker took.client history c next
-  pub output : (s : PlainSegment) → took.sent ≡ Some s → ClientSaid took.client next (length history) s
+  pub output : (s : PlainSegment) → took.sent ≡ Some s → ClientSent took.client next (length history) s

@@ -20,9 +20,9 @@ module _ (P : ClientStep → Type 0) (c : AbstractClient) where
   -- a segment in its order: its text is accepted, or it is answered, or nothing is sent
   pub of_order : (s : PlainSegment) → P (sends_next true c) → P (sends_next false c) → (eqb s.seq c.expected && is_receiving c.state ≡ true → P (sends_next true (takes_text c s))) → P (takes_in_order c s)
   unfolding takes_in_order
-  of_order s answers says_on takes =
+  of_order s answers sends_on takes =
       choose P (has_syn s.flags) _ _ (λ e. answers)
-      (λ e. choose P (not (occupies_sequence_space s)) _ _ (λ f. says_on) (λ f. choose P (eqb s.seq c.expected && is_receiving c.state) _ _ takes (λ g. answers)))
+      (λ e. choose P (not (occupies_sequence_space s)) _ _ (λ f. sends_on) (λ f. choose P (eqb s.seq c.expected && is_receiving c.state) _ _ takes (λ g. answers)))
 
   by_takes : (st : ClientState) (s : PlainSegment) → c.state ≡ st → P (keeps c) → (c.state ≡ Is.Opening → has_syn s.flags && (has_ack s.flags && eqb s.ack (wrap (own_first c + 1))) ≡ true → P (sends_next true (opened_by c s)))
       → P (takes_in_order (receives_ack c s) s) → P (takes_by st c s)

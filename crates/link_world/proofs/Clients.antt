@@ -4,9 +4,9 @@ use Rattle.link_client.specs.declared.client_state.ClientState.TheVariants as Is
 use Rattle.link_world.proofs.Speaking.{Speaker, HasOutputModel}
 use Rattle.link_world.proofs.Counts.{reset_becomes, same_becomes}
 use Rattle.link_world.proofs.Later.{node_later}
-use Rattle.link_world.proofs.CleanClientInvariant.{is_some, seg, NodeSaid, IsText, IsFin, ClientSaid, IsData, Steady, NotOpened, HasOpened, OpenedGood, ToGood, TookGood, is_unasked, is_early}
-use Rattle.link_world.proofs.CleanClientInvariant.ClientSaid.{said_reset, said_syn, said_data}
-use Rattle.link_world.proofs.CleanClientInvariant.NodeSaid.{node_reset, node_syn, node_ack, node_text, node_fin}
+use Rattle.link_world.proofs.CleanClientInvariant.{is_some, seg, NodeSent, IsText, IsFin, ClientSent, IsData, Steady, NotOpened, HasOpened, OpenedGood, ToGood, TookGood, is_unasked, is_early}
+use Rattle.link_world.proofs.CleanClientInvariant.ClientSent.{sent_reset, sent_syn, sent_data}
+use Rattle.link_world.proofs.CleanClientInvariant.NodeSent.{node_reset, node_syn, node_ack, node_text, node_fin}
 
 -- the client with other counts of its own
 abbrev recounted : AbstractClient → ℕ → ℕ → FinAt → AbstractClient
@@ -88,20 +88,20 @@ module _ (m : AppSpec) (speaker : Speaker) (laws : HasOutputModel m speaker) (hi
         setup = ap (λ (x : AbstractClient). own_first x) e ∙ f;
         steady = subst Steady (sym e) record { short = steady.short; low = steady.low; out_fits = g.fits };
         opened_good = subst (λ x. HasOpened speaker x history conn o) (sym e) (recounts c o g.acked g.out g.fin c.window h);
-        output = λ s p. said_data (g.output (Some o) s refl p);
+        output = λ s p. sent_data (g.output (Some o) s refl p);
       }
 
   -- what an acknowledgement changes
-  record Hearing (c d : AbstractClient) : Type 0 where
+  record Reception (c d : AbstractClient) : Type 0 where
     acked : ℕ
     out : ℕ
     fin : FinAt
     is : d ≡ recounted c acked out fin
     fits : acked + out ≤ length c.request
 
-  hears_ack_is : (c : AbstractClient) (s : PlainSegment) → c.acked + c.out ≤ length c.request → Hearing c (receives_ack c s)
-  hears_ack_is c s h =
-      choose (λ x. Hearing c x) (has_ack s.flags && (has_outstanding c && eqb s.ack (next_own c))) _ _
+  receives_ack_is : (c : AbstractClient) (s : PlainSegment) → c.acked + c.out ≤ length c.request → Reception c (receives_ack c s)
+  receives_ack_is c s h =
+      choose (λ x. Reception c x) (has_ack s.flags && (has_outstanding c && eqb s.ack (next_own c))) _ _
       (λ e. record { acked = c.acked + c.out; out = 0; fin = (if fin_out c.fin then FinAt.Acked else c.fin); is = refl; fits = omega arith })
       (λ e. record { acked = c.acked; out = c.out; fin = c.fin; is = refl; fits = h })
 
@@ -176,7 +176,7 @@ module _ (m : AppSpec) (speaker : Speaker) (laws : HasOutputModel m speaker) (hi
 
   -- text or FIN at the expected number of a client that asked
   placed : (c : AbstractClient) (P : Type 0) (o : ℕ) (s : PlainSegment) → length c.request ≤ 4096 → HasOpened speaker c history conn o → has_rst s.flags ≡ false → has_syn s.flags ≡ false → occupies_sequence_space s ≡ true →
-      is_receiving c.state ≡ true → s.seq ≡ c.expected → NodeSaid speaker c P (era history conn o).iss (era history conn o).snapshots s → HasOpened speaker (takes_text c s) history conn o
+      is_receiving c.state ≡ true → s.seq ≡ c.expected → NodeSent speaker c P (era history conn o).iss (era history conn o).snapshots s → HasOpened speaker (takes_text c s) history conn o
   placed c P o s low h nr ns pl i e (node_reset r) = absurd (cc)
   placed c P o s low h nr ns pl i e (node_syn r n) = absurd (let z : has_syn s.flags ≡ true = n.syn in cc)
   placed c P o s low h nr ns pl i e (node_ack r n) = absurd (nothing_placed s n.no_syn n.no_fin n.no_text pl)
@@ -186,7 +186,7 @@ module _ (m : AppSpec) (speaker : Speaker) (laws : HasOutputModel m speaker) (hi
   in_order_good : (client c : AbstractClient) (P : Type 0) (o : ℕ) (s : PlainSegment) → is_unasked client.state ≡ false →
       c.request ≡ client.request → own_first c ≡ own_first client →
       Steady c → HasOpened speaker c history conn o → has_rst s.flags ≡ false →
-      NodeSaid speaker c P (era history conn o).iss (era history conn o).snapshots s → TookGood speaker client history conn (Some o) (Some o) (takes_in_order c s)
+      NodeSent speaker c P (era history conn o).iss (era history conn o).snapshots s → TookGood speaker client history conn (Some o) (Some o) (takes_in_order c s)
   unfolding takes_in_order
   in_order_good client c P o s un r f steady h nr output =
       let on : (owed : Bool) → TookGood speaker client history conn (Some o) (Some o) (sends_next owed c) =
@@ -203,9 +203,9 @@ module _ (m : AppSpec) (speaker : Speaker) (laws : HasOutputModel m speaker) (hi
 
   -- a segment at a client that has opened
   asked_good : (client : AbstractClient) (P : Type 0) (o : ℕ) (s : PlainSegment) → Steady client → HasOpened speaker client history conn o → has_rst s.flags ≡ false →
-      NodeSaid speaker client P (era history conn o).iss (era history conn o).snapshots s → TookGood speaker client history conn (Some o) (Some o) (takes_in_order (receives_ack client s) s)
+      NodeSent speaker client P (era history conn o).iss (era history conn o).snapshots s → TookGood speaker client history conn (Some o) (Some o) (takes_in_order (receives_ack client s) s)
   asked_good client P o s steady h nr output =
-      let g : Hearing client (receives_ack client s) = hears_ack_is client s steady.out_fits in
+      let g : Reception client (receives_ack client s) = receives_ack_is client s steady.out_fits in
       let c : AbstractClient = recounted client g.acked g.out g.fin in
       subst (λ x. TookGood speaker client history conn (Some o) (Some o) (takes_in_order x s)) (sym g.is)
       (in_order_good client c P o s h.asked refl refl record { short = steady.short; low = steady.low; out_fits = g.fits }
@@ -225,14 +225,14 @@ module _ (m : AppSpec) (speaker : Speaker) (laws : HasOutputModel m speaker) (hi
   }
 
   speaks : (client d : AbstractClient) (opened : Option ℕ) (s : PlainSegment) → becomes_opened client.state d.state ≡ false → d.request ≡ client.request → own_first d ≡ own_first client → Steady d → OpenedGood speaker d history conn opened →
-      ClientSaid d opened (length history) s → TookGood speaker client history conn opened opened (steps_with d s)
+      ClientSent d opened (length history) s → TookGood speaker client history conn opened opened (steps_with d s)
   speaks client d opened s b r f steady h output = record {
     next_is = ap (λ x. if x then Some (length history) else opened) (sym b);
     request = r;
     setup = f;
     steady = steady;
     opened_good = h;
-    output = λ x p. only_some (λ y. ClientSaid d opened (length history) y) s x p output;
+    output = λ x p. only_some (λ y. ClientSent d opened (length history) y) s x p output;
   }
 
   stays : (client : AbstractClient) (opened : Option ℕ) → Steady client → OpenedGood speaker client history conn opened → TookGood speaker client history conn opened opened (keeps client)
@@ -253,7 +253,7 @@ module _ (m : AppSpec) (speaker : Speaker) (laws : HasOutputModel m speaker) (hi
 
   -- a client that opens
   opens_good : (client : AbstractClient) (P : Type 0) (s : PlainSegment) → client.state ≡ Is.Opening → Steady client → NotOpened client → is_live conn.state ≡ true →
-      has_rst s.flags ≡ false → has_syn s.flags ≡ true → NodeSaid speaker client P (era history conn (length history)).iss (era history conn (length history)).snapshots s →
+      has_rst s.flags ≡ false → has_syn s.flags ≡ true → NodeSent speaker client P (era history conn (length history)).iss (era history conn (length history)).snapshots s →
       TookGood speaker client history conn None (Some (length history)) (sends_next true (opened_by client s))
   opens_good client P s st steady h lv nr sy (node_reset r) = absurd (cc)
   opens_good client P s st steady h lv nr sy (node_ack r n) = absurd (let z : has_syn s.flags ≡ false = n.no_syn in cc)
@@ -287,7 +287,7 @@ module _ (m : AppSpec) (speaker : Speaker) (laws : HasOutputModel m speaker) (hi
   not_early client st e n h = let z : is_early client.state ≡ is_early st = ap is_early e in let y : is_early client.state ≡ true = h.early in absurd (cc)
 
   by_good : (st : ClientState) (client : AbstractClient) (P : Type 0) (opened : Option ℕ) (s : PlainSegment) → client.state ≡ st → Steady client → OpenedGood speaker client history conn opened → has_rst s.flags ≡ false →
-      is_live conn.state ≡ true → NodeSaid speaker client P (era history conn (length history)).iss (era history conn (length history)).snapshots s → Took_it client opened (takes_by st client s)
+      is_live conn.state ≡ true → NodeSent speaker client P (era history conn (length history)).iss (era history conn (length history)).snapshots s → Took_it client opened (takes_by st client s)
   unfolding takes_by
   by_good Is.Idle client P opened s st steady h nr lv output = record { next = opened; good = stays client opened steady h }
   by_good Is.Reset client P opened s st steady h nr lv output = record { next = opened; good = stays client opened steady h }
@@ -300,10 +300,10 @@ module _ (m : AppSpec) (speaker : Speaker) (laws : HasOutputModel m speaker) (hi
   by_good Is.Closing client P None s st steady h nr lv output = absurd (not_early client _ st refl h)
   by_good Is.Closed client P None s st steady h nr lv output = absurd (not_early client _ st refl h)
   by_good Is.Ended client P None s st steady h nr lv output = absurd (not_early client _ st refl h)
-  by_good Is.Opened client P (Some o) s st steady h nr lv output = record { next = Some o; good = asked_good client P o s steady h nr (subst (λ n. NodeSaid speaker client P (era history conn n).iss (era history conn n).snapshots s) (sym (h.live_then lv)) output) }
-  by_good Is.Closing client P (Some o) s st steady h nr lv output = record { next = Some o; good = asked_good client P o s steady h nr (subst (λ n. NodeSaid speaker client P (era history conn n).iss (era history conn n).snapshots s) (sym (h.live_then lv)) output) }
-  by_good Is.Closed client P (Some o) s st steady h nr lv output = record { next = Some o; good = asked_good client P o s steady h nr (subst (λ n. NodeSaid speaker client P (era history conn n).iss (era history conn n).snapshots s) (sym (h.live_then lv)) output) }
-  by_good Is.Ended client P (Some o) s st steady h nr lv output = record { next = Some o; good = asked_good client P o s steady h nr (subst (λ n. NodeSaid speaker client P (era history conn n).iss (era history conn n).snapshots s) (sym (h.live_then lv)) output) }
+  by_good Is.Opened client P (Some o) s st steady h nr lv output = record { next = Some o; good = asked_good client P o s steady h nr (subst (λ n. NodeSent speaker client P (era history conn n).iss (era history conn n).snapshots s) (sym (h.live_then lv)) output) }
+  by_good Is.Closing client P (Some o) s st steady h nr lv output = record { next = Some o; good = asked_good client P o s steady h nr (subst (λ n. NodeSent speaker client P (era history conn n).iss (era history conn n).snapshots s) (sym (h.live_then lv)) output) }
+  by_good Is.Closed client P (Some o) s st steady h nr lv output = record { next = Some o; good = asked_good client P o s steady h nr (subst (λ n. NodeSent speaker client P (era history conn n).iss (era history conn n).snapshots s) (sym (h.live_then lv)) output) }
+  by_good Is.Ended client P (Some o) s st steady h nr lv output = record { next = Some o; good = asked_good client P o s steady h nr (subst (λ n. NodeSent speaker client P (era history conn n).iss (era history conn n).snapshots s) (sym (h.live_then lv)) output) }
 
   -- any datagram of the node that is not stale
   pub client_takes_good : (client : AbstractClient) (opened : Option ℕ) (e : Sent) → Steady client → OpenedGood speaker client history conn opened → e.epoch ≡ length history →
@@ -319,11 +319,11 @@ module _ (m : AppSpec) (speaker : Speaker) (laws : HasOutputModel m speaker) (hi
       })
       (λ b. record { next = opened; good = stays client opened steady h }))
       (λ r. by_good client.state client (opened ≡ Some e.epoch) opened (seg e) refl steady h r (g.incarnations r fresh)
-      (subst (λ n. NodeSaid speaker client (opened ≡ Some e.epoch) (era history conn n).iss (era history conn n).snapshots (seg e)) fresh g.output))
+      (subst (λ n. NodeSent speaker client (opened ≡ Some e.epoch) (era history conn n).iss (era history conn n).snapshots (seg e)) fresh g.output))
 
   -- its own acts
-  says_syn : (client d : AbstractClient) → own_first d ≡ own_first client → ClientSaid client None (length history) (syn_of d)
-  says_syn client d f = said_syn record { syn = refl; no_ack = refl; no_text = refl; seq = f; before = λ o x. absurd (cc) }
+  sends_syn : (client d : AbstractClient) → own_first d ≡ own_first client → ClientSent client None (length history) (syn_of d)
+  sends_syn client d f = sent_syn record { syn = refl; no_ack = refl; no_text = refl; seq = f; before = λ o x. absurd (cc) }
 
   pub opens_by_good : (st : ClientState) (client : AbstractClient) (opened : Option ℕ) → client.state ≡ st → Steady client → OpenedGood speaker client history conn opened → Took_it client opened (opens_by st client)
   unfolding opens_by
@@ -334,13 +334,13 @@ module _ (m : AppSpec) (speaker : Speaker) (laws : HasOutputModel m speaker) (hi
         next = None;
         good = speaks client d None (syn_of d) (rw st refl) refl refl
             record { short = steady.short; low = steady.low; out_fits = steady.out_fits }
-            record { early = refl; nothing = h.nothing } (says_syn d d refl);
+            record { early = refl; nothing = h.nothing } (sends_syn d d refl);
       }
   opens_by_good Is.Opening client opened st steady h = record { next = opened; good = stays client opened steady h }
   opens_by_good _ client opened st steady h = record { next = opened; good = stays client opened steady h }
 
   speaks_again : (client : AbstractClient) (o : ℕ) (s : PlainSegment) → Steady client → HasOpened speaker client history conn o → IsData client (Some o) s → Took_it client (Some o) (steps_with client s)
-  speaks_again client o s steady h d = record { next = Some o; good = speaks client client (Some o) s (same_becomes client.state) refl refl steady h (said_data d) }
+  speaks_again client o s steady h d = record { next = Some o; good = speaks client client (Some o) s (same_becomes client.state) refl refl steady h (sent_data d) }
 
   repeats_data : (client : AbstractClient) (o : ℕ) → Steady client → HasOpened speaker client history conn o →
       Took_it client (Some o) (if ltb 0 client.out then steps_with client (own_request client) else if fin_out client.fin then steps_with client (own_fin client) else steps_with client (ack_of client))
@@ -355,7 +355,7 @@ module _ (m : AppSpec) (speaker : Speaker) (laws : HasOutputModel m speaker) (hi
   unfolding again_by
   again_by_good Is.Idle client opened st steady h = record { next = opened; good = stays client opened steady h }
   again_by_good Is.Reset client opened st steady h = record { next = opened; good = stays client opened steady h }
-  again_by_good Is.Opening client None st steady h = record { next = None; good = speaks client client None (syn_of client) (same_becomes client.state) refl refl steady h (says_syn client client refl) }
+  again_by_good Is.Opening client None st steady h = record { next = None; good = speaks client client None (syn_of client) (same_becomes client.state) refl refl steady h (sends_syn client client refl) }
   again_by_good Is.Opening client (Some o) st steady h = absurd (is_asked client Is.Opening o st refl h)
   again_by_good Is.Opened client (Some o) st steady h = repeats_data client o steady h
   again_by_good Is.Closing client (Some o) st steady h = repeats_data client o steady h
@@ -392,7 +392,7 @@ module _ (m : AppSpec) (speaker : Speaker) (laws : HasOutputModel m speaker) (hi
       record {
         next = opened;
         good = speaks client (record client { state = Is.Reset }) opened (own_reset client) (reset_becomes client.state) refl refl
-            record { short = steady.short; low = steady.low; out_fits = steady.out_fits } (reset_opened client opened h) (said_reset refl);
+            record { short = steady.short; low = steady.low; out_fits = steady.out_fits } (reset_opened client opened h) (sent_reset refl);
       }
 
   pub aborts_by_good : (st : ClientState) (client : AbstractClient) (opened : Option ℕ) → client.state ≡ st → Steady client → OpenedGood speaker client history conn opened → Took_it client opened (aborts_by st client)

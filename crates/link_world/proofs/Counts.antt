@@ -69,14 +69,14 @@ record Same (c d : AbstractClient) : Type 0 where
   expected : d.expected ≡ c.expected
   state : d.state ≡ c.state
 
-hears_same : (c : AbstractClient) (s : PlainSegment) → Same c (receives_ack c s)
-hears_same c s = choose (λ x. Same c x) (has_ack s.flags && (has_outstanding c && eqb s.ack (next_own c))) _ _ (λ e. record { received = refl; expected = refl; state = refl }) (λ e. record { received = refl; expected = refl; state = refl })
+receives_same : (c : AbstractClient) (s : PlainSegment) → Same c (receives_ack c s)
+receives_same c s = choose (λ x. Same c x) (has_ack s.flags && (has_outstanding c && eqb s.ack (next_own c))) _ _ (λ e. record { received = refl; expected = refl; state = refl }) (λ e. record { received = refl; expected = refl; state = refl })
 
 in_order_counted : (client : AbstractClient) (s : PlainSegment) → has_rst s.flags ≡ false → Counted client s (takes_in_order (receives_ack client s) s)
 unfolding takes_in_order
 in_order_counted client s nr =
     let c : AbstractClient = receives_ack client s in
-    let h : Same client c = hears_same client s in
+    let h : Same client c = receives_same client s in
     let k : Kind client s c = kept h.received h.expected (ap has_closed h.state) (ap (λ x. becomes_opened client.state x) h.state ∙ same_becomes client.state) in
     choose (λ x. Counted client s x) (has_syn s.flags) _ _ (λ e. on_counted true client c s k)
     (λ e. choose (λ x. Counted client s x) (not (occupies_sequence_space s)) _ _ (λ f. on_counted false client c s k)

@@ -48,7 +48,7 @@ module _ (m : AppSpec) where
         quiet = λ n l. live;
         quiet_last = λ n l. last;
         says = λ s e l tick id. push_few _ w.sent _ live;
-        says_last = λ s e l tick id. push_few _ w.sent _ last;
+        sends_last = λ s e l tick id. push_few _ w.sent _ last;
       }
 
   few_segment : (w : World) (old : Connection) (numbers : List ℕ) (now : Connection → Now) (k j : ℕ) (side : Side) (e : Sent) → is_live old.state ≡ true → FitConn old → All IsU32 numbers → ((c : Connection) → FitConn c → IsNow (now c)) →
@@ -120,7 +120,7 @@ module _ (m : AppSpec) where
     same_steps w old out k side iss g =
         let live : is_live out.connection.state ≡ true → Same k side out.connection w.sent = λ l q. (let h = g q in record { low = h.low; here = λ e. (l, iss ∙ (h.here e).1) }) in
         let last : Same k (older side out.connection) closed w.sent = λ q. gone_same side.history (past_connection_of out.connection) old closed (g q) in
-        record { quiet = λ x l. live l; quiet_last = λ x l. last; says = λ s e l tick id. live l; says_last = λ s e l tick id. last }
+        record { quiet = λ x l. live l; quiet_last = λ x l. last; says = λ s e l tick id. live l; sends_last = λ s e l tick id. last }
 
     same_segment : (w : World) (old : Connection) (numbers : List ℕ) (now : Connection → Now) (k j : ℕ) (side : Side) (e : Sent) → is_live old.state ≡ true → FitConn old → All IsU32 numbers → ((c : Connection) → FitConn c → IsNow (now c)) →
         slice_get w.sent j ≡ Some e → e.who ≡ from k → (is_clean side ≡ true → e.epoch ≡ length side.history) → Same k side old w.sent → Steps m Same same_other same_reset same_evict same_mark w (asked m now (on_segment m old numbers (seg e))) k side
@@ -164,7 +164,7 @@ module _ (m : AppSpec) where
   num_mark k side c sent i e g = g
 
   num_steps : (w : World) (out : Outcome) (k : ℕ) (side : Side) → Num out.connection → Steps m Numbered num_other num_reset num_evict num_mark w out k side
-  num_steps w out k side g = record { quiet = λ x l. g; quiet_last = λ x l. closed_num; says = λ s e l tick id. g; says_last = λ s e l tick id. closed_num }
+  num_steps w out k side g = record { quiet = λ x l. g; quiet_last = λ x l. closed_num; says = λ s e l tick id. g; sends_last = λ s e l tick id. closed_num }
 
   num_takes : (w : World) (k : ℕ) (base : Side) (c : Connection) (t : ClientStep) → Num c → Refines m Numbered num_other num_reset num_evict num_mark w k base c t
   num_takes w k base c t g = record { quiet = λ x. g; says = λ s e tick. g }

@@ -76,8 +76,8 @@ module _ (setup : Setup) (request : List ℕ) where
   abbrev pub node_syn_ack : ℕ → ℕ → PlainSegment
   node_syn_ack seq ack = record { seq = seq; ack = ack; flags = SYN + ACK; window = 1460; mss = Some 1460; text = [] }
 
-  abbrev pub node_says : ℕ → ℕ → ℕ → List ℕ → PlainSegment
-  node_says flags seq ack text = record { seq = seq; ack = ack; flags = flags; window = 1460; mss = None; text = text }
+  abbrev pub node_sends : ℕ → ℕ → ℕ → List ℕ → PlainSegment
+  node_sends flags seq ack text = record { seq = seq; ack = ack; flags = flags; window = 1460; mss = None; text = text }
 
   pub opens_at_syn_ack : (seq ack : ℕ) → ack ≡ wrap (setup.iss.0 + 1) →
       client_takes (client_at Opening [] 0 0 FinAt.NotSent 0) (node_syn_ack seq ack) ≡ sends_next true (open_with [] 0 0 (wrap (seq + 1)))
@@ -104,17 +104,17 @@ module _ (setup : Setup) (request : List ℕ) where
 
   -- a bare ACK, while parts of the request are left
   pub goes_on_at_ack : (received : List ℕ) (a o x seq ack : ℕ) → ack ≡ wrap (setup.iss.0 + 1 + (a + o)) → a + o < length request →
-      SendsNext (client_takes (open_with received a o x) (node_says ACK seq ack [])) received (a + o) x
+      SendsNext (client_takes (open_with received a o x) (node_sends ACK seq ack [])) received (a + o) x
   unfolding client_takes takes_by takes_in_order
   goes_on_at_ack received a o x seq ack e h =
-      subst (λ (c : AbstractClient). SendsNext (sends_next false c) received (a + o) x) (sym (accepts_all received a o x (node_says ACK seq ack []) refl e)) (sends_part false received (a + o) x h)
+      subst (λ (c : AbstractClient). SendsNext (sends_next false c) received (a + o) x) (sym (accepts_all received a o x (node_sends ACK seq ack []) refl e)) (sends_part false received (a + o) x h)
 
   -- text at the expected number
   pub takes_a_text : (received : List ℕ) (a o x seq ack : ℕ) (text : List ℕ) → ack ≡ wrap (setup.iss.0 + 1 + (a + o)) → seq ≡ x → 0 < length text →
-      SendsNext (client_takes (open_with received a o x) (node_says (ACK + PSH) seq ack text)) (received ++ text) (a + o) (wrap (x + length text + 0))
+      SendsNext (client_takes (open_with received a o x) (node_sends (ACK + PSH) seq ack text)) (received ++ text) (a + o) (wrap (x + length text + 0))
   unfolding client_takes takes_by takes_in_order
   takes_a_text received a o x seq ack text e f h =
-      let s : PlainSegment = node_says (ACK + PSH) seq ack text in
+      let s : PlainSegment = node_sends (ACK + PSH) seq ack text in
       let placed : not (occupies_sequence_space s) ≡ false = ap (λ b. not (b || false)) (ltb-yes (length text) h) in
       let in_order : eqb seq x && true ≡ true = ap (λ b. b && true) (eq-eqb seq x f) in
       let P : ClientStep → Type 0 = λ r. SendsNext r (received ++ text) (a + o) (wrap (x + length text + 0)) in
@@ -128,11 +128,11 @@ module _ (setup : Setup) (request : List ℕ) where
   closed_with received a x = client_at Closed received a 0 FinAt.Out x
 
   pub takes_the_fin : (received : List ℕ) (a o x seq ack : ℕ) → ack ≡ wrap (setup.iss.0 + 1 + (a + o)) → seq ≡ x →
-      client_takes (open_with received a o x) (node_says (FIN + ACK) seq ack [])
+      client_takes (open_with received a o x) (node_sends (FIN + ACK) seq ack [])
       ≡ client.steps_with (closed_with (received ++ []) (a + o) (wrap (x + 0 + 1))) (own_fin (closed_with (received ++ []) (a + o) (wrap (x + 0 + 1))))
   unfolding client_takes takes_by takes_in_order sends_next
   takes_the_fin received a o x seq ack e f =
-      let s : PlainSegment = node_says (FIN + ACK) seq ack [] in
+      let s : PlainSegment = node_sends (FIN + ACK) seq ack [] in
       let d : AbstractClient = open_with received (a + o) 0 x in
       ap (λ (c : AbstractClient). if eqb seq c.expected && client.is_receiving c.state then sends_next true (takes_text c s) else sends_next true c) (accepts_all received a o x s refl e)
       ∙ ap (λ b. if b && true then sends_next true (takes_text d s) else sends_next true d) (eq-eqb seq x f)
@@ -143,7 +143,7 @@ module _ (setup : Setup) (request : List ℕ) where
     pub is : step ≡ record { client = client; sent = None }
     pub closed : client.state ≡ Closed
 
-  pub rests_at_ack : (received : List ℕ) (a x seq ack : ℕ) → Rests (client_takes (closed_with received a x) (node_says ACK seq ack []))
+  pub rests_at_ack : (received : List ℕ) (a x seq ack : ℕ) → Rests (client_takes (closed_with received a x) (node_sends ACK seq ack []))
   unfolding client_takes takes_by takes_in_order sends_next
   rests_at_ack received a x seq ack =
       let c : AbstractClient = closed_with received a x in

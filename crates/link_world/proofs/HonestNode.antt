@@ -2,7 +2,7 @@
 -- application has to send next.
 use Rattle.link_world.proofs.Prelude.{All, position_from, option_map, option_map_or, ◌≡◌, ℕ, zero, suc, ◌+◌, ◌<◌, ◌≤◌, min, Bool, true, false, if◌then◌else◌, cond, not, ◌&&◌, ◌⊎◌, inl, inr, List, [], ◌∷◌, ◌++◌, length, take, drop, replicate, refl, sym, ap, ◌∙◌, subst, arith, Option, Some, None, eqb, ltb, position, slice_get, eq-eqb, cases_lt, take-append-drop, take_all, take-add, position_from-zero, wrap, Addr, FIN, PSH, ACK, PlainSegment, has_fin, has_rst, has_ack, AppState, After, AppSpec, text_left, Pages, IsPaged, IsU32, IsNow, MayWant, Now, Reset, State, SynRcvd, Established, FinWait1, FinWait2, TimeWait, Want, Nothing, Send, Close, Abort, Sockets, Connection, closed, is_live, serves, same_sockets, snd_una, rcv_nxt, occupies_sequence_space, segment_of, is_again, Outcome, leaves, closes, idles, does_as_wanted, ask, asked, first_mss, reported_end, peer_closes, is_out_of_order, is_acked, has_text, delivers_text, with_window, stays_established, in_established, fin_acked, by_state, on_segment, Step, Event, HistoryEntry, Arrived, Silent, Spoke, TcpReply, ident_of, initial_number, AbstractNode, NodeStep, initial_node, snapshot, slot_for_syn, opens, passes, refuses, gone_by, happened, opens_in, for_no_connection, arrives_at, arrives, offered, syn_of, FinAt, Setup, GoesOnBy, AnswersIn, steady_of, choose, both_ways, zero_or_more, ltb-yes, cut_length, wrap_wrap, same_self, FitConn, FitOut, snapshot_fits, asked_fits, on_segment_fits, closed_fits, all_closed}
 use Rattle.link_client.specs.declared.client_state.ClientState.TheVariants as Is
-use Rattle.link_world.proofs.HonestClient.{client_at, node_says, node_syn_ack, Brings, next_out}
+use Rattle.link_world.proofs.HonestClient.{client_at, node_sends, node_syn_ack, Brings, next_out}
 
 pub mss_low : (o : Option ℕ) → 1 ≤ first_mss o
 mss_low None = omega arith
@@ -141,11 +141,11 @@ module _ (m : AppSpec) (pages : Pages) (lawful : IsPaged m pages) (served : ℕ 
       taken_in c numbers s b.no_rst b.seq ∙ ap (λ y. by_state m SynRcvd y c numbers s) acked
 
   -- in ESTABLISHED what a segment brings is delivered, and the application is asked
-  heard_in_turn : (acked : Bool) (numbers : List ℕ) (taken iss at : ℕ) (p : AppState) (s : PlainSegment) → has_fin s.flags ≡ false → s.window ≡ 65535 → not acked && not (has_text s) ≡ false →
+  received_in_turn : (acked : Bool) (numbers : List ℕ) (taken iss at : ℕ) (p : AppState) (s : PlainSegment) → has_fin s.flags ≡ false → s.window ≡ 65535 → not acked && not (has_text s) ≡ false →
       let delivered : After = delivers_text m numbers p s.text in
       in_established m acked (conn_at Established taken iss at 0 p) numbers s ≡ leaves (conn_at Established (taken + length s.text) iss at 0 delivered.part) delivered.numbers (Step.Ask (has_text s))
   unfolding in_established stays_established
-  heard_in_turn acked numbers taken iss at p s f w h =
+  received_in_turn acked numbers taken iss at p s f w h =
       let c : Connection = conn_at Established taken iss at 0 p in
       let delivered : After = delivers_text m numbers p s.text in
       let d : Connection = conn_at Established (taken + length s.text) iss at 0 delivered.part in
@@ -164,7 +164,7 @@ module _ (m : AppSpec) (pages : Pages) (lawful : IsPaged m pages) (served : ℕ 
       let reported : After = m.acked numbers p len in
       let is : is_acked c s ≡ true = three (has_ack s.flags) (ltb 0 len) (eqb s.ack (wrap (snd_una c + len))) b.is_ack (ltb-yes len l)
       (eq-eqb s.ack (wrap (snd_una c + len)) (b.ack ∙ e ∙ ap wrap (let z : iss + (acked + len) ≡ iss + acked + len = omega arith in z) ∙ sym (wrap_wrap (iss + acked) len))) in
-      taken_in c numbers s b.no_rst b.seq ∙ ap (λ y. by_state m Established y c numbers s) is ∙ heard_in_turn true reported.numbers taken iss (acked + len) reported.part s b.no_fin b.window refl
+      taken_in c numbers s b.no_rst b.seq ∙ ap (λ y. by_state m Established y c numbers s) is ∙ received_in_turn true reported.numbers taken iss (acked + len) reported.part s b.no_fin b.window refl
 
   quiet_visit : (numbers : List ℕ) (taken iss acked x : ℕ) (p : AppState) (s : PlainSegment) → Brings setup request taken x s → 0 < length s.text →
       let delivered : After = delivers_text m numbers p s.text in
@@ -172,7 +172,7 @@ module _ (m : AppSpec) (pages : Pages) (lawful : IsPaged m pages) (served : ℕ 
   quiet_visit numbers taken iss acked x p s b l =
       let c : Connection = conn_at Established taken iss acked 0 p in
       taken_in c numbers s b.no_rst b.seq ∙ ap (λ y. by_state m Established y c numbers s) (and_no (has_ack s.flags))
-      ∙ heard_in_turn false numbers taken iss acked p s b.no_fin b.window (ap (λ y. not y) (ltb-yes (length s.text) l))
+      ∙ received_in_turn false numbers taken iss acked p s b.no_fin b.window (ap (λ y. not y) (ltb-yes (length s.text) l))
 
   -- the client's FIN, after the own one
   pub record Finishes (r : NodeStep) : Type 0 where
@@ -180,7 +180,7 @@ module _ (m : AppSpec) (pages : Pages) (lawful : IsPaged m pages) (served : ℕ 
     pub id : ℕ
     pub seq : ℕ
     pub ack : ℕ
-    pub is : r ≡ record { node = node; sent = Some (TcpReply sockets id false (node_says setup request ACK seq ack [])); gone = None }
+    pub is : r ≡ record { node = node; sent = Some (TcpReply sockets id false (node_sends setup request ACK seq ack [])); gone = None }
 
   pub takes_fin : (numbers : List ℕ) (history : List HistoryEntry) (taken iss acked : ℕ) (p : AppState) (s : PlainSegment) → s.flags ≡ FIN + ACK → s.text ≡ [] → s.seq ≡ wrap (setup.iss.0 + 1 + taken) → s.ack ≡ wrap (iss + (acked + 1)) →
       Finishes (arrives m served (node_at numbers history (conn_at FinWait1 taken iss acked 1 p)) sockets s)
@@ -202,7 +202,7 @@ module _ (m : AppSpec) (pages : Pages) (lawful : IsPaged m pages) (served : ℕ 
         ack = rcv_nxt k;
         is = comes_to FinWait1 numbers history taken iss acked 1 p s refl
             ∙ ap (λ o. happened m n event 0 c (asked m (snapshot n event 0) o)) row
-            ∙ answered c k numbers numbers history event Step.Ack (node_says setup request ACK (snd_una k) (rcv_nxt k) []) refl refl refl;
+            ∙ answered c k numbers numbers history event Step.Ack (node_sends setup request ACK (snd_una k) (rcv_nxt k) []) refl refl refl;
       }
 
   -- what there is to send after a visit
@@ -221,22 +221,22 @@ module _ (m : AppSpec) (pages : Pages) (lawful : IsPaged m pages) (served : ℕ 
 
     -- What the node sends after a visit: a FIN, a text, or a bare ACK while parts of the request are left.
     pub data Says (r : NodeStep) (taken iss acked most : ℕ) : Type 0 where
-      says_fin : (numbers : List ℕ) (history : List HistoryEntry) (id : ℕ) (p : AppState) →
-          r ≡ answers_with numbers history (conn_at FinWait1 taken iss acked 1 p) id false (node_says setup request (FIN + ACK) (wrap (iss + acked)) (wrap (setup.iss.0 + 1 + taken)) []) →
+      sends_fin : (numbers : List ℕ) (history : List HistoryEntry) (id : ℕ) (p : AppState) →
+          r ≡ answers_with numbers history (conn_at FinWait1 taken iss acked 1 p) id false (node_sends setup request (FIN + ACK) (wrap (iss + acked)) (wrap (setup.iss.0 + 1 + taken)) []) →
           Says r taken iss acked most
-      says_text : (numbers : List ℕ) (history : List HistoryEntry) (id : ℕ) (p : AppState) (text : List ℕ) (len : ℕ) → length text ≡ len → 0 < len → Awaits p taken most len →
+      sends_text : (numbers : List ℕ) (history : List HistoryEntry) (id : ℕ) (p : AppState) (text : List ℕ) (len : ℕ) → length text ≡ len → 0 < len → Awaits p taken most len →
           All IsU32 numbers → FitConn (conn_at Established taken iss acked len p) →
-          r ≡ answers_with numbers history (conn_at Established taken iss acked len p) id false (node_says setup request (ACK + PSH) (wrap (iss + acked)) (wrap (setup.iss.0 + 1 + taken)) text) →
+          r ≡ answers_with numbers history (conn_at Established taken iss acked len p) id false (node_sends setup request (ACK + PSH) (wrap (iss + acked)) (wrap (setup.iss.0 + 1 + taken)) text) →
           Says r taken iss acked most
-      says_ack : (numbers : List ℕ) (history : List HistoryEntry) (id : ℕ) (p : AppState) → taken < length request → IsReady p taken most →
+      outputs_ack : (numbers : List ℕ) (history : List HistoryEntry) (id : ℕ) (p : AppState) → taken < length request → IsReady p taken most →
           All IsU32 numbers → FitConn (conn_at Established taken iss acked 0 p) →
-          r ≡ answers_with numbers history (conn_at Established taken iss acked 0 p) id false (node_says setup request ACK (wrap (iss + acked)) (wrap (setup.iss.0 + 1 + taken)) []) →
+          r ≡ answers_with numbers history (conn_at Established taken iss acked 0 p) id false (node_sends setup request ACK (wrap (iss + acked)) (wrap (setup.iss.0 + 1 + taken)) []) →
           Says r taken iss acked most
 
-    hears_more : (numbers : List ℕ) (p : AppState) (taken most : ℕ) (text : List ℕ) → taken ≤ length request → text ≡ brought taken → IsReady p taken most →
+    receives_more : (numbers : List ℕ) (p : AppState) (taken most : ℕ) (text : List ℕ) → taken ≤ length request → text ≡ brought taken → IsReady p taken most →
         IsReady (delivers_text m numbers p text).part (taken + length text) most
-    hears_more numbers p taken most [] h e r = record { good = r.good; input = r.input ∙ ap (λ n. take n request) (let z : taken ≡ taken + 0 = omega arith in z); few = r.few }
-    hears_more numbers p taken most (y ∷ ys) h e r =
+    receives_more numbers p taken most [] h e r = record { good = r.good; input = r.input ∙ ap (λ n. take n request) (let z : taken ≡ taken + 0 = omega arith in z); few = r.few }
+    receives_more numbers p taken most (y ∷ ys) h e r =
         let text : List ℕ = y ∷ ys in
         let own : text ≡ take (length text) (drop taken request) = e ∙ ap (λ n. take n (drop taken request)) (sym (ap length e ∙ brought_length taken h)) in
         let now : p.input ++ text ≡ take (taken + length text) request =
@@ -256,8 +256,8 @@ module _ (m : AppSpec) (pages : Pages) (lawful : IsPaged m pages) (served : ℕ 
     by_want old before numbers history event fresh taken iss acked most q Abort f e n may g fit = absurd g
     by_want old before numbers history event fresh taken iss acked most q Close f e n may g fit =
         let k : Connection = conn_at FinWait1 taken iss acked 1 q in
-        says_fin numbers (remembered event (Step.Fin false) history) (ident_of (remembered event (Step.Fin false) history)) q
-        (answered old k before numbers history event (Step.Fin false) (node_says setup request (FIN + ACK) (snd_una k) (rcv_nxt k) []) refl refl refl)
+        sends_fin numbers (remembered event (Step.Fin false) history) (ident_of (remembered event (Step.Fin false) history)) q
+        (answered old k before numbers history event (Step.Fin false) (node_sends setup request (FIN + ACK) (snd_una k) (rcv_nxt k) []) refl refl refl)
     by_want old before numbers history event fresh taken iss acked most q (Send j) f e n may g fit =
         let len : ℕ = min j mss in
         let k : Connection = conn_at Established taken iss acked len q in
@@ -265,17 +265,17 @@ module _ (m : AppSpec) (pages : Pages) (lawful : IsPaged m pages) (served : ℕ 
         let size : length text ≡ len =
         ap (λ t. length (take len (drop q.acked t))) (lawful.output q) ∙ cut_length (pages.page q.input q.snapshots) q.acked len (omega (arith, may.1)) in
         let some : 0 < len = omega (arith, may.0, mss_low (offered setup.mss)) in
-        says_text numbers (remembered event (Step.Text false) history) (ident_of (remembered event (Step.Text false) history)) q text len size some (awaits_text len some e g) n fit.conn
-        (answered old k before numbers history event (Step.Text false) (node_says setup request (ACK + PSH) (snd_una k) (rcv_nxt k) text) refl refl refl)
+        sends_text numbers (remembered event (Step.Text false) history) (ident_of (remembered event (Step.Text false) history)) q text len size some (awaits_text len some e g) n fit.conn
+        (answered old k before numbers history event (Step.Text false) (node_sends setup request (ACK + PSH) (snd_una k) (rcv_nxt k) text) refl refl refl)
     by_want old before numbers history event fresh taken iss acked most q Nothing f e n may g fit =
         let k : Connection = conn_at Established taken iss acked 0 q in
         elim (cases_lt taken (length request)) [
           | inl l ↦
               let is : fresh ≡ true = elim f [ inl y ↦ y | inr y ↦ absurd (let z : ⊥ = omega (arith, l, y) in z) ] in
               let output : idles fresh k numbers ≡ leaves k numbers Step.Ack = ap (λ b. if b then leaves k numbers Step.Ack else leaves k numbers Step.Drop) is in
-              says_ack numbers (remembered event Step.Ack history) (ident_of (remembered event Step.Ack history)) q l record { good = g.0; input = e; few = g.1 } n (subst (λ (o : Outcome). FitOut o) output fit).conn
+              outputs_ack numbers (remembered event Step.Ack history) (ident_of (remembered event Step.Ack history)) q l record { good = g.0; input = e; few = g.1 } n (subst (λ (o : Outcome). FitOut o) output fit).conn
               (ap (λ o. happened m (node_at before history old) event 0 old o) output
-              ∙ answered old k before numbers history event Step.Ack (node_says setup request ACK (snd_una k) (rcv_nxt k) []) refl refl refl)
+              ∙ answered old k before numbers history event Step.Ack (node_sends setup request ACK (snd_una k) (rcv_nxt k) []) refl refl refl)
           | inr l ↦ absurd (g.2 (all_of q taken e l))
         ]
 
@@ -324,7 +324,7 @@ module _ (m : AppSpec) (pages : Pages) (lawful : IsPaged m pages) (served : ℕ 
         let comes = comes_to state numbers history taken iss acked len p s live ∙ ap (λ o. happened m node event 0 c (asked m (snapshot node event 0) o)) row in
         subst (λ k. Says (arrives m served node sockets s) (taken + k) iss at most) size
         (subst (λ (r : NodeStep). Says r (taken + length s.text) iss at most) (sym comes)
-        (asks c numbers delivered.numbers history event (has_text s) (taken + length s.text) iss at most delivered.part any (hears_more next q taken most s.text h text r) f fit.numbers fit.conn))
+        (asks c numbers delivered.numbers history event (has_text s) (taken + length s.text) iss at most delivered.part any (receives_more next q taken most s.text h text r) f fit.numbers fit.conn))
 
     -- What a visit leaves: after it the segment's part of the request is taken, and what was outstanding is acknowledged.
     pub visits_first : (numbers : List ℕ) (history : List HistoryEntry) (iss x : ℕ) (p : AppState) (s : PlainSegment) → 1 ≤ setup.seg → Brings setup request 0 x s → x ≡ wrap (iss + 1) →

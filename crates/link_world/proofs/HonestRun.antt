@@ -4,9 +4,9 @@ use Rattle.link_world.proofs.Prelude.{All, ◌≡◌, ℕ, zero, suc, ◌+◌, �
 use Rattle.link_client.specs.declared.client_state.ClientState.TheVariants as Is
 use Rattle.link_world.proofs.Doing.{goes_on_with}
 use Rattle.link_world.proofs.Rounds.{only_side, under_way, at_rest, sent_by, one_longer, round_of_none, node_answers, client_answers, client_is_silent}
-use Rattle.link_world.proofs.HonestClient.{open_with, closed_with, next_out, node_says, Brings, SendsNext, goes_on_at_ack, takes_a_text, takes_the_fin, rests_at_ack}
+use Rattle.link_world.proofs.HonestClient.{open_with, closed_with, next_out, node_sends, Brings, SendsNext, goes_on_at_ack, takes_a_text, takes_the_fin, rests_at_ack}
 use Rattle.link_world.proofs.HonestNode.{mss, sockets, conn_at, node_at, takes_fin, Awaits, Says, visits}
-use Rattle.link_world.proofs.HonestNode.Says.{says_fin, says_text, says_ack}
+use Rattle.link_world.proofs.HonestNode.Says.{sends_fin, sends_text, outputs_ack}
 use Rattle.link_world.proofs.HonestNode.Awaits.{awaits_text, awaits_none}
 
 -- what is under way
@@ -100,11 +100,11 @@ module _ (m : AppSpec) (pages : Pages) (lawful : IsPaged m pages) (served : ℕ 
       x ≡ wrap (iss + acked) → length before + 1 + suc (suc (suc n)) ≤ 65535 →
       EndsIn (suc (suc (suc n))) (under_way (node_at m pages lawful served addr setup request numbers history (conn_at m pages lawful served addr setup request FinWait1 (a + o) iss acked 1 p))
       (only_side (open_with setup request received a o x) (Some 0)) before
-      (by_node tick id (node_says setup request (FIN + ACK) (wrap (iss + acked)) (wrap (setup.iss.0 + 1 + (a + o))) [])))
+      (by_node tick id (node_sends setup request (FIN + ACK) (wrap (iss + acked)) (wrap (setup.iss.0 + 1 + (a + o))) [])))
   ends_by_fin n numbers history iss acked a o x tick id received p before e room place =
       let node : AbstractNode = node_at m pages lawful served addr setup request numbers history (conn_at m pages lawful served addr setup request FinWait1 (a + o) iss acked 1 p) in
       let asking : AbstractClient = open_with setup request received a o x in
-      let s : PlainSegment = node_says setup request (FIN + ACK) (wrap (iss + acked)) (wrap (setup.iss.0 + 1 + (a + o))) [] in
+      let s : PlainSegment = node_sends setup request (FIN + ACK) (wrap (iss + acked)) (wrap (setup.iss.0 + 1 + (a + o))) [] in
       let c : AbstractClient = closed_with setup request (received ++ []) (a + o) (wrap (x + 0 + 1)) in
       let t : PlainSegment = own_fin c in
       let one : List Sent = before ++ by_node tick id s ∷ [] in
@@ -113,7 +113,7 @@ module _ (m : AppSpec) (pages : Pages) (lawful : IsPaged m pages) (served : ℕ 
       let its : t.ack ≡ wrap (iss + (acked + 1)) =
       ap (λ k. wrap (k + 0 + 1)) e ∙ ap wrap (let z : wrap (iss + acked) + 0 + 1 ≡ wrap (iss + acked) + 1 = omega arith in z) ∙ wrap_wrap (iss + acked) 1 ∙ ap wrap (let z : iss + acked + 1 ≡ iss + (acked + 1) = omega arith in z) in
       let f = takes_fin m pages lawful served addr setup request numbers history (a + o) iss acked p t refl refl own its in
-      let u : PlainSegment = node_says setup request ACK f.seq f.ack [] in
+      let u : PlainSegment = node_sends setup request ACK f.seq f.ack [] in
       let two : List Sent = one ++ by_client (ticks_of node.history) 0 t ∷ [] in
       let longer : length two ≡ suc (length one) = one_longer one (by_client (ticks_of node.history) 0 t) in
       let r = rests_at_ack setup request (received ++ []) (a + o) (wrap (x + 0 + 1)) f.seq f.ack in
@@ -161,21 +161,21 @@ module _ (m : AppSpec) (pages : Pages) (lawful : IsPaged m pages) (served : ℕ 
       Says m pages lawful served addr setup request fine left texts answers (arrives m served node (sockets m pages lawful served addr setup request) s) (a + o) iss acked fewer →
       x ≡ wrap (iss + acked) → a + o ≤ length request → parts + fewer ≤ fuel → 2 * fuel + 3 ≤ n → length request ≤ a + o + parts * setup.seg → length before + 1 + suc n ≤ 65535 →
       EndsIn (suc n) (under_way node (only_side (open_with setup request received a o x) (Some 0)) before (by_client tick id s))
-  after_visit fuel n parts iss acked fewer below node a o x tick id received before s (says_fin numbers history number p e) ex within f g parts_left room place =
+  after_visit fuel n parts iss acked fewer below node a o x tick id received before s (sends_fin numbers history number p e) ex within f g parts_left room place =
       let all : List Sent = before ++ by_client tick id s ∷ [] in
       let long : length all ≡ suc (length before) = one_longer before (by_client tick id s) in
       let k : Connection = conn_at m pages lawful served addr setup request FinWait1 (a + o) iss acked 1 p in
       let next : AbstractNode = node_at m pages lawful served addr setup request numbers history k in
-      let t : PlainSegment = node_says setup request (FIN + ACK) (wrap (iss + acked)) (wrap (setup.iss.0 + 1 + (a + o))) [] in
+      let t : PlainSegment = node_sends setup request (FIN + ACK) (wrap (iss + acked)) (wrap (setup.iss.0 + 1 + (a + o))) [] in
       let three : n ≡ suc (suc (suc (n - 3))) = omega (arith, g) in
       node_round m served n place node next (open_with setup request received a o x) (Some 0) before tick id number s t (omega (arith, room)) e
       (subst (λ j. Ended (plays_from m served (place + 1) (replicate j Round) (under_way next (only_side (open_with setup request received a o x) (Some 0)) all (by_node (ticks_of history) number t)))) (sym three)
       (ends_by_fin (n - 3) numbers history iss acked a o x (ticks_of history) number received p all ex (omega (arith, long, room, g)) (place + 1)))
-  after_visit fuel n parts iss acked fewer below node a o x tick id received before s (says_text numbers history number p text len size some awaits words fits e) ex within f g parts_left room place =
+  after_visit fuel n parts iss acked fewer below node a o x tick id received before s (sends_text numbers history number p text len size some awaits words fits e) ex within f g parts_left room place =
       let all : List Sent = before ++ by_client tick id s ∷ [] in
       let long : length all ≡ suc (length before) = one_longer before (by_client tick id s) in
       let next : AbstractNode = node_at m pages lawful served addr setup request numbers history (conn_at m pages lawful served addr setup request Established (a + o) iss acked len p) in
-      let t : PlainSegment = node_says setup request (ACK + PSH) (wrap (iss + acked)) (wrap (setup.iss.0 + 1 + (a + o))) text in
+      let t : PlainSegment = node_sends setup request (ACK + PSH) (wrap (iss + acked)) (wrap (setup.iss.0 + 1 + (a + o))) text in
       let one : n ≡ suc (n - 1) = omega (arith, g) in
       let expected : wrap (x + length text + 0) ≡ wrap (iss + (acked + len)) =
       ap (λ j. wrap (j + length text + 0)) ex ∙ ap wrap (let z : wrap (iss + acked) + length text + 0 ≡ wrap (iss + acked) + len = omega (arith, size) in z) ∙ wrap_wrap (iss + acked) len ∙ ap wrap (let z : iss + acked + len ≡ iss + (acked + len) = omega arith in z) in
@@ -183,11 +183,11 @@ module _ (m : AppSpec) (pages : Pages) (lawful : IsPaged m pages) (served : ℕ 
       (subst (λ j. Ended (plays_from m served (place + 1) (replicate j Round) (under_way next (only_side (open_with setup request received a o x) (Some 0)) all (by_node (ticks_of history) number t)))) (sym one)
       (goes_on_from fuel (n - 1) parts iss acked fewer below numbers history a o len x (wrap (x + length text + 0)) (ticks_of history) number received (received ++ text) p all t
       (takes_a_text setup request received a o x (wrap (iss + acked)) (wrap (setup.iss.0 + 1 + (a + o))) text refl (sym ex) (omega (arith, size, some))) expected within awaits words fits f (omega (arith, g)) parts_left (omega (arith, long, room, g)) (place + 1)))
-  after_visit fuel n parts iss acked fewer below node a o x tick id received before s (says_ack numbers history number p l ready words fits e) ex within f g parts_left room place =
+  after_visit fuel n parts iss acked fewer below node a o x tick id received before s (outputs_ack numbers history number p l ready words fits e) ex within f g parts_left room place =
       let all : List Sent = before ++ by_client tick id s ∷ [] in
       let long : length all ≡ suc (length before) = one_longer before (by_client tick id s) in
       let next : AbstractNode = node_at m pages lawful served addr setup request numbers history (conn_at m pages lawful served addr setup request Established (a + o) iss acked 0 p) in
-      let t : PlainSegment = node_says setup request ACK (wrap (iss + acked)) (wrap (setup.iss.0 + 1 + (a + o))) [] in
+      let t : PlainSegment = node_sends setup request ACK (wrap (iss + acked)) (wrap (setup.iss.0 + 1 + (a + o))) [] in
       let one : n ≡ suc (n - 1) = omega (arith, g) in
       node_round m served n place node next (open_with setup request received a o x) (Some 0) before tick id number s t (omega (arith, room)) e
       (subst (λ j. Ended (plays_from m served (place + 1) (replicate j Round) (under_way next (only_side (open_with setup request received a o x) (Some 0)) all (by_node (ticks_of history) number t)))) (sym one)

@@ -1,16 +1,16 @@
 -- What was sent stays true as captures are taken and the client continues.
 use Rattle.link_world.proofs.Prelude.{◌≡◌, ℕ, ◌+◌, ◌≤◌, true, ◌⊎◌, inl, inr, List, [], ◌++◌, length, sym, ap, ◌∙◌, subst, Option, Some, wrap, PlainSegment, Snapshot, AppSpec, IsPrefixOf, AbstractClient, own_first, IsPart, prefix_part, append_nothing}
 use Rattle.link_world.proofs.Speaking.{Speaker, HasOutputModel}
-use Rattle.link_world.proofs.CleanClientInvariant.{is_some, IsAll, NodeSaid, ClientSaid}
-use Rattle.link_world.proofs.CleanClientInvariant.ClientSaid.{said_reset, said_syn, said_data}
-use Rattle.link_world.proofs.CleanClientInvariant.NodeSaid.{node_reset, node_syn, node_ack, node_text, node_fin}
+use Rattle.link_world.proofs.CleanClientInvariant.{is_some, IsAll, NodeSent, ClientSent}
+use Rattle.link_world.proofs.CleanClientInvariant.ClientSent.{sent_reset, sent_syn, sent_data}
+use Rattle.link_world.proofs.CleanClientInvariant.NodeSent.{node_reset, node_syn, node_ack, node_text, node_fin}
 
 module _ (m : AppSpec) (speaker : Speaker) (laws : HasOutputModel m speaker) where
   pub page_more : (r : List ℕ) (k more : List Snapshot) → IsPrefixOf (speaker.text r k) (speaker.text r (k ++ more))
   page_more r k more = subst (λ q. IsPrefixOf (speaker.text r k) (speaker.text q (k ++ more))) (append_nothing r) (laws.grows r [] k more)
 
-  pub page_heard : (q more : List ℕ) (k : List Snapshot) → IsPrefixOf (speaker.text q k) (speaker.text (q ++ more) k)
-  page_heard q more k = subst (λ l. IsPrefixOf (speaker.text q k) (speaker.text (q ++ more) l)) (append_nothing k) (laws.grows q more k [])
+  pub page_received : (q more : List ℕ) (k : List Snapshot) → IsPrefixOf (speaker.text q k) (speaker.text (q ++ more) k)
+  page_received q more k = subst (λ l. IsPrefixOf (speaker.text q k) (speaker.text (q ++ more) l)) (append_nothing k) (laws.grows q more k [])
 
   whole_more : (r : List ℕ) (k more : List Snapshot) → speaker.whole r k ≡ true → speaker.whole r (k ++ more) ≡ true
   whole_more r k more w = subst (λ q. speaker.whole q (k ++ more) ≡ true) (append_nothing r) (laws.stays_complete r [] k more w)
@@ -20,7 +20,7 @@ module _ (m : AppSpec) (speaker : Speaker) (laws : HasOutputModel m speaker) whe
 
   -- the page of a prefix of the request is a prefix of the page of the whole request
   pub prefix_grows : (delivered r : List ℕ) (k : List Snapshot) → IsPrefixOf delivered r → IsPrefixOf (speaker.text delivered k) (speaker.text r k)
-  prefix_grows delivered r k h = subst (λ q. IsPrefixOf (speaker.text delivered k) (speaker.text q k)) h.joined (page_heard delivered h.rest k)
+  prefix_grows delivered r k h = subst (λ q. IsPrefixOf (speaker.text delivered k) (speaker.text q k)) h.joined (page_received delivered h.rest k)
 
   -- if the page of what was received is whole, it is the page of the whole request
   pub prefix_all : (c : AbstractClient) (delivered : List ℕ) (k : List Snapshot) (at : ℕ) → IsPrefixOf delivered c.request → speaker.whole delivered k ≡ true → at ≡ length (speaker.text delivered k) → IsAll speaker c k at
@@ -40,7 +40,7 @@ module _ (m : AppSpec) (speaker : Speaker) (laws : HasOutputModel m speaker) whe
       record { whole = w; end = h.end ∙ ap length (sym p) }
 
   pub node_later : (c d : AbstractClient) (P Q : Type 0) (f f' : ℕ) (k k' more : List Snapshot) (s : PlainSegment) → d.request ≡ c.request →
-      (P → Q) → f' ≡ f → k' ≡ k ++ more → NodeSaid speaker c P f k s → NodeSaid speaker d Q f' k' s
+      (P → Q) → f' ≡ f → k' ≡ k ++ more → NodeSent speaker c P f k s → NodeSent speaker d Q f' k' s
   node_later c d P Q f f' k k' more s er pq ef ek (node_reset r) = node_reset r
   node_later c d P Q f f' k k' more s er pq ef ek (node_syn r n) = node_syn r record { syn = n.syn; seq = n.seq ∙ ap wrap (sym ef) }
   node_later c d P Q f f' k k' more s er pq ef ek (node_ack r n) = node_ack r n
@@ -62,16 +62,16 @@ module _ (m : AppSpec) (speaker : Speaker) (laws : HasOutputModel m speaker) whe
 
 pub client_later : (c d : AbstractClient) (opened next : Option ℕ) (at_epoch : ℕ) (s : PlainSegment) → d.request ≡ c.request → own_first d ≡ own_first c →
     (is_some opened ≡ true → is_some next ≡ true) → ((o : ℕ) → next ≡ Some o → (opened ≡ Some o) ⊎ (at_epoch ≤ o)) →
-    ClientSaid c opened at_epoch s → ClientSaid d next at_epoch s
-client_later c d opened next at_epoch s er ef eo en (said_reset r) = said_reset r
-client_later c d opened next at_epoch s er ef eo en (said_syn y) = said_syn record {
+    ClientSent c opened at_epoch s → ClientSent d next at_epoch s
+client_later c d opened next at_epoch s er ef eo en (sent_reset r) = sent_reset r
+client_later c d opened next at_epoch s er ef eo en (sent_syn y) = sent_syn record {
   syn = y.syn;
   no_ack = y.no_ack;
   no_text = y.no_text;
   seq = y.seq ∙ sym ef;
   before = λ o n. elim (en o n) [ inl x ↦ y.before o x | inr x ↦ x ];
 }
-client_later c d opened next at_epoch s er ef eo en (said_data x) = said_data record {
+client_later c d opened next at_epoch s er ef eo en (sent_data x) = sent_data record {
   no_syn = x.no_syn;
   opened_is = eo x.opened_is;
   at = x.at;

@@ -1,6 +1,6 @@
 pub mod Sample
 pub mod Rows
-pub mod Hearing
+pub mod Reception
 pub mod Doing
 pub mod ClientCases
 pub mod Speaking
@@ -22,7 +22,7 @@ pub mod Loss
 pub mod Sound
 pub mod ReadBack
 pub mod Harmless
-pub mod SaidBytes
+pub mod SentBytes
 pub mod SoundNodes
 pub mod SoundWorlds
 pub mod Damages

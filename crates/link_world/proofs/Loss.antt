@@ -13,16 +13,16 @@ node_loses m served w (IcmpRefused fate) h = record { sides = refl; sent = refl;
 node_loses m served w (TcpRefused fate) h = record { sides = refl; sent = refl; mark = refl; addr = refl; numbers = refl; connections = refl; ticks = refl; initial = refl; ident = refl }
 node_loses m served w _ h = absurd (cc)
 
-nothing_heard : (setup : Setup) (e : Event) → is_refused e ≡ true → received_by setup e ≡ None
-nothing_heard setup (IpRefused fate) h = refl
-nothing_heard setup (IcmpRefused fate) h = refl
-nothing_heard setup (TcpRefused fate) h = refl
-nothing_heard setup _ h = absurd (cc)
+nothing_received : (setup : Setup) (e : Event) → is_refused e ≡ true → received_by setup e ≡ None
+nothing_received setup (IpRefused fate) h = refl
+nothing_received setup (IcmpRefused fate) h = refl
+nothing_received setup (TcpRefused fate) h = refl
+nothing_received setup _ h = absurd (cc)
 
 client_loses : (w : World) (number : ℕ) (bytes : List ℕ) (side : Option Side) → ((setup : Setup) → is_refused (event_of setup.addr bytes) ≡ true) → IsLoss w (option_map_or (handed w number bytes) side w)
 client_loses w number bytes None h = same_world w
 client_loses w number bytes (Some side) h =
-    subst (λ x. IsLoss w (option_map_or (λ s. client_stepped w number side (client_takes side.client s)) x w)) (sym (nothing_heard side.client.setup (event_of side.client.setup.addr bytes) (h side.client.setup))) (same_world w)
+    subst (λ x. IsLoss w (option_map_or (λ s. client_stepped w number side (client_takes side.client s)) x w)) (sym (nothing_received side.client.setup (event_of side.client.setup.addr bytes) (h side.client.setup))) (same_world w)
 
 pub loses : (m : AppSpec) (served : ℕ → Bool) (w : World) (who : Who) (bytes : List ℕ) (at mask : ℕ) → IsWholeDatagram bytes → at < length bytes → 1 ≤ mask → mask < 256 → IsLoss w (hands_over m served w (changed bytes at mask) who)
 loses m served w (FromClient n) bytes at mask h l a b = node_loses m served w (event_of w.node.addr (changed bytes at mask)) (damage_refused bytes at mask w.node.addr h l a b)
@@ -57,7 +57,7 @@ one_refusal m served w _ h = absurd (cc)
 client_past : (w : World) (number : ℕ) (bytes : List ℕ) (side : Option Side) → ((setup : Setup) → is_refused (event_of setup.addr bytes) ≡ true) → (option_map_or (handed w number bytes) side w).node.history ≡ w.node.history
 client_past w number bytes None h = refl
 client_past w number bytes (Some side) h =
-    subst (λ x. (option_map_or (λ s. client_stepped w number side (client_takes side.client s)) x w).node.history ≡ w.node.history) (sym (nothing_heard side.client.setup (event_of side.client.setup.addr bytes) (h side.client.setup))) refl
+    subst (λ x. (option_map_or (λ s. client_stepped w number side (client_takes side.client s)) x w).node.history ≡ w.node.history) (sym (nothing_received side.client.setup (event_of side.client.setup.addr bytes) (h side.client.setup))) refl
 
 counts : (m : AppSpec) (served : ℕ → Bool) (w : World) (who : Who) (bytes : List ℕ) (at mask : ℕ) → IsWholeDatagram bytes → at < length bytes → 1 ≤ mask → mask < 256 → CountsBy who w (hands_over m served w (changed bytes at mask) who)
 counts m served w (FromClient n) bytes at mask h l a b = one_refusal m served w (event_of w.node.addr (changed bytes at mask)) (damage_refused bytes at mask w.node.addr h l a b)

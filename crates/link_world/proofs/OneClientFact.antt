@@ -133,10 +133,10 @@ module _ (m : AppSpec) (G : ℕ → Side → Connection → List Sent → Type 0
     pub quiet : segment_of m o.connection o.step ≡ None → is_live o.connection.state ≡ true → G k side o.connection w.sent
     pub quiet_last : segment_of m o.connection o.step ≡ None → is_live o.connection.state ≡ false → G k (older side o.connection) closed w.sent
     pub says : (s : PlainSegment) → segment_of m o.connection o.step ≡ Some s → is_live o.connection.state ≡ true → (tick id : ℕ) → G k side o.connection (w.sent ++ entry (to k) side tick id (model (is_again o.step) s) ∷ [])
-    pub says_last : (s : PlainSegment) → segment_of m o.connection o.step ≡ Some s → is_live o.connection.state ≡ false → (tick id : ℕ) → G k (older side o.connection) closed (w.sent ++ entry (to k) (older side o.connection) tick id (model (is_again o.step) s) ∷ [])
+    pub sends_last : (s : PlainSegment) → segment_of m o.connection o.step ≡ Some s → is_live o.connection.state ≡ false → (tick id : ℕ) → G k (older side o.connection) closed (w.sent ++ entry (to k) (older side o.connection) tick id (model (is_again o.step) s) ∷ [])
 
-  abbrev said_by : Outcome → Option OutputModel
-  said_by o = output_model_of (segment_of m o.connection o.step) (is_again o.step)
+  abbrev sent_text_by : Outcome → Option OutputModel
+  sent_text_by o = output_model_of (segment_of m o.connection o.step) (is_again o.step)
 
   module _ (w : World) (i : ℕ) (old : Connection) (o : Outcome) (g : Framed w) (at : slice_get w.node.connections i ≡ Some old) (live : is_live old.state ≡ true) (peer : o.connection.sockets ≡ old.sockets)
       (steps : (k : ℕ) (side : Side) → slice_get w.sides k ≡ Some side → client_sockets side ≡ old.sockets → G k side old w.sent → Steps w o k side) where
@@ -151,7 +151,7 @@ module _ (m : AppSpec) (G : ℕ → Side → Connection → List Sent → Type 0
     before_step : (k : ℕ) (side : Side) → slice_get w.sides k ≡ Some side → client_sockets side ≡ old.sockets → G k side old w.sent
     before_step k side x q = subst (λ z. G k side z w.sent) (serving_is table (client_sockets side) i old g.single at (serves_yes (client_sockets side) old live (sym q))) (g.each k side x)
 
-    effect_goes_on : is_live o.connection.state ≡ true → Effect w old.sockets (record { table = set table i o.connection; gone = None; output = said_by o })
+    effect_goes_on : is_live o.connection.state ≡ true → Effect w old.sockets (record { table = set table i o.connection; gone = None; output = sent_text_by o })
     effect_goes_on l = record {
       single = single_set table g.single i old at o.connection owns_step;
       each = λ k side x. both_ways (same_sockets (client_sockets side) old.sockets)
@@ -171,7 +171,7 @@ module _ (m : AppSpec) (G : ℕ → Side → Connection → List Sent → Type 0
           record { quiet = λ z. kept; aside = λ z. kept; says = λ s y z. absurd (apart (client_sockets side) old.sockets e z) });
     }
 
-    effect_ends : is_live o.connection.state ≡ false → Effect w old.sockets (record { table = set table i o.connection; gone = Some o.connection; output = said_by o })
+    effect_ends : is_live o.connection.state ≡ false → Effect w old.sockets (record { table = set table i o.connection; gone = Some o.connection; output = sent_text_by o })
     effect_ends l = record {
       single = single_set table g.single i old at o.connection owns_step;
       each = λ k side x. both_ways (same_sockets (client_sockets side) old.sockets)
@@ -184,7 +184,7 @@ module _ (m : AppSpec) (G : ℕ → Side → Connection → List Sent → Type 0
             aside = λ n. absurd (n q);
             says = λ s y z tick id. subst (λ u. G k u (serving (client_sockets side) (set table i o.connection)) (w.sent ++ entry (to k) u tick id s ∷ [])) (sym now)
                 (subst (λ c'. G k (older side o.connection) c' (w.sent ++ entry (to k) (older side o.connection) tick id s ∷ [])) (sym after)
-                (speech_is (λ s'. G k (older side o.connection) closed (w.sent ++ entry (to k) (older side o.connection) tick id s' ∷ [])) (segment_of m o.connection o.step) (is_again o.step) (λ s' e'. st.says_last s' e' l tick id) s y));
+                (speech_is (λ s'. G k (older side o.connection) closed (w.sent ++ entry (to k) (older side o.connection) tick id s' ∷ [])) (segment_of m o.connection o.step) (is_again o.step) (λ s' e'. st.sends_last s' e' l tick id) s y));
           })
           (λ e. let n : same_sockets old.sockets (client_sockets side) ≡ false = flip (client_sockets side) old.sockets e in
           let after : serving (client_sockets side) (set table i o.connection) ≡ serving (client_sockets side) table =
@@ -194,11 +194,11 @@ module _ (m : AppSpec) (G : ℕ → Side → Connection → List Sent → Type 0
           record { quiet = λ z. kept; aside = λ z. kept; says = λ s y z. absurd (apart (client_sockets side) old.sockets e z) });
     }
 
-    effect_step : Effect w old.sockets (record { table = set table i o.connection; gone = gone_by old o.connection; output = said_by o })
+    effect_step : Effect w old.sockets (record { table = set table i o.connection; gone = gone_by old o.connection; output = sent_text_by o })
     effect_step =
         both_ways (is_live o.connection.state)
-        (λ l. subst (λ x. Effect w old.sockets (record { table = set table i o.connection; gone = x; output = said_by o })) (sym (gone_is (is_live old.state) (is_live o.connection.state) true live l o.connection)) (effect_goes_on l))
-        (λ l. subst (λ x. Effect w old.sockets (record { table = set table i o.connection; gone = x; output = said_by o })) (sym (gone_is (is_live old.state) (is_live o.connection.state) false live l o.connection)) (effect_ends l))
+        (λ l. subst (λ x. Effect w old.sockets (record { table = set table i o.connection; gone = x; output = sent_text_by o })) (sym (gone_is (is_live old.state) (is_live o.connection.state) true live l o.connection)) (effect_goes_on l))
+        (λ l. subst (λ x. Effect w old.sockets (record { table = set table i o.connection; gone = x; output = sent_text_by o })) (sym (gone_is (is_live old.state) (is_live o.connection.state) false live l o.connection)) (effect_ends l))
 
   -- nothing changes in the table
   effect_none : (w : World) (peer : Sockets) (output : Option OutputModel) → Framed w → ((x : OutputModel) → output ≡ Some x → (has_syn x.segment.flags ≡ false) × (has_fin x.segment.flags ≡ false) × (x.segment.text ≡ []) × (has_rst x.segment.flags ≡ true) × (x.again ≡ false)) →
@@ -350,7 +350,7 @@ module _ (m : AppSpec) (G : ℕ → Side → Connection → List Sent → Type 0
       (clients : OnClients) where
     -- a connection in a slot took a step
     happened_reacts : (n : AbstractNode) (event : Event) (slot : ℕ) (old : Connection) (o : Outcome) → o.connection.sockets ≡ old.sockets →
-        Reaction (happened m n event slot old o) old.sockets (record { table = set n.connections slot o.connection; gone = gone_by old o.connection; output = said_by o })
+        Reaction (happened m n event slot old o) old.sockets (record { table = set n.connections slot o.connection; gone = gone_by old o.connection; output = sent_text_by o })
     unfolding happened
     happened_reacts n event slot old o p = record { table = refl; gone = refl; sends = reply_sends (segment_of m o.connection o.step) o.connection.sockets old.sockets _ (is_again o.step) p }
 

@@ -1,17 +1,17 @@
 -- One segment, and what is acknowledged, beside Prefix and whole and Same bytes.
-use Rattle.link_world.proofs.Prelude.{All, ◌≡◌, ℕ, ◌+◌, ◌<◌, ◌≤◌, Bool, true, false, not, ◌&&◌, inl, inr, List, [], ◌∷◌, ◌++◌, length, drop, refl, sym, ap, ◌∙◌, subst, arith, Option, Some, None, slice_get, eqb, ltb, length-append, length-take, if◌then◌else◌, wrap, Addr, PlainSegment, has_syn, has_fin, has_rst, has_ack, Snapshot, AppSpec, Pages, IsSnapshot, IsNow, IsU32, Now, State, Closed, SynRcvd, Established, CloseWait, FinWait1, FinWait2, Closing, TimeWait, LastAck, Sockets, Connection, closed, is_live, snd_una, occupies_sequence_space, is_plain_syn, is_again, syn_ack, Outcome, asked, accepted, is_acked, on_segment, on_tick, AbstractClient, ClientStep, has_closed, is_receiving, one_if, client_takes, client_opens, client_again, client_closes, client_aborts, advertises_window, ClientState, client_sockets, World, Side, Sent, PastConnection, becomes_opened, with_client, marked, is_clean, past_connection_of, era, Planned, IsPlan, initial_world, IsReached, IsReachedPlainly, IsInStep, OneSegment, server_side, and_true, eqb-eq, same_place, wrap_wrap, get_push, nothing_placed, not-true, older, newest, FitConn, FitOut, on_segment_fits, on_tick_fits, Safe, SafeState, IsDue, due, OutReported, segment_tells, tick_tells, Moves, asked_moves, segment_moves, tick_moves, DeliveredBytes, does, Act, HasBytes, IsSteady, asked_lens, on_segment_lens, on_tick_lens, stepped_fits, stepped_tells}
+use Rattle.link_world.proofs.Prelude.{All, ◌≡◌, ℕ, ◌+◌, ◌<◌, ◌≤◌, Bool, true, false, not, ◌&&◌, inl, inr, List, [], ◌∷◌, ◌++◌, length, drop, refl, sym, ap, ◌∙◌, subst, arith, Option, Some, None, slice_get, eqb, ltb, length-append, length-take, if◌then◌else◌, wrap, Addr, PlainSegment, has_syn, has_fin, has_rst, has_ack, Snapshot, AppSpec, Pages, IsSnapshot, IsNow, IsU32, Now, State, Closed, SynRcvd, Established, CloseWait, FinWait1, FinWait2, Closing, TimeWait, LastAck, Sockets, Connection, closed, is_live, snd_una, occupies_sequence_space, is_plain_syn, is_again, syn_ack, Outcome, asked, accepted, is_acked, on_segment, on_tick, AbstractClient, ClientStep, has_closed, is_receiving, one_if, client_takes, client_opens, client_again, client_closes, client_aborts, advertises_window, ClientState, client_sockets, World, Side, Sent, PastConnection, becomes_opened, with_client, marked, is_clean, past_connection_of, era, Planned, IsPlan, initial_world, IsReached, IsReachedPlainly, IsInStep, OneSegment, server_side, and_true, eqb-eq, same_place, wrap_wrap, get_push, nothing_placed, not-true, older, newest, FitConn, FitOut, on_segment_fits, on_tick_fits, Safe, SafeState, IsDue, due, OutReported, segment_reports, tick_reports, Moves, asked_moves, segment_moves, tick_moves, DeliveredBytes, does, Act, HasBytes, IsSteady, asked_lens, on_segment_lens, on_tick_lens, stepped_fits, stepped_reports}
 use Rattle.link_client.specs.declared.client_state.ClientState.TheVariants as Is
 use Rattle.link_world.proofs.Speaking.{Speaker}
-use Rattle.link_world.proofs.CleanClientInvariant.{seg, segment_in, from, to, ToGood, ClientSaid, NodeSaid, OpenedGood, HasOpened, Good, is_unasked, unopened}
-use Rattle.link_world.proofs.CleanClientInvariant.NodeSaid.{node_reset, node_syn, node_ack, node_text, node_fin}
-use Rattle.link_world.proofs.CleanClientInvariant.ClientSaid.{said_reset, said_syn, said_data}
+use Rattle.link_world.proofs.CleanClientInvariant.{seg, segment_in, from, to, ToGood, ClientSent, NodeSent, OpenedGood, HasOpened, Good, is_unasked, unopened}
+use Rattle.link_world.proofs.CleanClientInvariant.NodeSent.{node_reset, node_syn, node_ack, node_text, node_fin}
+use Rattle.link_world.proofs.CleanClientInvariant.ClientSent.{sent_reset, sent_syn, sent_data}
 use Rattle.link_world.proofs.Views.{era_now, first_live, first_dead}
 use Rattle.link_world.proofs.Counts.{count, Kind, Counted, Idles, Acks, client_counted, opens_idles, again_idles, closes_idles, aborts_idles, idles_quiet, same_becomes}
 use Rattle.link_world.proofs.Counts.Kind.{kept, took_text, took_open}
 use Rattle.link_world.proofs.Sides.{clean_before}
 use Rattle.link_world.proofs.Runs.{reached_plainly, reached_where, room_plainly, room_where}
 use Rattle.link_world.proofs.Room.{HasRoom}
-use Rattle.link_world.proofs.SaidBytes.{SaysBytesWhere, pages_say_bytes}
+use Rattle.link_world.proofs.SentBytes.{SendsBytesWhere, pages_send_bytes}
 use Rattle.link_world.proofs.Harmless.{Harmless}
 use Rattle.link_world.proofs.FitWorlds.{FitWorld}
 use Rattle.link_world.proofs.OneClientFact.{Framed, Steps, Refines, model, entry, does_framed}
@@ -92,9 +92,9 @@ kept_exact k client d history c sent (Some o) e n x = record {
   acks = λ j s z w r a. (let b = x.acks j s z w r a in record { at = b.at; low = (let y = b.low in omega (arith, y, n)); is = b.is });
 }
 
-said_acks : (k : ℕ) (d : AbstractClient) (history : List PastConnection) (c : Connection) (sent : List Sent) (opened : Option ℕ) (s : PlainSegment) → ExactOpen k d history c sent opened → s.ack ≡ d.expected → (o : ℕ) → opened ≡ Some o → Acked d (era history c o).iss s
-said_acks k d history c sent None s x a o q = absurd (cc)
-said_acks k d history c sent (Some p) s x a o q = subst (λ n. Acked d (era history c n).iss s) (let e : p ≡ o = cc in e) record { at = count d; low = omega arith; is = a ∙ x.expected }
+sent_acks : (k : ℕ) (d : AbstractClient) (history : List PastConnection) (c : Connection) (sent : List Sent) (opened : Option ℕ) (s : PlainSegment) → ExactOpen k d history c sent opened → s.ack ≡ d.expected → (o : ℕ) → opened ≡ Some o → Acked d (era history c o).iss s
+sent_acks k d history c sent None s x a o q = absurd (cc)
+sent_acks k d history c sent (Some p) s x a o q = subst (λ n. Acked d (era history c n).iss s) (let e : p ≡ o = cc in e) record { at = count d; low = omega arith; is = a ∙ x.expected }
 
 receiving_not_done : (st : ClientState) → is_receiving st ≡ true → has_closed st ≡ false
 receiving_not_done Is.Idle h = absurd (cc)
@@ -226,9 +226,9 @@ module _ (m : AppSpec) (ports : AtPorts m) where
               (λ x y. new_ends o.connection s (let z = (t.says s e l tick id).room l in omega (arith, z, r)) (h.safe l) (λ z. (h.output s e z).due_now));
           exact = push_aside k side o.connection w.sent (entry (to k) side tick id (model (is_again o.step) s)) (λ y. absurd (cc)) live;
         };
-        says_last = λ s e l tick id. record {
-          reported = t.says_last s e l tick id;
-          good = p.says_last s e l tick id;
+        sends_last = λ s e l tick id. record {
+          reported = t.sends_last s e l tick id;
+          good = p.sends_last s e l tick id;
           ends = λ r x. absurd (cc);
           exact = push_aside k (OneClientFact.older side o.connection) closed w.sent (entry (to k) (OneClientFact.older side o.connection) tick id (model (is_again o.step) s)) (λ y. absurd (cc)) dead;
         };
@@ -265,7 +265,7 @@ module _ (m : AppSpec) (ports : AtPorts m) where
       let o : Outcome = on_segment m old numbers (seg e) in
       let fo : FitOut o = on_segment_fits m steady old numbers (seg e) f n in
       let fit : FitConn (asked m now o).connection = stepped_fits m steady Any_low (λ p f. tt) now o is fo in
-      let h : OutReported m steady Any_low (λ p f. tt) old (asked m now o) = stepped_tells m steady Any_low (λ p f. tt) now old o is fo (segment_tells m steady Any_low (λ p f. tt) old numbers (seg e) (g.reported.safe lv)) in
+      let h : OutReported m steady Any_low (λ p f. tt) old (asked m now o) = stepped_reports m steady Any_low (λ p f. tt) now old o is fo (segment_reports m steady Any_low (λ p f. tt) old numbers (seg e) (g.reported.safe lv)) in
       steps_by w old (asked m now o) (not (has_rst (seg e).flags) && is_acked old (seg e)) k side lv g fit h (asked_moves m _ old now o (segment_moves m old numbers (seg e)))
       (RetransmissionInvariant.steps_by m steady w old (asked m now o) k side lv fit (asked_lens m now o (on_segment_lens m old numbers (seg e) g.reported.lens))
       (near_by _ old (asked m now o).connection (asked_moves m _ old now o (segment_moves m old numbers (seg e)))) h g.reported) (PrefixAndWhole.segment m ports w old numbers now k j side e lv f n is sent who fresh g.good)
@@ -277,7 +277,7 @@ module _ (m : AppSpec) (ports : AtPorts m) where
       let o : Outcome = on_tick m old numbers in
       let fo : FitOut o = on_tick_fits m steady old numbers f n in
       let fit : FitConn (asked m now o).connection = stepped_fits m steady Any_low (λ p f. tt) now o is fo in
-      let h : OutReported m steady Any_low (λ p f. tt) old (asked m now o) = stepped_tells m steady Any_low (λ p f. tt) now old o is fo (tick_tells m steady Any_low (λ p f. tt) old numbers (g.reported.safe lv)) in
+      let h : OutReported m steady Any_low (λ p f. tt) old (asked m now o) = stepped_reports m steady Any_low (λ p f. tt) now old o is fo (tick_reports m steady Any_low (λ p f. tt) old numbers (g.reported.safe lv)) in
       steps_by w old (asked m now o) false k side lv g fit h (asked_moves m false old now o (tick_moves m old numbers))
       (RetransmissionInvariant.steps_by m steady w old (asked m now o) k side lv fit (asked_lens m now o (on_tick_lens m old numbers g.reported.lens))
       (near_by _ old (asked m now o).connection (asked_moves m false old now o (tick_moves m old numbers))) h g.reported) (PrefixAndWhole.tick m ports w old numbers now k side lv f n is g.good) (λ r cl p q a. absurd (cc))
@@ -295,7 +295,7 @@ module _ (m : AppSpec) (ports : AtPorts m) where
       record {
         reported = t;
         good = PrefixAndWhole.birth m ports w iss sockets k j side e own sent who fresh plain fit g.good tick id;
-        ends = λ r. push_ends k side c w.sent new (λ l i f x wf q pl. absurd (let z : false ≡ true = (g.reported.tells i f x wf pl q).0 in cc))
+        ends = λ r. push_ends k side c w.sent new (λ l i f x wf q pl. absurd (let z : false ≡ true = (g.reported.reported_as i f x wf pl q).0 in cc))
             (λ l x. new_ends c (syn_ack c) (omega arith) (t.safe refl) (λ y. record { len = omega arith; seq = refl; alike = Rattle.uip_node.proofs.Outstanding.alike_refl (syn_ack c) }));
         exact = push_aside k side c w.sent new (λ y. absurd (cc))
             (λ r cl. (let y = PrefixAndWhole.born_by m ports side e ((g.good cl).of_client j e sent who).output (PrefixAndWhole.plain_is m ports (seg e) plain) in
@@ -326,20 +326,20 @@ module _ (m : AppSpec) (ports : AtPorts m) where
       }
 
   -- a client that opens
-  syn_seq : (speaker : Speaker) (client : AbstractClient) (P : Type 0) (iss : ℕ) (captures : List Snapshot) (s : PlainSegment) → has_rst s.flags ≡ false → has_syn s.flags ≡ true → NodeSaid speaker client P iss captures s → s.seq ≡ wrap iss
+  syn_seq : (speaker : Speaker) (client : AbstractClient) (P : Type 0) (iss : ℕ) (captures : List Snapshot) (s : PlainSegment) → has_rst s.flags ≡ false → has_syn s.flags ≡ true → NodeSent speaker client P iss captures s → s.seq ≡ wrap iss
   syn_seq speaker client P iss captures s nr sy (node_reset r) = absurd (cc)
   syn_seq speaker client P iss captures s nr sy (node_syn r n) = n.seq
   syn_seq speaker client P iss captures s nr sy (node_ack r n) = absurd (let z : has_syn s.flags ≡ false = n.no_syn in cc)
   syn_seq speaker client P iss captures s nr sy (node_text r p n) = absurd (let z : has_syn s.flags ≡ false = n.no_syn in cc)
   syn_seq speaker client P iss captures s nr sy (node_fin r p n) = absurd (let z : has_syn s.flags ≡ false = n.no_syn in cc)
 
-  never_acked : (client : AbstractClient) (at_epoch : ℕ) (s : PlainSegment) → ClientSaid client None at_epoch s → has_rst s.flags ≡ false → has_ack s.flags ≡ true → ⊥
-  never_acked client at_epoch s (said_reset r) n a = absurd (cc)
-  never_acked client at_epoch s (said_syn y) n a = absurd (let z : has_ack s.flags ≡ false = y.no_ack in cc)
-  never_acked client at_epoch s (said_data d) n a = absurd (let z : false ≡ true = d.opened_is in cc)
+  never_acked : (client : AbstractClient) (at_epoch : ℕ) (s : PlainSegment) → ClientSent client None at_epoch s → has_rst s.flags ≡ false → has_ack s.flags ≡ true → ⊥
+  never_acked client at_epoch s (sent_reset r) n a = absurd (cc)
+  never_acked client at_epoch s (sent_syn y) n a = absurd (let z : has_ack s.flags ≡ false = y.no_ack in cc)
+  never_acked client at_epoch s (sent_data d) n a = absurd (let z : false ≡ true = d.opened_is in cc)
 
   open_exact : (speaker : Speaker) (k : ℕ) (client d : AbstractClient) (history : List PastConnection) (c : Connection) (sent : List Sent) (s : PlainSegment) (P : Type 0) → is_live c.state ≡ true → Good speaker k client None history c sent →
-      has_rst s.flags ≡ false → has_syn s.flags ≡ true → NodeSaid speaker client P (era history c (length history)).iss (era history c (length history)).snapshots s → d.received ≡ client.received → d.expected ≡ wrap (s.seq + 1) → has_closed d.state ≡ false →
+      has_rst s.flags ≡ false → has_syn s.flags ≡ true → NodeSent speaker client P (era history c (length history)).iss (era history c (length history)).snapshots s → d.received ≡ client.received → d.expected ≡ wrap (s.seq + 1) → has_closed d.state ≡ false →
       Exact k d history c (length history) sent
   open_exact speaker k client d history c sent s P l g nr sy output r e n =
       let empty : length d.received ≡ 0 = ap (λ (x : List ℕ). length x) (r ∙ g.opened_good.nothing) in
@@ -368,7 +368,7 @@ module _ (m : AppSpec) (ports : AtPorts m) where
   kind_exact speaker k client d history c sent (Some o) e (took_open st nr sy r x n) fresh f en t g y = absurd (let h : is_unasked client.state ≡ false = g.opened_good.asked in let z : is_unasked client.state ≡ true = ap is_unasked st in cc)
   kind_exact speaker k client d history c sent None e (took_open st nr sy r x n) fresh f en t g y =
       let l : is_live c.state ≡ true = t.incarnations nr fresh in
-      let o : Exact k d history c (length history) sent = open_exact speaker k client d history c sent (seg e) (None ≡ Some e.epoch) l g nr sy (subst (λ z. NodeSaid speaker client (None ≡ Some e.epoch) (era history c z).iss (era history c z).snapshots (seg e)) fresh t.output) r x n in
+      let o : Exact k d history c (length history) sent = open_exact speaker k client d history c sent (seg e) (None ≡ Some e.epoch) l g nr sy (subst (λ z. NodeSent speaker client (None ≡ Some e.epoch) (era history c z).iss (era history c z).snapshots (seg e)) fresh t.output) r x n in
       exact_either (becomes_opened client.state d.state) o
     where
       exact_either : (b : Bool) → Exact k d history c (length history) sent → ExactOpen k d history c sent (if b then Some (length history) else None)
@@ -392,7 +392,7 @@ module _ (m : AppSpec) (ports : AtPorts m) where
           good = p.says s e tick;
           ends = λ r. push_ends k (with_client base t.client) c w.sent (entry (from k) (with_client base t.client) tick 0 (model false s)) (g.ends (room_before w.sent (entry (from k) (with_client base t.client) tick 0 (model false s)) r)) (λ l z. absurd (cc));
           exact = λ r cl. push_exact k t.client base.history c w.sent (entry (from k) (with_client base t.client) tick 0 (model false s)) (with_client base t.client).opened (x (room_before w.sent (entry (from k) (with_client base t.client) tick 0 (model false s)) r) cl)
-              (λ o q f n h. said_acks k t.client base.history c w.sent (with_client base t.client).opened s (x (room_before w.sent (entry (from k) (with_client base t.client) tick 0 (model false s)) r) cl) (a s e n h) o q);
+              (λ o q f n h. sent_acks k t.client base.history c w.sent (with_client base t.client).opened s (x (room_before w.sent (entry (from k) (with_client base t.client) tick 0 (model false s)) r) cl) (a s e n h) o q);
         };
       }
 
@@ -466,10 +466,10 @@ module _ (m : AppSpec) (ports : AtPorts m) where
       IsInStep w (Rattle.std.proofs.Common.suc k) side.client (server_side w side) (era side.history (server_side w side) o).iss
   in_step_plainly w r = in_step_by w (reached_plainly m steady ExactWorld act_exact opening_exact w r) (room_plainly m w r)
 
-  pub in_step_where : (pages : Pages) (H : Connection → Type 0) → (HasBytes pages → SaysBytesWhere m H) → (w : World) → IsReached m pages w → (k : ℕ) (side : Side) → slice_get w.sides k ≡ Some side → is_clean side ≡ true → (o : ℕ) → side.opened ≡ Some o →
+  pub in_step_where : (pages : Pages) (H : Connection → Type 0) → (HasBytes pages → SendsBytesWhere m H) → (w : World) → IsReached m pages w → (k : ℕ) (side : Side) → slice_get w.sides k ≡ Some side → is_clean side ≡ true → (o : ℕ) → side.opened ≡ Some o →
       IsInStep w (Rattle.std.proofs.Common.suc k) side.client (server_side w side) (era side.history (server_side w side) o).iss
   in_step_where pages H bytes w r = in_step_by w (reached_where m pages steady H bytes ExactWorld act_exact opening_exact w r) (room_where m pages steady H bytes w r)
 
 pub one_segment : OneSegment
 one_segment m pages lawful w r k side x clean o e =
-    in_step_where m (everywhere m pages lawful) pages DeliveredBytes (pages_say_bytes m pages lawful) w r k side x clean o e
+    in_step_where m (everywhere m pages lawful) pages DeliveredBytes (pages_send_bytes m pages lawful) w r k side x clean o e

@@ -4,12 +4,12 @@ use Rattle.link_world.proofs.Speaking.{Speaker, HasOutputModel, page_by, paged, 
 use Rattle.link_world.proofs.Setups.{SameSetup, takes_setup, opens_setup, again_setup, closes_setup, aborts_setup}
 use Rattle.link_world.proofs.FitWorlds.{FitWorld}
 use Rattle.link_world.proofs.Harmless.{Harmless}
-use Rattle.link_world.proofs.CleanClientInvariant.{is_some, seg, from, to, spoken, ClientSaid, IsSyn, SentGood, StepGood, FromGood, ToGood, OpenedGood, Good, is_early}
-use Rattle.link_world.proofs.CleanClientInvariant.NodeSaid.{node_reset}
-use Rattle.link_world.proofs.CleanClientInvariant.ClientSaid.{said_reset, said_syn, said_data}
+use Rattle.link_world.proofs.CleanClientInvariant.{is_some, seg, from, to, spoken, ClientSent, IsSyn, SentGood, StepGood, FromGood, ToGood, OpenedGood, Good, is_early}
+use Rattle.link_world.proofs.CleanClientInvariant.NodeSent.{node_reset}
+use Rattle.link_world.proofs.CleanClientInvariant.ClientSent.{sent_reset, sent_syn, sent_data}
 use Rattle.link_world.proofs.Later.{node_later}
 use Rattle.link_world.proofs.Views.{era_now, view_live, view_dead, view_born, view_push, view_client}
-use Rattle.link_world.proofs.Steps.{asked_good, on_segment_good, on_tick_good, says_syn}
+use Rattle.link_world.proofs.Steps.{asked_good, on_segment_good, on_tick_good, sends_syn}
 use Rattle.link_world.proofs.Clients.{Took_it, client_takes_good, opens_by_good, again_by_good, closes_by_good, aborts_by_good, window_good}
 use Rattle.link_world.proofs.Runs.{reached}
 use Rattle.link_world.proofs.Sides.{clean_before}
@@ -95,7 +95,7 @@ module _ (m : AppSpec) (ports : AtPorts m) where
           λ f. absurd (cc),
           λ t. entry_good m (speaker_of side) (laws_of side) k side.client side.opened side.history o.connection o.connection w.sent (entry (to k) side tick id (model (is_again o.step) s)) (live l cl) refl (λ x. refl) ((st cl).output s e),
         ));
-        says_last = λ s e l tick id. push k (older side o.connection) closed w.sent (entry (to k) (older side o.connection) tick id (model (is_again o.step) s)) last (λ cl. (
+        sends_last = λ s e l tick id. push k (older side o.connection) closed w.sent (entry (to k) (older side o.connection) tick id (model (is_again o.step) s)) last (λ cl. (
           λ f. absurd (cc),
           λ t. entry_good m (speaker_of side) (laws_of side) k side.client side.opened (side.history ++ past_connection_of o.connection ∷ []) closed o.connection w.sent (entry (to k) (older side o.connection) tick id (model (is_again o.step) s)) (last cl) refl (λ x. absurd (cc)) ((st cl).output s e),
         ));
@@ -117,10 +117,10 @@ module _ (m : AppSpec) (ports : AtPorts m) where
   pub plain_is : (s : PlainSegment) → is_plain_syn s ≡ true → s.flags ≡ SYN
   plain_is s h = eqb-true s.flags SYN h
 
-  pub born_by : (side : Side) (e : Sent) → ClientSaid side.client side.opened e.epoch (seg e) → (seg e).flags ≡ SYN → IsSyn side.client side.opened e.epoch (seg e)
-  born_by side e (said_reset r) sy = absurd (let z : has_rst (seg e).flags ≡ false = ap has_rst sy in cc)
-  born_by side e (said_syn y) sy = y
-  born_by side e (said_data d) sy = absurd (let z : has_syn (seg e).flags ≡ true = ap has_syn sy in let y : has_syn (seg e).flags ≡ false = d.no_syn in cc)
+  pub born_by : (side : Side) (e : Sent) → ClientSent side.client side.opened e.epoch (seg e) → (seg e).flags ≡ SYN → IsSyn side.client side.opened e.epoch (seg e)
+  born_by side e (sent_reset r) sy = absurd (let z : has_rst (seg e).flags ≡ false = ap has_rst sy in cc)
+  born_by side e (sent_syn y) sy = y
+  born_by side e (sent_data d) sy = absurd (let z : has_syn (seg e).flags ≡ true = ap has_syn sy in let y : has_syn (seg e).flags ≡ false = d.no_syn in cc)
 
   pub birth : (w : World) (iss : ℕ) (sockets : Sockets) (k j : ℕ) (side : Side) (e : Sent) → client_sockets side ≡ sockets → slice_get w.sent j ≡ Some e → e.who ≡ from k → (is_clean side ≡ true → e.epoch ≡ length side.history) → is_plain_syn (seg e) ≡ true → FitConn (accepted iss sockets (seg e)) → G k side closed w.sent →
       (tick id : ℕ) → G k side (accepted iss sockets (seg e)) (w.sent ++ entry (to k) side tick id (model false (syn_ack (accepted iss sockets (seg e)))) ∷ [])
@@ -130,7 +130,7 @@ module _ (m : AppSpec) (ports : AtPorts m) where
       view_born m (speaker_of side) (laws_of side) k side.client side.opened side.history closed c w.sent (g cl) refl refl
       record { irs = y.seq; state = record { port = ap (λ (x : Sockets). (speaker_of side).at x.own_port.0) (sym own) ∙ ports.there side.client.setup.server_port.0; taken = refl; len = refl; snapshots = refl; acked = refl; input = refl } } (λ o p. subst (λ n. n ≤ o) (fresh cl) (y.before o p))) in
       push k side c w.sent (entry (to k) side tick id (model false (syn_ack c))) good
-      (λ cl. (λ f. absurd (cc), λ t. entry_good m (speaker_of side) (laws_of side) k side.client side.opened side.history c c w.sent (entry (to k) side tick id (model false (syn_ack c))) (good cl) refl (λ x. refl) (says_syn m (speaker_of side) (laws_of side) side.opened side.client c refl refl)))
+      (λ cl. (λ f. absurd (cc), λ t. entry_good m (speaker_of side) (laws_of side) k side.client side.opened side.history c c w.sent (entry (to k) side tick id (model false (syn_ack c))) (good cl) refl (λ x. refl) (sends_syn m (speaker_of side) (laws_of side) side.opened side.client c refl refl)))
 
   took_by : (w : World) (k : ℕ) (base : Side) (c : Connection) (step : ClientStep) (fit : (o : ℕ) → All IsSnapshot (era base.history c o).snapshots) → SameSetup base.client step → (is_clean base ≡ true → Good (speaker_of base) k base.client base.opened base.history c w.sent) →
       (is_clean base ≡ true → Took_it m (speaker_of base) (laws_of base) base.history c fit base.client base.opened step) → Refines m G other reset evict mark w k base c step
@@ -142,7 +142,7 @@ module _ (m : AppSpec) (ports : AtPorts m) where
       record {
         quiet = λ n. good;
         says = λ s e tick. push k (with_client base step.client) c w.sent (entry (from k) (with_client base step.client) tick 0 (model false s)) good
-            (λ cl. (λ f. (let x = t cl in record { time = omega arith; output = subst (λ o. ClientSaid step.client o (length base.history) s) x.good.next_is (x.good.output s e) }), λ z. absurd (cc)));
+            (λ cl. (λ f. (let x = t cl in record { time = omega arith; output = subst (λ o. ClientSent step.client o (length base.history) s) x.good.next_is (x.good.output s e) }), λ z. absurd (cc)));
       }
 
   pub took : (w : World) (k j : ℕ) (side : Side) (c : Connection) (number : ℕ) (e : Sent) → ((o : ℕ) → All IsSnapshot (era side.history c o).snapshots) → slice_get w.sent j ≡ Some e → e.who ≡ to k → G k side c w.sent →

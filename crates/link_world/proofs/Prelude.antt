@@ -9,7 +9,7 @@ pub use Rattle.link_client.specs.declared.fin_at.FinAt.{FinAt}
 pub use Rattle.link_client.specs.declared.setup.Setup.{Setup}
 pub use Rattle.link_schedule.specs.Numbers.{◌>>=◌}
 pub use Rattle.link_schedule.specs.declared.event.Event.TheVariants.{Aborts, Again, Closes, Damage, Give, Half, Lose, Opens, Ping, Reverse, Round, Tick, Twice, Window}
-pub use Rattle.link_world.specs.Prelude.{AcknowledgedLater, AgainExactly, AgainExactlyPlainly, AsksRequest, BadLine, BytesAreRead, CapturesFit, CleanParts, Content, CountsBy, DamageIsLoss, DamageIsLossThere, EpochsAreFew, HasOneEpoch, HasTaken, HasTextNumbers, HonestLink, IsAct, IsExpired, IsInStep, IsLater, IsLoss, IsNumberOf, IsOfNode, IsPlainAct, IsPlan, IsPlanned, IsReached, IsReachedPlainly, IsRead, IsSchedulePlayed, IsSentBy, IsServed, IsServedWhole, IsWholeDatagram, LinesAreActs, MarkIsLow, MarksRepeats, NoneIsEmpty, OfEcho, OfLine, OfPing, OfSegment, OneConnection, OneRefusal, OneSegment, PassesBy, PastConnection, Planned, PrefixAndWhole, RepeatsSameBytes, SameBytes, SameBytesPlainly, SaysPage, SendsAgain, Sent, SentToClients, Side, SidesAsPlanned, TextNumbers, TextsAreShort, World, acts, acts_of, addressed, becomes_opened, bytes_by, captures_of, changed, client_acts, client_bytes, client_sockets, client_stepped, delivers, does, epoch, epoch_of, era, fault_of, fresh_side, handed, handles_all, hands_over, received_by, receives_datagram, initial_world, is_clean, is_idle, is_refused, mark_after, marked, may_wait, named_fault, needs, node_bytes, node_handles, node_stepped, numbered, page_of, past_connection_of, past_mark, planned_of, plays, plays_from, plays_line, posts, posts_of_client, posts_reply, retires, retires_in, rise, runs, sent_bytes, server_of, server_side, started, state_at, with_client, with_side}
+pub use Rattle.link_world.specs.Prelude.{AcknowledgedLater, AgainExactly, AgainExactlyPlainly, AsksRequest, BadLine, BytesAreRead, CapturesFit, CleanParts, Content, CountsBy, DamageIsLoss, DamageIsLossThere, EpochsAreFew, HasOneEpoch, HasTaken, HasTextNumbers, HonestLink, IsAct, IsExpired, IsInStep, IsLater, IsLoss, IsNumberOf, IsOfNode, IsPlainAct, IsPlan, IsPlanned, IsReached, IsReachedPlainly, IsRead, IsSchedulePlayed, IsSentBy, IsServed, IsServedWhole, IsWholeDatagram, LinesAreActs, MarkIsLow, MarksRepeats, NoneIsEmpty, OfEcho, OfLine, OfPing, OfSegment, OneConnection, OneRefusal, OneSegment, PassesBy, PastConnection, Planned, PrefixAndWhole, RepeatsSameBytes, SameBytes, SameBytesPlainly, SendsPage, SendsAgain, Sent, SentToClients, Side, SidesAsPlanned, TextNumbers, TextsAreShort, World, acts, acts_of, addressed, becomes_opened, bytes_by, captures_of, changed, client_acts, client_bytes, client_sockets, client_stepped, delivers, does, epoch, epoch_of, era, fault_of, fresh_side, handed, handles_all, hands_over, received_by, receives_datagram, initial_world, is_clean, is_idle, is_refused, mark_after, marked, may_wait, named_fault, needs, node_bytes, node_handles, node_stepped, numbered, page_of, past_connection_of, past_mark, planned_of, plays, plays_from, plays_line, posts, posts_of_client, posts_reply, retires, retires_in, rise, runs, sent_bytes, server_of, server_side, started, state_at, with_client, with_side}
 unfoldable pub use Rattle.link_world.specs.Prelude.{ping_from}
 pub use Rattle.link_world.specs.declared.act.Act.{Act}
 pub use Rattle.link_world.specs.declared.step_fault.StepFault.{StepFault}
@@ -54,16 +54,16 @@ pub use Rattle.uip_node.proofs.DatagramsBack.{Each, IsPlace, bytes_low, datagram
 pub use Rattle.uip_node.proofs.DeliveredBytes.{DeliveredBytes, asked_bytes, on_segment_bytes, on_tick_bytes, page_bytes}
 pub use Rattle.uip_node.proofs.FitNodes.{FitConns, FitNode, FitStep, arrives_fits, closed_fits, event_fits, happened_fits, index_fits, node_snapshot, position_in, serving_fits, slot_inside, still_fits}
 pub use Rattle.uip_node.proofs.Fits.{FitConn, FitOut, accepted_fits, all_cons, all_nil, asked_fits, on_segment_fits, on_tick_fits, snapshot_fits}
-pub use Rattle.uip_node.proofs.Handed.{Received, hears_is}
+pub use Rattle.uip_node.proofs.Handed.{Received, receives_is}
 pub use Rattle.uip_node.proofs.Acknowledged.{Moves, asked_moves, segment_moves, tick_moves}
 pub use Rattle.uip_node.proofs.Peers.{asked_keeps, on_segment_keeps, on_tick_closed, on_tick_keeps}
 pub use Rattle.uip_node.proofs.Prelude.{ACK, Abort, Addr, Beat, Close, CloseWait, Closed, Closing, Established, FIN, FinWait1, FinWait2, Icmp, IcmpFate, IpHead, LastAck, Nothing, Now, OWN_MSS, PSH, Proto, RST, Row, SYN, Send, State, Step, SynRcvd, TimeWait, Want, bytes_eq-Decides, common_steps, echo_fate, echo_reply, option_map_or, option_or, position_from-zero}
 unfoldable pub use Rattle.uip_node.proofs.Prelude.{fin_acked, fin_waits, for_no_connection, happened, idles, in_established, on_segment, opens_in, peer_closes, rests_on, stays_established, ticks_established}
 pub use Rattle.uip_node.proofs.SocketPairs.{apart, flip, is_same, not_peer, same_is, same_self, serves_dead, serves_not, serves_yes}
-pub use Rattle.uip_node.proofs.SoundSegments.{IsSoundSegment, Lens, accepted_lens, asked_lens, closed_lens, none_sound, on_segment_lens, on_tick_lens, said_sound}
+pub use Rattle.uip_node.proofs.SoundSegments.{IsSoundSegment, Lens, accepted_lens, asked_lens, closed_lens, none_sound, on_segment_lens, on_tick_lens, sent_sound}
 pub use Rattle.uip_node.proofs.Steadiness.{steady_of}
-pub use Rattle.uip_node.proofs.Stepped.{stepped_fits, stepped_tells}
-pub use Rattle.uip_node.proofs.Outstanding.{IsDue, Onto, OutReported, Safe, SafeState, StepReports, Still, Tells, alike_refl, alike_sym, alike_trans, due, segment_tells, tick_tells}
+pub use Rattle.uip_node.proofs.Stepped.{stepped_fits, stepped_reports}
+pub use Rattle.uip_node.proofs.Outstanding.{IsDue, Onto, OutReported, Safe, SafeState, StepReports, Still, ReportsRun, alike_refl, alike_sym, alike_trans, due, segment_reports, tick_reports}
 pub use Rattle.uip_node.specs.Prelude.{AbstractNode, Alike, Answer, AnswersIn, Arrived, Echo, EchoAsked, EchoReplied, Event, GoesOnBy, HasBytes, HistoryEntry, IcmpRefused, IpRefused, IsEvent, IsSlice, IsSteady, NoSlot, NodeStep, Overlong, Periodic, Reply, SendsBytes, Silent, Spoke, TcpReply, TcpRefused, arrives, arrives_at, by_head, by_proto, by_segment, connection_in, counters, datagram_to, event_of, gone_by, ident_of, initial_node, initial_number, opens, passes, periodic, raised_by, raised_by_answer, raises, refuses, remembers, run, serving, slot_for_syn, snapshot, step, tick, ticks_of, times}
 pub use Rattle.uip_wire.proofs.Folding.{one_byte}
 pub use Rattle.uip_wire.specs.Prelude.{address_at, checksum_of, word_at, wrap}

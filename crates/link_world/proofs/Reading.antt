@@ -38,8 +38,8 @@ node_reads addr side id s l g c e =
     arrives (to_node side id s) (datagram_back (to_node side id s) (to_node_place side id s l c) g) addr (address side.client.setup.server addr e)
 
 -- a client receives a segment of its server
-heard_is : (setup : Setup) (p : Sockets) (s : PlainSegment) → p ≡ server_of setup → received_by setup (Arrived p s) ≡ Some s
-heard_is setup p s e = ap (λ b. if b then Some s else None) (is_same p (server_of setup) e)
+received_is : (setup : Setup) (p : Sockets) (s : PlainSegment) → p ≡ server_of setup → received_by setup (Arrived p s) ≡ Some s
+received_is setup p s e = ap (λ b. if b then Some s else None) (is_same p (server_of setup) e)
 
 -- a client reads what the node sent to it
 client_reads : (addr : Addr) (side : Side) (id : ℕ) (s : PlainSegment) → IsAddr addr → id < 65536 → IsSoundSegment s → IsSoundClient side.client → side.client.setup.server ≡ addr →
@@ -47,7 +47,7 @@ client_reads : (addr : Addr) (side : Side) (id : ℕ) (s : PlainSegment) → IsA
 client_reads addr side id s a l g c e =
     let setup : Setup = side.client.setup in
     ap (received_by setup) (arrives (to_client addr side id s) (datagram_back (to_client addr side id s) (to_client_place addr side id s a l c) g) setup.addr refl)
-    ∙ heard_is setup (record { peer = addr; peer_port = setup.server_port; own_port = setup.port }) s (ap (λ x. record { peer = x; peer_port = setup.server_port; own_port = setup.port }) (sym e))
+    ∙ received_is setup (record { peer = addr; peer_port = setup.server_port; own_port = setup.port }) s (ap (λ x. record { peer = x; peer_port = setup.server_port; own_port = setup.port }) (sym e))
 
 -- the node reads a ping as one
 ping_reads : (source addr : Addr) → IsPingBack source addr → event_of addr (ping_from source addr) ≡ EchoAsked (ping_from source addr)

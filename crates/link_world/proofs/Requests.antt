@@ -1,13 +1,13 @@
 -- How much of a request the server has accepted, beside Prefix and whole.
 use Rattle.link_world.proofs.Prelude.{All, ◌≡◌, ℕ, ◌+◌, ◌<◌, ◌≤◌, Bool, true, false, inl, inr, List, [], ◌∷◌, ◌++◌, length, replicate, refl, sym, ap, ◌∙◌, subst, arith, Option, Some, None, slice_get, if◌then◌else◌, wrap, Addr, PlainSegment, has_syn, has_fin, has_rst, has_ack, AppSpec, Pages, IsPaged, IsSnapshot, IsNow, IsU32, Now, Sockets, Connection, closed, is_live, is_plain_syn, is_again, syn_ack, Outcome, asked, accepted, on_segment, on_tick, AbstractClient, ClientStep, one_if, fin_sent, own_first, client_takes, client_opens, client_again, client_closes, client_aborts, advertises_window, World, Side, Sent, PastConnection, becomes_opened, with_client, marked, is_clean, client_sockets, era, fresh_side, Planned, IsPlan, initial_world, serving, IsReached, steady_of, same_place, get_push, zero_or_more, older, newest, FitConn, get_map}
 use Rattle.link_world.proofs.Speaking.{paged}
-use Rattle.link_world.proofs.CleanClientInvariant.{seg, no_segment, is_early, from, to, ClientSaid, OpenedGood, Good, Steady, unopened}
-use Rattle.link_world.proofs.CleanClientInvariant.ClientSaid.{said_reset, said_syn, said_data}
+use Rattle.link_world.proofs.CleanClientInvariant.{seg, no_segment, is_early, from, to, ClientSent, OpenedGood, Good, Steady, unopened}
+use Rattle.link_world.proofs.CleanClientInvariant.ClientSent.{sent_reset, sent_syn, sent_data}
 use Rattle.link_world.proofs.Sides.{clean_before}
 use Rattle.link_world.proofs.Runs.{reached}
 use Rattle.link_world.proofs.OneClientFact.{Framed, Steps, Refines, model, entry, does_framed}
 use Rattle.link_world.proofs.OneClientFact
-use Rattle.link_world.proofs.Asking.{used, asked_bytes, EndsIn, AsksOn, client_asks, opens_asks, again_asks, closes_asks, aborts_asks, window_asks, asked_takes, some_place, segment_takes, tick_takes, says_taken}
+use Rattle.link_world.proofs.Asking.{used, asked_bytes, EndsIn, AsksOn, client_asks, opens_asks, again_asks, closes_asks, aborts_asks, window_asks, asked_takes, some_place, segment_takes, tick_takes, sends_taken}
 use Rattle.link_world.proofs.Asking
 use Rattle.link_world.proofs.PrefixAndWhole.{everywhere}
 use Rattle.link_world.proofs.PrefixAndWhole
@@ -70,10 +70,10 @@ one_small true = omega arith
 one_small false = omega arith
 
 -- a segment with SYN is not accepted: it is before every number that is expected
-not_syn : (client : AbstractClient) (opened : Option ℕ) (epoch taken : ℕ) (s : PlainSegment) → Steady client → ClientSaid client opened epoch s → has_rst s.flags ≡ false → taken ≤ used client → s.seq ≡ wrap (own_first client + 1 + taken) → has_syn s.flags ≡ false
-not_syn client opened epoch taken s st (said_reset r) nr h q = absurd (let z : true ≡ false = sym r ∙ nr in cc)
-not_syn client opened epoch taken s st (said_data d) nr h q = d.no_syn
-not_syn client opened epoch taken s st (said_syn y) nr h q =
+not_syn : (client : AbstractClient) (opened : Option ℕ) (epoch taken : ℕ) (s : PlainSegment) → Steady client → ClientSent client opened epoch s → has_rst s.flags ≡ false → taken ≤ used client → s.seq ≡ wrap (own_first client + 1 + taken) → has_syn s.flags ≡ false
+not_syn client opened epoch taken s st (sent_reset r) nr h q = absurd (let z : true ≡ false = sym r ∙ nr in cc)
+not_syn client opened epoch taken s st (sent_data d) nr h q = d.no_syn
+not_syn client opened epoch taken s st (sent_syn y) nr h q =
     let short = st.short in
     let fits = st.out_fits in
     let low = st.low in
@@ -137,17 +137,17 @@ module _ (m : AppSpec) (pages : Pages) (lawful : IsPaged m pages) where
           good = p.says x e l tick id;
           asked_by = λ cl. push_requested k side.client d w.sent new side.opened (live cl) (λ y. absurd (cc));
           acks = λ cl. push_acks k side.client (length side.history) d w.sent new (acked cl)
-              (λ y r. record { at = d.taken; low = omega arith; is = says_taken m pages lawful d o.step x e r ∙ ap (λ n. wrap (n + 1 + d.taken)) (t.row.peer ∙ (let y = (g.good cl).connection lv in y.irs)) });
+              (λ y r. record { at = d.taken; low = omega arith; is = sends_taken m pages lawful d o.step x e r ∙ ap (λ n. wrap (n + 1 + d.taken)) (t.row.peer ∙ (let y = (g.good cl).connection lv in y.irs)) });
         });
-        says_last = λ x e l tick id. (let new : Sent = entry (to k) (OneClientFact.older side d) tick id (model (is_again o.step) x) in record {
-          good = p.says_last x e l tick id;
+        sends_last = λ x e l tick id. (let new : Sent = entry (to k) (OneClientFact.older side d) tick id (model (is_again o.step) x) in record {
+          good = p.sends_last x e l tick id;
           asked_by = λ cl. push_requested k side.client closed w.sent new side.opened (dead cl) (λ y. absurd (cc));
           acks = λ cl x. absurd (cc);
         });
       }
 
   -- a segment of the client at its connection
-  enough_room : (client : AbstractClient) (opened : Option ℕ) (epoch k j : ℕ) (c d : Connection) (sent : List Sent) (e : Sent) → Steady client → ClientSaid client opened epoch (seg e) → c.irs ≡ own_first client → slice_get sent j ≡ Some e → e.who ≡ from k →
+  enough_room : (client : AbstractClient) (opened : Option ℕ) (epoch k j : ℕ) (c d : Connection) (sent : List Sent) (e : Sent) → Steady client → ClientSent client opened epoch (seg e) → c.irs ≡ own_first client → slice_get sent j ≡ Some e → e.who ≡ from k →
       Asking.Refines c d (seg e) → Requested k client c sent → Within client d
   enough_room client opened epoch k j c d sent e st output iss there who t r =
       let row = t.row in
@@ -237,10 +237,10 @@ module _ (m : AppSpec) (pages : Pages) (lawful : IsPaged m pages) where
   acks_go_on : (k : ℕ) (client d : AbstractClient) (epoch : ℕ) (c : Connection) (sent : List Sent) → own_first d ≡ own_first client → Acks k client epoch c sent → Acks k d epoch c sent
   acks_go_on k client d epoch c sent f g l j e x w q r a = (let t = g l j e x w q r a in record { at = t.at; low = t.low; is = t.is ∙ ap (λ n. wrap (n + 1 + t.at)) (sym f) })
 
-  never_asked : (client d : AbstractClient) (epoch : ℕ) (s : PlainSegment) → ClientSaid client None epoch s → EndsIn d s
-  never_asked client d epoch s (said_reset r) nr ns = absurd (let z : true ≡ false = sym r ∙ nr in cc)
-  never_asked client d epoch s (said_syn y) nr ns = absurd (let z : true ≡ false = sym y.syn ∙ ns in cc)
-  never_asked client d epoch s (said_data x) nr ns = absurd (let z : false ≡ true = x.opened_is in cc)
+  never_asked : (client d : AbstractClient) (epoch : ℕ) (s : PlainSegment) → ClientSent client None epoch s → EndsIn d s
+  never_asked client d epoch s (sent_reset r) nr ns = absurd (let z : true ≡ false = sym r ∙ nr in cc)
+  never_asked client d epoch s (sent_syn y) nr ns = absurd (let z : true ≡ false = sym y.syn ∙ ns in cc)
+  never_asked client d epoch s (sent_data x) nr ns = absurd (let z : false ≡ true = x.opened_is in cc)
 
   acked_low : (client : AbstractClient) (s : PlainSegment) (t : ClientStep) → AsksOn client s t → used client ≡ 0 → t.client.acked ≡ 0
   acked_low client s t a z = elim a.acked [ inl e ↦ omega (arith, e, z) | inr e ↦ (let y = e.3 in omega (arith, y, z)) ]
@@ -281,8 +281,8 @@ module _ (m : AppSpec) (pages : Pages) (lawful : IsPaged m pages) where
       }
 
   -- an acknowledgement of all that the client used: it was taken
-  heard_taken : (client : AbstractClient) (c : Connection) (s : PlainSegment) (t : ClientStep) → Steady client → AsksOn client s t → (has_rst s.flags ≡ false → has_ack s.flags ≡ true → Taken client c s) → client.acked ≤ c.taken → c.taken ≤ used client → t.client.acked ≤ c.taken
-  heard_taken client c s t st a reported low high =
+  received_taken : (client : AbstractClient) (c : Connection) (s : PlainSegment) (t : ClientStep) → Steady client → AsksOn client s t → (has_rst s.flags ≡ false → has_ack s.flags ≡ true → Taken client c s) → client.acked ≤ c.taken → c.taken ≤ used client → t.client.acked ≤ c.taken
+  received_taken client c s t st a reported low high =
       elim a.acked [
         | inl e ↦ omega (arith, e, low)
         | inr e ↦ (let y = reported e.0 e.1 in
@@ -303,7 +303,7 @@ module _ (m : AppSpec) (pages : Pages) (lawful : IsPaged m pages) where
       let a = client_asks side.client (seg e) in
       took_by w k (marked side number e) c (seg e) (client_takes side.client (seg e)) (mark k side c w.sent number e g) (PrefixAndWhole.took m (everywhere m pages lawful) w k j side c number e fit sent who g.good) a
       (λ cl l r. (let b = clean_before side number e cl in
-      heard_taken side.client c (seg e) (client_takes side.client (seg e)) (g.good b.0).steady a (λ n h. g.acks b.0 l j e sent who b.1 n h) r.low r.within.high))
+      received_taken side.client c (seg e) (client_takes side.client (seg e)) (g.good b.0).steady a (λ n h. g.acks b.0 l j e sent who b.1 n h) r.low r.within.high))
 
   own_by : (w : World) (k : ℕ) (side : Side) (c : Connection) (t : ClientStep) → G k side c w.sent → Asking.Asks side.client t → GoodTakes w k side c t → Refines m G other reset evict mark w k side c t
   own_by w k side c t g n p =

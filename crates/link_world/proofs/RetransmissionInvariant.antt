@@ -1,11 +1,11 @@
 -- Same bytes: a retransmission of what is outstanding is identical, and is marked.
-use Rattle.link_world.proofs.Prelude.{◌≡◌, ℕ, suc, ◌+◌, ◌*◌, length-append, ◌<◌, ◌≤◌, min, Bool, true, false, ◌⊎◌, inl, inr, List, [], ◌∷◌, ◌++◌, length, replicate, refl, sym, ap, ◌∙◌, subst, arith, Option, Some, None, slice_get, eqb, if◌then◌else◌, common_steps, wrap, Addr, OWN_MSS, PlainSegment, has_syn, has_fin, has_rst, AppSpec, Pages, Sockets, Connection, closed, is_live, segment_of, is_again, occupies_sequence_space, is_plain_syn, syn_ack, Outcome, asked, first_mss, accepted, on_segment, on_tick, State, Closed, SynRcvd, Established, CloseWait, FinWait1, FinWait2, Closing, TimeWait, LastAck, ClientStep, one_if, World, Side, Sent, Content, client_sockets, with_client, marked, is_clean, past_connection_of, OfSegment, OfPing, OfEcho, does, Act, serving, Alike, Planned, IsPlan, initial_world, IsReached, RepeatsSameBytes, MarksRepeats, SameBytes, SameBytesPlainly, AgainExactly, AgainExactlyPlainly, IsReachedPlainly, IsSteady, steady_of, choose, cut_length, zero_or_more, same_place, get_push, nothing_placed, only_some, older, newest, serving_free, none_serves, FitConn, FitOut, on_segment_fits, on_tick_fits, Safe, IsDue, Onto, SafeState, Still, Tells, StepReports, due, alike_trans, alike_sym, alike_refl, segment_tells, tick_tells, closed_fits, HasBytes, DeliveredBytes, stepped_fits, stepped_tells, Moves, asked_moves, segment_moves, tick_moves, Lens, closed_lens, accepted_lens, asked_lens, on_segment_lens, on_tick_lens}
+use Rattle.link_world.proofs.Prelude.{◌≡◌, ℕ, suc, ◌+◌, ◌*◌, length-append, ◌<◌, ◌≤◌, min, Bool, true, false, ◌⊎◌, inl, inr, List, [], ◌∷◌, ◌++◌, length, replicate, refl, sym, ap, ◌∙◌, subst, arith, Option, Some, None, slice_get, eqb, if◌then◌else◌, common_steps, wrap, Addr, OWN_MSS, PlainSegment, has_syn, has_fin, has_rst, AppSpec, Pages, Sockets, Connection, closed, is_live, segment_of, is_again, occupies_sequence_space, is_plain_syn, syn_ack, Outcome, asked, first_mss, accepted, on_segment, on_tick, State, Closed, SynRcvd, Established, CloseWait, FinWait1, FinWait2, Closing, TimeWait, LastAck, ClientStep, one_if, World, Side, Sent, Content, client_sockets, with_client, marked, is_clean, past_connection_of, OfSegment, OfPing, OfEcho, does, Act, serving, Alike, Planned, IsPlan, initial_world, IsReached, RepeatsSameBytes, MarksRepeats, SameBytes, SameBytesPlainly, AgainExactly, AgainExactlyPlainly, IsReachedPlainly, IsSteady, steady_of, choose, cut_length, zero_or_more, same_place, get_push, nothing_placed, only_some, older, newest, serving_free, none_serves, FitConn, FitOut, on_segment_fits, on_tick_fits, Safe, IsDue, Onto, SafeState, Still, ReportsRun, StepReports, due, alike_trans, alike_sym, alike_refl, segment_reports, tick_reports, closed_fits, HasBytes, DeliveredBytes, stepped_fits, stepped_reports, Moves, asked_moves, segment_moves, tick_moves, Lens, closed_lens, accepted_lens, asked_lens, on_segment_lens, on_tick_lens}
 use Rattle.link_world.proofs.CleanClientInvariant.{seg, segment_in, from, to}
 use Rattle.link_world.proofs.Views.{length_push}
 use Rattle.link_world.proofs.PrefixAndWhole.{opening_apart}
 use Rattle.link_world.proofs.Harmless.{Harmless}
 use Rattle.link_world.proofs.FitWorlds.{FitWorld}
-use Rattle.link_world.proofs.SaidBytes.{SaysBytesWhere, pages_say_bytes}
+use Rattle.link_world.proofs.SentBytes.{SendsBytesWhere, pages_send_bytes}
 use Rattle.link_world.proofs.Runs.{reached_plainly, reached_where, room_plainly, room_where}
 use Rattle.link_world.proofs.OneClientFact.{Framed, Steps, Refines, any_step, model, entry, does_framed}
 use Rattle.link_world.proofs.OneClientFact
@@ -89,7 +89,7 @@ module _ (m : AppSpec) (steady : IsSteady m) where
     pub safe : is_live c.state ≡ true → Safe m steady Any_low (λ p f. tt) c
     pub was_sent : is_live c.state ≡ true → 0 < c.len → WasSent k side c sent
     pub time : (j : ℕ) (e : Sent) → slice_get sent j ≡ Some e → e.who ≡ to k → e.epoch ≤ length side.history
-    pub tells : (j : ℕ) (e : Sent) → slice_get sent j ≡ Some e → e.who ≡ to k → occupies_sequence_space (seg e) ≡ true → e.epoch ≡ length side.history → (is_live c.state ≡ true) × (IsOld c (seg e) ⊎ IsDue m steady Any_low (λ p f. tt) c (seg e))
+    pub reported_as : (j : ℕ) (e : Sent) → slice_get sent j ≡ Some e → e.who ≡ to k → occupies_sequence_space (seg e) ≡ true → e.epoch ≡ length side.history → (is_live c.state ≡ true) × (IsOld c (seg e) ⊎ IsDue m steady Any_low (λ p f. tt) c (seg e))
     pub repeats : (i : ℕ) (e : Sent) → slice_get sent i ≡ Some e → e.who ≡ to k → e.again ≡ true → Before sent e i
     pub agree : length sent ≤ 65535 → (i j : ℕ) (e f : Sent) → slice_get sent i ≡ Some e → slice_get sent j ≡ Some f → j < i → e.who ≡ to k → f.who ≡ to k → e.epoch ≡ f.epoch →
         occupies_sequence_space (seg e) ≡ true → occupies_sequence_space (seg f) ≡ true → (seg e).seq ≡ (seg f).seq → (e.again ≡ true) × Alike (seg f) (seg e)
@@ -108,7 +108,7 @@ module _ (m : AppSpec) (steady : IsSteady m) where
     safe = t.safe;
     was_sent = λ l z. (let x = t.was_sent l z in record { sent_as = sent_more k side sent new x.sent_as; due_now = x.due_now });
     time = λ j e x w. elim (get_push sent new j e x) [ older h ↦ t.time j e h w | newest i h ↦ (let s = (q (ap (λ n. n.who) h ∙ w)).epoch in subst (λ n. n ≤ length side.history) (ap (λ n. n.epoch) h) s) ];
-    tells = λ j e x w p y. elim (get_push sent new j e x) [ older h ↦ t.tells j e h w p y | newest i h ↦ absurd ((q (ap (λ n. n.who) h ∙ w)).unplaced (ap (λ n. occupies_sequence_space (seg n)) h ∙ p)) ];
+    reported_as = λ j e x w p y. elim (get_push sent new j e x) [ older h ↦ t.reported_as j e h w p y | newest i h ↦ absurd ((q (ap (λ n. n.who) h ∙ w)).unplaced (ap (λ n. occupies_sequence_space (seg n)) h ∙ p)) ];
     repeats = λ j e x w a. elim (get_push sent new j e x) [ older h ↦ before_more sent new e j (t.repeats j e h w a) | newest i h ↦ absurd ((q (ap (λ n. n.who) h ∙ w)).unmarked (ap (λ n. n.again) h ∙ a)) ];
     agree = λ few i j e f x y l we wf ep pe pf se. elim (get_push sent new i e x) [
       | older h ↦ elim (get_push sent new j f y) [
@@ -134,7 +134,7 @@ module _ (m : AppSpec) (steady : IsSteady m) where
     safe = λ x. absurd (cc);
     was_sent = λ x. absurd (cc);
     time = λ j e x w. omega (arith, t.time j e x w, length_push side.history (past_connection_of d));
-    tells = λ j e x w p q. absurd (omega (arith, t.time j e x w, length_push side.history (past_connection_of d), q));
+    reported_as = λ j e x w p q. absurd (omega (arith, t.time j e x w, length_push side.history (past_connection_of d), q));
     repeats = t.repeats;
     agree = t.agree;
   }
@@ -153,7 +153,7 @@ module _ (m : AppSpec) (steady : IsSteady m) where
       due_now = x.due_now;
     });
     time = λ j e x w. subst (λ p. e.epoch ≤ length p) (sym q) (t.time j e x w);
-    tells = λ j e x w p y. t.tells j e x w p (y ∙ ap length q);
+    reported_as = λ j e x w p y. t.reported_as j e x w p (y ∙ ap length q);
     repeats = t.repeats;
     agree = t.agree;
   }
@@ -186,10 +186,10 @@ module _ (m : AppSpec) (steady : IsSteady m) where
 
   -- what held of c holds of d, into which it continues, apart from what is outstanding
   module _ (k : ℕ) (side : Side) (c d : Connection) (sent : List Sent) (t : Reported k side c sent) (live : is_live c.state ≡ true) (l : is_live d.state ≡ true) (o : Onto m steady Any_low (λ p f. tt) c d) (f : Safe m steady Any_low (λ p f. tt) d) (fit : FitConn d) (lens : Lens d) (near : d.acked ≤ c.acked + c.len) where
-    tells_on : (j : ℕ) (e : Sent) → slice_get sent j ≡ Some e → e.who ≡ to k → occupies_sequence_space (seg e) ≡ true → e.epoch ≡ length side.history → (is_live d.state ≡ true) × (IsOld d (seg e) ⊎ IsDue m steady Any_low (λ p f. tt) d (seg e))
-    tells_on j e x w p q = (
+    reports_on : (j : ℕ) (e : Sent) → slice_get sent j ≡ Some e → e.who ≡ to k → occupies_sequence_space (seg e) ≡ true → e.epoch ≡ length side.history → (is_live d.state ≡ true) × (IsOld d (seg e) ⊎ IsDue m steady Any_low (λ p f. tt) d (seg e))
+    reports_on j e x w p q = (
       l,
-      elim (t.tells j e x w p q).1 [
+      elim (t.reported_as j e x w p q).1 [
         | inl a ↦ inl record { at = a.at; seq = a.seq ∙ ap (λ n. wrap (n + a.at)) (sym o.iss); history = omega (arith, a.history, o.grows) }
         | inr n ↦ elim (same_or_more c.acked d.acked o.grows) [
           | inl s ↦ (let z = o.kept n.len (sym s) in inr record {
@@ -237,20 +237,20 @@ module _ (m : AppSpec) (steady : IsSteady m) where
       safe = λ x. f;
       was_sent = λ x z. (let y = s z in still_sent y.some y.same);
       time = t.time;
-      tells = tells_on;
+      reported_as = reports_on;
       repeats = t.repeats;
       agree = t.agree;
     }
 
     -- a new datagram that has a place
-    module _ (again : Bool) (new : Sent) (who : new.who ≡ to k) (epoch : new.epoch ≡ length side.history) (mark_is : new.again ≡ again) (placed : occupies_sequence_space (seg new) ≡ true) (h : Tells m steady Any_low (λ p f. tt) c d again (seg new)) where
+    module _ (again : Bool) (new : Sent) (who : new.who ≡ to k) (epoch : new.epoch ≡ length side.history) (mark_is : new.again ≡ again) (placed : occupies_sequence_space (seg new) ≡ true) (h : ReportsRun m steady Any_low (λ p f. tt) c d again (seg new)) where
       low : length (sent ++ new ∷ []) ≤ 65535 → d.acked < 4294967296
       low few = (let r = t.room live in omega (arith, few, near, r, length-append sent (new ∷ [])))
 
       -- an earlier datagram at its number is the same, and then this one is a repetition
       meets : length (sent ++ new ∷ []) ≤ 65535 → (j : ℕ) (e : Sent) → slice_get sent j ≡ Some e → e.who ≡ to k → occupies_sequence_space (seg e) ≡ true → e.epoch ≡ length side.history → (seg e).seq ≡ (seg new).seq → (again ≡ true) × Alike (seg e) (seg new)
       meets few j e x w p q s =
-          elim (t.tells j e x w p q).1 [
+          elim (t.reported_as j e x w p q).1 [
             | inl a ↦ (let z : a.at ≡ d.acked = same_place d.iss a.at d.acked (let g = a.history in let b = low few in omega (arith, g, b, o.grows)) (low few) (ap (λ n. wrap (n + a.at)) o.iss ∙ sym a.seq ∙ s ∙ h.due_now.seq) in absurd (let g = a.history in omega (arith, g, o.grows, z)))
             | inr n ↦ (let cl : c.acked < 4294967296 = (let b = low few in omega (arith, b, o.grows)) in
                 let z : c.acked ≡ d.acked = same_place d.iss c.acked d.acked cl (low few) (ap (λ x. wrap (x + c.acked)) o.iss ∙ sym n.seq ∙ s ∙ h.due_now.seq) in
@@ -284,16 +284,16 @@ module _ (m : AppSpec) (steady : IsSteady m) where
                 (alike_trans (due m c.state c) (due m d.state d) (seg new) (alike_sym (due m d.state d) (due m c.state c) (o.kept r.0 r.1).1) (alike_sym (seg new) (due m d.state d) h.due_now.alike));
           }
 
-      says_placed : Reported k side d (sent ++ new ∷ [])
-      says_placed = record {
+      sends_placed : Reported k side d (sent ++ new ∷ [])
+      sends_placed = record {
         fit = fit;
         lens = lens;
         room = λ x. (let r = t.room live in let n = lens.len in omega (arith, near, r, n, length-append sent (new ∷ [])));
         safe = λ x. f;
         was_sent = λ x z. record { sent_as = sent_newest k side sent new who epoch placed; due_now = h.due_now };
         time = λ j e x w. elim (get_push sent new j e x) [ older g ↦ t.time j e g w | newest i g ↦ (let q : e.epoch ≡ length side.history = ap (λ n. n.epoch) (sym g) ∙ epoch in omega (arith, q)) ];
-        tells = λ j e x w p q. elim (get_push sent new j e x) [
-          | older g ↦ tells_on j e g w p q
+        reported_as = λ j e x w p q. elim (get_push sent new j e x) [
+          | older g ↦ reports_on j e g w p q
           | newest i g ↦ (l, inr (subst (λ n. IsDue m steady Any_low (λ p f. tt) d (seg n)) g h.due_now))
         ];
         repeats = λ j e x w a. elim (get_push sent new j e x) [
@@ -322,7 +322,7 @@ module _ (m : AppSpec) (steady : IsSteady m) where
         ]);
     quiet_last = λ n l. leaves k side old o.connection closed w.sent refl closed_fits closed_lens t;
     says = λ s e l tick id. Rattle.uip_node.proofs.Basics.both_ways (occupies_sequence_space s)
-        (λ p. says_placed k side old o.connection w.sent t live l (h.onto l) (h.safe l) fit lens near (is_again o.step) (entry (to k) side tick id (model (is_again o.step) s)) refl refl refl p (h.output s e p))
+        (λ p. sends_placed k side old o.connection w.sent t live l (h.onto l) (h.safe l) fit lens near (is_again o.step) (entry (to k) side tick id (model (is_again o.step) s)) refl refl refl p (h.output s e p))
         (λ p. push_silent k side o.connection w.sent (entry (to k) side tick id (model (is_again o.step) s))
         (moves k side old o.connection w.sent t live l (h.onto l) (h.safe l) fit lens near
         (λ z. elim (h.still l z) [
@@ -330,7 +330,7 @@ module _ (m : AppSpec) (steady : IsSteady m) where
           | inr y ↦ absurd (let q : Some y.output ≡ Some s = sym y.is ∙ e in let u : occupies_sequence_space s ≡ true = only_some (λ x. occupies_sequence_space x ≡ true) y.output s q y.placed in cc)
         ]))
         (λ w'. record { epoch = omega arith; unplaced = λ x. absurd (cc); unmarked = λ x. absurd (let u : occupies_sequence_space s ≡ true = h.marked s e x in cc) }));
-    says_last = λ s e l tick id. push_silent k (OneClientFact.older side o.connection) closed w.sent (entry (to k) (OneClientFact.older side o.connection) tick id (model (is_again o.step) s)) (leaves k side old o.connection closed w.sent refl closed_fits closed_lens t)
+    sends_last = λ s e l tick id. push_silent k (OneClientFact.older side o.connection) closed w.sent (entry (to k) (OneClientFact.older side o.connection) tick id (model (is_again o.step) s)) (leaves k side old o.connection closed w.sent refl closed_fits closed_lens t)
         (λ w'. record { epoch = omega arith; unplaced = λ x. absurd (let u : is_live o.connection.state ≡ true = (h.output s e x).live in cc); unmarked = λ x. absurd (let u : is_live o.connection.state ≡ true = (h.output s e (h.marked s e x)).live in cc) });
   }
 
@@ -347,7 +347,7 @@ module _ (m : AppSpec) (steady : IsSteady m) where
       let c : Connection = accepted iss sockets (seg e) in
       let new : Sent = entry (to k) side tick id (model false (syn_ack c)) in
       let due_now : IsDue m steady Any_low (λ p f. tt) c (syn_ack c) = record { len = omega arith; seq = refl; alike = alike_refl (syn_ack c) } in
-      let none : (j : ℕ) (x : Sent) → slice_get w.sent j ≡ Some x → x.who ≡ to k → occupies_sequence_space (seg x) ≡ true → x.epoch ≡ length side.history → ⊥ = λ j x g w p q. absurd (let z = (t.tells j x g w p q).0 in cc) in
+      let none : (j : ℕ) (x : Sent) → slice_get w.sent j ≡ Some x → x.who ≡ to k → occupies_sequence_space (seg x) ≡ true → x.epoch ≡ length side.history → ⊥ = λ j x g w p q. absurd (let z = (t.reported_as j x g w p q).0 in cc) in
       record {
         fit = fit;
         lens = accepted_lens iss sockets (seg e);
@@ -355,7 +355,7 @@ module _ (m : AppSpec) (steady : IsSteady m) where
         safe = λ l. record { mss = mss_some (seg e).mss; initial = mss_some (seg e).mss; state = record { len = refl; acked = refl } };
         was_sent = λ x z. record { sent_as = sent_newest k side w.sent new refl refl refl; due_now = due_now };
         time = λ i x g wh. elim (get_push w.sent new i x g) [ older h ↦ t.time i x h wh | newest b h ↦ (let q : x.epoch ≡ length side.history = ap (λ n. n.epoch) (sym h) in omega (arith, q)) ];
-        tells = λ i x g wh p q. elim (get_push w.sent new i x g) [ older h ↦ absurd (none i x h wh p q) | newest b h ↦ (refl, inr (subst (λ n. IsDue m steady Any_low (λ p f. tt) c (seg n)) h due_now)) ];
+        reported_as = λ i x g wh p q. elim (get_push w.sent new i x g) [ older h ↦ absurd (none i x h wh p q) | newest b h ↦ (refl, inr (subst (λ n. IsDue m steady Any_low (λ p f. tt) c (seg n)) h due_now)) ];
         repeats = λ i x g wh a. elim (get_push w.sent new i x g) [ older h ↦ before_more w.sent new x i (t.repeats i x h wh a) | newest b h ↦ absurd (let z : false ≡ true = ap (λ n. n.again) h ∙ a in cc) ];
         agree = λ few i j x y g g' lt we wf ep pe pf se. elim (get_push w.sent new i x g) [
           | older h ↦ elim (get_push w.sent new j y g') [
@@ -380,7 +380,7 @@ module _ (m : AppSpec) (steady : IsSteady m) where
     apart = opening_apart plan is;
     single = λ p i j x y a b u v. absurd (let z = none_serves 10 p i x a in cc);
     each = λ k side x. (let e : serving (client_sockets side) (replicate 10 closed) ≡ closed = serving_free (replicate 10 closed) (client_sockets side) (none_serves 10 (client_sockets side)) in
-        subst (λ c. Reported k side c []) (sym e) (record { fit = closed_fits; lens = closed_lens; room = λ l. absurd (cc); safe = λ l. absurd (cc); was_sent = λ l. absurd (cc); time = λ j e' y. absurd (cc); tells = λ j e' y. absurd (cc); repeats = λ j e' y. absurd (cc); agree = λ few i j e' f y. absurd (cc) }));
+        subst (λ c. Reported k side c []) (sym e) (record { fit = closed_fits; lens = closed_lens; room = λ l. absurd (cc); safe = λ l. absurd (cc); was_sent = λ l. absurd (cc); time = λ j e' y. absurd (cc); reported_as = λ j e' y. absurd (cc); repeats = λ j e' y. absurd (cc); agree = λ few i j e' f y. absurd (cc) }));
   }
 
   reported_step : (served : ℕ → Bool) (v : World) (act : Act) → Harmless m served v act → Framed m Reported other reset evict mark v → FitWorld v → Framed m Reported other reset evict mark (does m served v act)
@@ -390,12 +390,12 @@ module _ (m : AppSpec) (steady : IsSteady m) where
       let o : Outcome = on_segment m old numbers (seg e) in
       let fo : FitOut o = on_segment_fits m steady old numbers (seg e) f n in
       steps_by w old (asked m now o) k side l (stepped_fits m steady Any_low (λ p f. tt) now o is fo) (asked_lens m now o (on_segment_lens m old numbers (seg e) t.lens))
-      (near_by _ old (asked m now o).connection (asked_moves m _ old now o (segment_moves m old numbers (seg e)))) (stepped_tells m steady Any_low (λ p f. tt) now old o is fo (segment_tells m steady Any_low (λ p f. tt) old numbers (seg e) (t.safe l))) t)
+      (near_by _ old (asked m now o).connection (asked_moves m _ old now o (segment_moves m old numbers (seg e)))) (stepped_reports m steady Any_low (λ p f. tt) now old o is fo (segment_reports m steady Any_low (λ p f. tt) old numbers (seg e) (t.safe l))) t)
       (λ w old numbers now k side l f n is t.
       let o : Outcome = on_tick m old numbers in
       let fo : FitOut o = on_tick_fits m steady old numbers f n in
       steps_by w old (asked m now o) k side l (stepped_fits m steady Any_low (λ p f. tt) now o is fo) (asked_lens m now o (on_tick_lens m old numbers t.lens))
-      (near_by _ old (asked m now o).connection (asked_moves m false old now o (tick_moves m old numbers))) (stepped_tells m steady Any_low (λ p f. tt) now old o is fo (tick_tells m steady Any_low (λ p f. tt) old numbers (t.safe l))) t)
+      (near_by _ old (asked m now o).connection (asked_moves m false old now o (tick_moves m old numbers))) (stepped_reports m steady Any_low (λ p f. tt) now old o is fo (tick_reports m steady Any_low (λ p f. tt) old numbers (t.safe l))) t)
       birth
       (any_step m Reported other reset evict mark takes)
       v act harm g fits
@@ -452,7 +452,7 @@ module _ (m : AppSpec) (steady : IsSteady m) where
   reported_plainly w r = reached_plainly m steady ReportedWorld (reported_step m steady) (opening_reported m steady) w r
 
   -- and if bytes are sent, damage or not
-  reported_where : (pages : Pages) (H : Connection → Type 0) → (HasBytes pages → SaysBytesWhere m H) → (w : World) → IsReached m pages w → ReportedWorld w
+  reported_where : (pages : Pages) (H : Connection → Type 0) → (HasBytes pages → SendsBytesWhere m H) → (w : World) → IsReached m pages w → ReportedWorld w
   reported_where pages H bytes w r = reached_where m pages steady H bytes ReportedWorld (reported_step m steady) (opening_reported m steady) w r
 
 pub same_bytes_plainly : SameBytesPlainly
@@ -461,15 +461,15 @@ same_bytes_plainly m steady w r = repeats_bytes m steady w (reported_plainly m s
 pub again_exactly_plainly : AgainExactlyPlainly
 again_exactly_plainly m steady w r = marks_repeats m steady w (reported_plainly m steady w r).each (room_plainly m w r)
 
-pub same_bytes_where : (m : AppSpec) (pages : Pages) (steady : IsSteady m) (H : Connection → Type 0) → (HasBytes pages → SaysBytesWhere m H) → (w : World) → IsReached m pages w → RepeatsSameBytes w
+pub same_bytes_where : (m : AppSpec) (pages : Pages) (steady : IsSteady m) (H : Connection → Type 0) → (HasBytes pages → SendsBytesWhere m H) → (w : World) → IsReached m pages w → RepeatsSameBytes w
 same_bytes_where m pages steady H bytes w r = repeats_bytes m steady w (reported_where m steady pages H bytes w r).each
 
-pub again_exactly_where : (m : AppSpec) (pages : Pages) (steady : IsSteady m) (H : Connection → Type 0) → (HasBytes pages → SaysBytesWhere m H) → (w : World) → IsReached m pages w → MarksRepeats w
+pub again_exactly_where : (m : AppSpec) (pages : Pages) (steady : IsSteady m) (H : Connection → Type 0) → (HasBytes pages → SendsBytesWhere m H) → (w : World) → IsReached m pages w → MarksRepeats w
 again_exactly_where m pages steady H bytes w r = marks_repeats m steady w (reported_where m steady pages H bytes w r).each (room_where m pages steady H bytes w r)
 
 -- an application whose text is a page
 pub same_bytes : SameBytes
-same_bytes m pages lawful w r = same_bytes_where m pages (steady_of m pages lawful) DeliveredBytes (pages_say_bytes m pages lawful) w r
+same_bytes m pages lawful w r = same_bytes_where m pages (steady_of m pages lawful) DeliveredBytes (pages_send_bytes m pages lawful) w r
 
 pub again_exactly : AgainExactly
-again_exactly m pages lawful w r = again_exactly_where m pages (steady_of m pages lawful) DeliveredBytes (pages_say_bytes m pages lawful) w r
+again_exactly m pages lawful w r = again_exactly_where m pages (steady_of m pages lawful) DeliveredBytes (pages_send_bytes m pages lawful) w r

@@ -90,15 +90,15 @@ one state received first_stale = record { state = state; received = received; fi
 abbrev rounds : ℕ → List Event
 rounds n = replicate n Round
 
-abbrev node_says : ℕ → ℕ → ℕ → ℕ → Bool → Shown
-node_says tick flags seq len again = record { tick = tick; who = FromNode 1; flags = flags; seq = seq; len = len; again = again }
+abbrev node_sends : ℕ → ℕ → ℕ → ℕ → Bool → Shown
+node_sends tick flags seq len again = record { tick = tick; who = FromNode 1; flags = flags; seq = seq; len = len; again = again }
 
-abbrev client_says : ℕ → ℕ → ℕ → Shown
-client_says flags seq len = record { tick = 0; who = FromClient 1; flags = flags; seq = seq; len = len; again = false }
+abbrev client_sends : ℕ → ℕ → ℕ → Shown
+client_sends flags seq len = record { tick = 0; who = FromClient 1; flags = flags; seq = seq; len = len; again = false }
 
 a_page_shown : all_shown (played (text_of 86) usual (Opens 1 ∷ rounds 12))
-    ≡ client_says SYN 1000 0 ∷ node_says 0 (SYN + ACK) 0 0 false ∷ client_says (ACK + PSH) 1001 18 ∷ node_says 0 (ACK + PSH) 1 86 false
-    ∷ client_says ACK 1019 0 ∷ node_says 0 (FIN + ACK) 87 0 false ∷ client_says (FIN + ACK) 1019 0 ∷ node_says 0 ACK 88 0 false ∷ []
+    ≡ client_sends SYN 1000 0 ∷ node_sends 0 (SYN + ACK) 0 0 false ∷ client_sends (ACK + PSH) 1001 18 ∷ node_sends 0 (ACK + PSH) 1 86 false
+    ∷ client_sends ACK 1019 0 ∷ node_sends 0 (FIN + ACK) 87 0 false ∷ client_sends (FIN + ACK) 1019 0 ∷ node_sends 0 ACK 88 0 false ∷ []
 unfolding idles peer_closes stays_established in_established fin_acked fin_waits on_segment rests_on ticks_established happened opens_in for_no_connection sends_next takes_in_order takes_by client_takes opens_by again_by closes_by aborts_by
 a_page_shown = refl
 
@@ -166,9 +166,9 @@ abbrev text_at : Option Sent → List ℕ
 text_at None = []
 text_at (Some e) = content_text e.content
 
-abbrev said_in : ℕ → Result World BadLine → List ℕ
-said_in k (Ok w) = text_at (numbered w.sent k)
-said_in k (Err bad) = []
+abbrev sent_text_in : ℕ → Result World BadLine → List ℕ
+sent_text_in k (Ok w) = text_at (numbered w.sent k)
+sent_text_in k (Err bad) = []
 
 abbrev damaged_run : ℕ → Result World BadLine
 damaged_run at = played (text_of 86) usual (Opens 1 ∷ rounds 3 ++ Damage 4 at 1 ∷ Lose ∷ Tick 4 ∷ rounds 5)
@@ -213,18 +213,18 @@ endings_hold = refl
 -- the numbers of datagrams in runs, and what is shown of each
 abbrev datagrams : List (ℕ × Result World BadLine × Shown)
 datagrams =
-    (5, lost_segment_run, node_says 4 (ACK + PSH) 1 86 true)
-    ∷ (12, lost_segment_run, node_says 200 (ACK + PSH) 1 86 true)
-    ∷ (13, lost_segment_run, node_says 249 (RST + ACK) 1 0 false)
-    ∷ (8, lost_syn_acks_run, node_says 102 (RST + ACK) 0 0 false)
-    ∷ (10, lost_syn_acks_run, node_says 102 (SYN + ACK) 1020 0 false)
-    ∷ (6, shrunk_window_run, node_says 0 (ACK + PSH) 537 536 false)
-    ∷ (8, shrunk_window_run, node_says 4 (ACK + PSH) 537 536 true)
-    ∷ (10, shrunk_window_run, node_says 4 (ACK + PSH) 1073 8 false)
-    ∷ (6, undecided_run, node_says 0 (RST + ACK) 1 0 false)
-    ∷ (4, large_mss_run, node_says 0 (ACK + PSH) 1 1460 false)
-    ∷ (6, large_mss_run, node_says 0 (ACK + PSH) 1461 620 false)
-    ∷ (83, evicted_run, node_says 0 (RST + ACK) 87 0 false)
+    (5, lost_segment_run, node_sends 4 (ACK + PSH) 1 86 true)
+    ∷ (12, lost_segment_run, node_sends 200 (ACK + PSH) 1 86 true)
+    ∷ (13, lost_segment_run, node_sends 249 (RST + ACK) 1 0 false)
+    ∷ (8, lost_syn_acks_run, node_sends 102 (RST + ACK) 0 0 false)
+    ∷ (10, lost_syn_acks_run, node_sends 102 (SYN + ACK) 1020 0 false)
+    ∷ (6, shrunk_window_run, node_sends 0 (ACK + PSH) 537 536 false)
+    ∷ (8, shrunk_window_run, node_sends 4 (ACK + PSH) 537 536 true)
+    ∷ (10, shrunk_window_run, node_sends 4 (ACK + PSH) 1073 8 false)
+    ∷ (6, undecided_run, node_sends 0 (RST + ACK) 1 0 false)
+    ∷ (4, large_mss_run, node_sends 0 (ACK + PSH) 1 1460 false)
+    ∷ (6, large_mss_run, node_sends 0 (ACK + PSH) 1461 620 false)
+    ∷ (83, evicted_run, node_sends 0 (RST + ACK) 87 0 false)
     ∷ []
 
 datagrams_hold : map (λ row. shown row.0 row.1) datagrams ≡ map (λ row. Some row.2) datagrams
@@ -241,7 +241,7 @@ texts =
     ∷ (13, generator_again_run, flat_map (λ n. replicate 11 n) (6 ∷ 6 ∷ 0 ∷ 0 ∷ 0 ∷ 0 ∷ 0 ∷ 0 ∷ 0 ∷ 0 ∷ 2 ∷ 2 ∷ 0 ∷ 0 ∷ 4 ∷ 4 ∷ 0 ∷ 0 ∷ 1 ∷ 0 ∷ []))
     ∷ []
 
-texts_hold : map (λ row. said_in row.0 row.1) texts ≡ map (λ row. row.2) texts
+texts_hold : map (λ row. sent_text_in row.0 row.1) texts ≡ map (λ row. row.2) texts
 unfolding idles peer_closes stays_established in_established fin_acked fin_waits on_segment rests_on ticks_established happened opens_in for_no_connection sends_next takes_in_order takes_by client_takes opens_by again_by closes_by aborts_by ping_from
 texts_hold = refl
 
@@ -261,6 +261,6 @@ damages_hold : map (λ row. report_of row.0) damages ≡ map (λ row. row.1) dam
 unfolding idles peer_closes stays_established in_established fin_acked fin_waits on_segment rests_on ticks_established happened opens_in for_no_connection sends_next takes_in_order takes_by client_takes opens_by again_by closes_by aborts_by folded head_or_fate head_bytes datagram_bytes segment_in
 damages_hold = refl
 
-damaged_again : shown 5 (damaged_run 45) ≡ Some (node_says 4 (ACK + PSH) 1 86 true)
+damaged_again : shown 5 (damaged_run 45) ≡ Some (node_sends 4 (ACK + PSH) 1 86 true)
 unfolding idles peer_closes stays_established in_established fin_acked fin_waits on_segment rests_on ticks_established happened opens_in for_no_connection sends_next takes_in_order takes_by client_takes opens_by again_by closes_by aborts_by folded head_or_fate head_bytes datagram_bytes segment_in
 damaged_again = refl

@@ -5,7 +5,7 @@ use Rattle.link_world.proofs.FitActs.{does_fit}
 use Rattle.link_world.proofs.Harmless.{Harmless, plain_harmless}
 use Rattle.link_world.proofs.Room.{HasRoom, keeps_room}
 use Rattle.link_world.proofs.Sound.{IsSoundClient}
-use Rattle.link_world.proofs.SaidBytes.{SaysBytesWhere, pages_say_bytes}
+use Rattle.link_world.proofs.SentBytes.{SendsBytesWhere, pages_send_bytes}
 use Rattle.link_world.proofs.SoundWorlds.{KnownWorld, SoundWorld, does_sound}
 use Rattle.link_world.proofs.Damages.{act_harmless}
 
@@ -60,7 +60,7 @@ module _ (m : AppSpec) (served : ℕ → Bool) (Fine : Act → Type 0) (P : Worl
       one_keeps v w act more (acts m served v act) refl (a 0 act (omega arith)) p
       (λ u q. run_keeps more u w (λ k d l. a (suc k) d (omega (arith, l))) q) e
 
-module _ (m : AppSpec) (pages : Pages) (steady : IsSteady m) (H : Connection → Type 0) (bytes : HasBytes pages → SaysBytesWhere m H) where
+module _ (m : AppSpec) (pages : Pages) (steady : IsSteady m) (H : Connection → Type 0) (bytes : HasBytes pages → SendsBytesWhere m H) where
   module _ (served : ℕ → Bool) (P : World → Type 0) (step : (w : World) (act : Act) → Harmless m served w act → P w → FitWorld w → P (does m served w act)) where
     record Kept (w : World) : Type 0 where
       fact : P w
@@ -132,14 +132,14 @@ module _ (m : AppSpec) (pages : Pages) (steady : IsSteady m) (H : Connection →
 
 pub reached : (m : AppSpec) (pages : Pages) → IsPaged m pages → (P : World → Type 0) → ((served : ℕ → Bool) (w : World) (act : Act) → Harmless m served w act → P w → FitWorld w → P (does m served w act)) →
     ((addr : Addr) (numbers : List ℕ) (plan : List Planned) → IsPlan plan → P (initial_world addr numbers plan)) → (w : World) → IsReached m pages w → P w
-reached m pages lawful P step opening w r = reached_where m pages (steady_of m pages lawful) DeliveredBytes (pages_say_bytes m pages lawful) P step opening w r
+reached m pages lawful P step opening w r = reached_where m pages (steady_of m pages lawful) DeliveredBytes (pages_send_bytes m pages lawful) P step opening w r
 
 pub reached_sound : (m : AppSpec) (pages : Pages) → IsPaged m pages → HasBytes pages → (w : World) → IsReached m pages w → SoundWorld w
-reached_sound m pages lawful page w r = (known_where m pages (steady_of m pages lawful) DeliveredBytes (pages_say_bytes m pages lawful) page w r).sound
+reached_sound m pages lawful page w r = (known_where m pages (steady_of m pages lawful) DeliveredBytes (pages_send_bytes m pages lawful) page w r).sound
 
 pub reached_on : (m : AppSpec) (pages : Pages) → IsPaged m pages → (P : World → Type 0) → ((served : ℕ → Bool) (w : World) (act : Act) → Harmless m served w act → P w → FitWorld w → P (does m served w act)) →
     (v w : World) → IsLater m pages v w → P v → P w
-reached_on m pages lawful P step v w l p = on_where m pages (steady_of m pages lawful) DeliveredBytes (pages_say_bytes m pages lawful) P step v w l p
+reached_on m pages lawful P step v w l p = on_where m pages (steady_of m pages lawful) DeliveredBytes (pages_send_bytes m pages lawful) P step v w l p
 
 -- any fact that each harmless act keeps, of a world that is reached with no damage
 pub reached_plainly : (m : AppSpec) → IsSteady m → (P : World → Type 0) → ((served : ℕ → Bool) (w : World) (act : Act) → Harmless m served w act → P w → FitWorld w → P (does m served w act)) →

@@ -103,13 +103,13 @@ posts_from w who again content s h = record { conns = h.conns; sent = push_from 
 
 -- ---- a step of the node
 
-abbrev MaySay : List Side → List Sent → Reply → Type 0
-MaySay sides sent (Echo request) = IsAsked sent request
-MaySay sides sent (TcpReply sockets id again s) = HasClient sides sockets
+abbrev MaySend : List Side → List Sent → Reply → Type 0
+MaySend sides sent (Echo request) = IsAsked sent request
+MaySend sides sent (TcpReply sockets id again s) = HasClient sides sockets
 
 record StepFrom (sides : List Side) (sent : List Sent) (r : NodeStep) : Type 0 where
   conns : HaveClients sides r.node.connections
-  output : (x : Reply) → r.sent ≡ Some x → MaySay sides sent x
+  output : (x : Reply) → r.sent ≡ Some x → MaySend sides sent x
 
 -- the client with these sockets is addressed
 is_number : (sides : List Side) (p : Sockets) → HasClient sides p → IsNumberOf sides (addressed 1 p sides)
@@ -118,19 +118,19 @@ is_number sides p h =
     let e : addressed 1 p sides ≡ suc r.index = r.is ∙ omega arith in
     subst (λ n. IsNumberOf sides n) (sym e) (r.side, r.get)
 
-reply_from : (w : World) (r : Option Reply) → ((x : Reply) → r ≡ Some x → MaySay w.sides w.sent x) → HasSenders w → HasSenders (posts_reply w r)
+reply_from : (w : World) (r : Option Reply) → ((x : Reply) → r ≡ Some x → MaySend w.sides w.sent x) → HasSenders w → HasSenders (posts_reply w r)
 reply_from w None f h = h
 reply_from w (Some (Echo request)) f h = posts_from w (FromNode 0) false (OfEcho request) (refl, f (Echo request) refl) h
 reply_from w (Some (TcpReply sockets id again s)) f h = posts_from w (FromNode (addressed 1 sockets w.sides)) again (OfSegment id s) (is_number w.sides sockets (f (TcpReply sockets id again s) refl), tt) h
 
-say_stays : (a b : List Side) (sent : List Sent) (x : Reply) → AllStay a b → MaySay a sent x → MaySay b sent x
-say_stays a b sent (Echo request) f h = h
-say_stays a b sent (TcpReply sockets id again s) f h = client_stays a b sockets f h
+send_stays : (a b : List Side) (sent : List Sent) (x : Reply) → AllStay a b → MaySend a sent x → MaySend b sent x
+send_stays a b sent (Echo request) f h = h
+send_stays a b sent (TcpReply sockets id again s) f h = client_stays a b sockets f h
 
 stepped_from : (w : World) (r : NodeStep) → StepFrom w.sides w.sent r → HasSenders w → HasSenders (node_stepped w r)
 stepped_from w r g h =
     let stay : AllStay w.sides (retires r.gone w.sides) = buries_stay r.gone w.sides in
-    reply_from (record w { node = r.node; sides = retires r.gone w.sides }) r.sent (λ x e. say_stays w.sides (retires r.gone w.sides) w.sent x stay (g.output x e)) record {
+    reply_from (record w { node = r.node; sides = retires r.gone w.sides }) r.sent (λ x e. send_stays w.sides (retires r.gone w.sides) w.sent x stay (g.output x e)) record {
       conns = clients_stay w.sides (retires r.gone w.sides) r.node.connections stay g.conns;
       sent = senders_stay w.sides (retires r.gone w.sides) w.sent stay h.sent;
     }
@@ -147,9 +147,9 @@ module _ (sides : List Side) (sent : List Sent) where
   index_client (c ∷ cs) zero h l = h zero c refl l
   index_client (c ∷ cs) (suc i) h l = index_client cs i (λ j x g. h (suc j) x g) l
 
-  replies_from : (output : Option PlainSegment) (sockets : Sockets) (id : ℕ) (again : Bool) → ((s : PlainSegment) → output ≡ Some s → HasClient sides sockets) → (x : Reply) → option_map (λ s. TcpReply sockets id again s) output ≡ Some x → MaySay sides sent x
+  replies_from : (output : Option PlainSegment) (sockets : Sockets) (id : ℕ) (again : Bool) → ((s : PlainSegment) → output ≡ Some s → HasClient sides sockets) → (x : Reply) → option_map (λ s. TcpReply sockets id again s) output ≡ Some x → MaySend sides sent x
   replies_from None sockets id again f x e = absurd (cc)
-  replies_from (Some s) sockets id again f x e = only_some (λ r. MaySay sides sent r) (TcpReply sockets id again s) x e (f s refl)
+  replies_from (Some s) sockets id again f x e = only_some (λ r. MaySend sides sent r) (TcpReply sockets id again s) x e (f s refl)
 
   module _ (m : AppSpec) where
     happened_from : (n : AbstractNode) (event : Event) (slot : ℕ) (old : Connection) (o : Outcome) → (is_live o.connection.state ≡ true → HasClient sides o.connection.sockets) →
@@ -176,7 +176,7 @@ module _ (sides : List Side) (sent : List Sent) where
     refuses_from n p s c h = record {
       conns = h;
       output = λ x e. (let history : List HistoryEntry = record { event = Arrived p s; answer = Spoke false } ∷ n.history in
-          only_some (λ r. MaySay sides sent r) (TcpReply p (ident_of history) false (reset_for_no_connection s)) x e c);
+          only_some (λ r. MaySend sides sent r) (TcpReply p (ident_of history) false (reset_for_no_connection s)) x e c);
     }
 
     stranger_from : (served : ℕ → Bool) (n : AbstractNode) (p : Sockets) (s : PlainSegment) → HasClient sides p → HaveClients sides n.connections → StepFrom sides sent (for_no_connection m served n p s)
@@ -208,8 +208,8 @@ module _ (sides : List Side) (sent : List Sent) where
       | finds_none f g ↦ subst (λ x. StepFrom sides sent (arrives_at m served n p s x)) (sym f) (stranger_from served n p s k h)
     ]
 
-    nothing_said : (c : Connection) (s : PlainSegment) → segment_of m c Step.Drop ≡ Some s → ⊥
-    nothing_said c s e = cc
+    nothing_sent : (c : Connection) (s : PlainSegment) → segment_of m c Step.Drop ≡ Some s → ⊥
+    nothing_sent c s e = cc
 
     periodic_from : (served : ℕ → Bool) (n : AbstractNode) (slot : ℕ) → HaveClients sides n.connections → StepFrom sides sent (step m served n (Periodic slot))
     periodic_from served n slot h =
@@ -218,7 +218,7 @@ module _ (sides : List Side) (sent : List Sent) where
         both_ways (is_live c.state)
         (λ l. goes_on_from n (Periodic slot) slot c (asked m (snapshot n (Periodic slot) slot) o) (asked_keeps m (snapshot n (Periodic slot) slot) c o (on_tick_keeps m c n.numbers)) (index_client n.connections slot h l) h)
         (λ l. subst (λ (x : Outcome). StepFrom sides sent (happened m n (Periodic slot) slot c (asked m (snapshot n (Periodic slot) slot) x))) (sym (on_tick_closed m c n.numbers l))
-        (happened_from n (Periodic slot) slot c (leaves c n.numbers Step.Drop) (λ e. absurd (let z : true ≡ false = sym e ∙ l in cc)) (λ s e. absurd (nothing_said c s e)) h))
+        (happened_from n (Periodic slot) slot c (leaves c n.numbers Step.Drop) (λ e. absurd (let z : true ≡ false = sym e ∙ l in cc)) (λ s e. absurd (nothing_sent c s e)) h))
 
 -- ---- the acts
 
@@ -257,7 +257,7 @@ module _ (m : AppSpec) (served : ℕ → Bool) where
       (arrival_from v.sides v.sent m served v.node (client_sockets side) s record { index = n; side = marked side k e; get = get_set_same w.sides n side (marked side k e) at; same = refl } g.conns) g
 
   echo_from : (w : World) (datagram : List ℕ) → IsAsked w.sent datagram → HasSenders w → HasSenders (node_handles m served w (EchoAsked datagram))
-  echo_from w datagram a h = stepped_from w (step m served w.node (EchoAsked datagram)) record { conns = h.conns; output = λ x e. only_some (λ r. MaySay w.sides w.sent r) (Echo datagram) x e a } h
+  echo_from w datagram a h = stepped_from w (step m served w.node (EchoAsked datagram)) record { conns = h.conns; output = λ x e. only_some (λ r. MaySend w.sides w.sent r) (Echo datagram) x e a } h
 
   delivers_from : (w : World) (k : ℕ) (e : Sent) (who : Who) (content : Content) → ((datagram : List ℕ) → content ≡ OfPing datagram → IsAsked w.sent datagram) → HasSenders w → HasSenders (delivers m served w k e who content)
   delivers_from w k e who content a h =

@@ -75,8 +75,8 @@ sends_sound owed c h =
     of_sends SoundStep c owed (kept c h) (given c (ack_of c) h (ack_sound c h)) (λ o r. given d (own_request d) g (request_sound d g))
     (λ o m n. given _ (client.own_fin c) record { addr = h.addr; port = h.port; server = h.server; server_port = h.server_port; iss = h.iss; offered = h.offered; seg = h.seg; request = h.request; expected = h.expected; window = h.window; out = h.out } (end_sound c h))
 
-hears_sound : (c : AbstractClient) (s : PlainSegment) → IsSoundClient c → IsSoundClient (receives_ack c s)
-hears_sound c s h =
+receives_sound : (c : AbstractClient) (s : PlainSegment) → IsSoundClient c → IsSoundClient (receives_ack c s)
+receives_sound c s h =
     choose (λ x. IsSoundClient x) (has_ack s.flags && (client_waits c && eqb s.ack (next_own c))) _ _
     (λ e. record { addr = h.addr; port = h.port; server = h.server; server_port = h.server_port; iss = h.iss; offered = h.offered; seg = h.seg; request = h.request; expected = h.expected; window = h.window; out = omega arith })
     (λ e. h)
@@ -94,7 +94,7 @@ pub takes_sound : (c : AbstractClient) (s : PlainSegment) → IsSoundClient c �
 takes_sound c s h =
     of_takes SoundStep c s (kept c h) (λ b. kept _ (in_other_state c Is.Reset h))
     (λ e r f. sends_sound true (opened_by c s) record { addr = h.addr; port = h.port; server = h.server; server_port = h.server_port; iss = h.iss; offered = h.offered; seg = h.seg; request = h.request; expected = wrap_low _; window = h.window; out = h.out })
-    (λ r. order_sound (receives_ack c s) s (hears_sound c s h))
+    (λ r. order_sound (receives_ack c s) s (receives_sound c s h))
 
 pub opens_sound : (c : AbstractClient) → IsSoundClient c → SoundStep (client_opens c)
 opens_sound c h = of_opens SoundStep c (kept c h) (λ e. given _ _ (in_other_state c Is.Opening h) (syn_sound (record c { state = Is.Opening }) (in_other_state c Is.Opening h)))

@@ -1,6 +1,6 @@
 -- What the node sends in a step is sound.
-use Rattle.link_world.proofs.Prelude.{◌≡◌, ℕ, zero, suc, ◌<◌, Bool, false, ◌&&◌, List, [], ◌∷◌, set, refl, subst, arith, Option, Some, None, slice_get, slice_index_or, position, option_map, option_map_or, PlainSegment, has_rst, AppSpec, IsAddr, Now, Sockets, Connection, closed, serves, is_plain_syn, segment_of, is_again, reset_for_no_connection, Outcome, asked, accept, on_segment, on_tick, Event, Answer, HistoryEntry, Reply, Arrived, Periodic, Silent, Spoke, NoSlot, Echo, TcpReply, initial_number, ident_of, AbstractNode, NodeStep, snapshot, happened, connection_in, slot_for_syn, passes, refuses, opens_in, opens, for_no_connection, arrives_at, step, IsSteady, choose, only_some, get_set, here, there, FitConn, accepted_fits, asked_fits, on_segment_fits, on_tick_fits, FitNode, index_fits, node_snapshot, Lens, closed_lens, accepted_lens, asked_lens, on_segment_lens, on_tick_lens, IsSoundSegment, none_sound, said_sound}
-use Rattle.link_world.proofs.SaidBytes.{SaysBytesWhere}
+use Rattle.link_world.proofs.Prelude.{◌≡◌, ℕ, zero, suc, ◌<◌, Bool, false, ◌&&◌, List, [], ◌∷◌, set, refl, subst, arith, Option, Some, None, slice_get, slice_index_or, position, option_map, option_map_or, PlainSegment, has_rst, AppSpec, IsAddr, Now, Sockets, Connection, closed, serves, is_plain_syn, segment_of, is_again, reset_for_no_connection, Outcome, asked, accept, on_segment, on_tick, Event, Answer, HistoryEntry, Reply, Arrived, Periodic, Silent, Spoke, NoSlot, Echo, TcpReply, initial_number, ident_of, AbstractNode, NodeStep, snapshot, happened, connection_in, slot_for_syn, passes, refuses, opens_in, opens, for_no_connection, arrives_at, step, IsSteady, choose, only_some, get_set, here, there, FitConn, accepted_fits, asked_fits, on_segment_fits, on_tick_fits, FitNode, index_fits, node_snapshot, Lens, closed_lens, accepted_lens, asked_lens, on_segment_lens, on_tick_lens, IsSoundSegment, none_sound, sent_sound}
+use Rattle.link_world.proofs.SentBytes.{SendsBytesWhere}
 
 abbrev pub EachOf : (Connection → Type 0) → List Connection → Type 0
 EachOf P table = (i : ℕ) (c : Connection) → slice_get table i ≡ Some c → P c
@@ -33,7 +33,7 @@ replies (Some s) sockets id again l f x e = only_some (λ r. SoundReply r) (TcpR
 ident_low : (history : List HistoryEntry) → ident_of history < 65536
 ident_low history = omega arith
 
-module _ (m : AppSpec) (steady : IsSteady m) (H : Connection → Type 0) (bytes : SaysBytesWhere m H) where
+module _ (m : AppSpec) (steady : IsSteady m) (H : Connection → Type 0) (bytes : SendsBytesWhere m H) where
   -- the connections beside the one that takes the step
   record Rest (n : AbstractNode) : Type 0 where
     lens : LensAll n.connections
@@ -49,7 +49,7 @@ module _ (m : AppSpec) (steady : IsSteady m) (H : Connection → Type 0) (bytes 
     conns = set_each Lens n.connections slot o.connection h l.lens;
     known = set_each H n.connections slot o.connection k l.known;
     output = (let history : List HistoryEntry = record { event = event; answer = option_map_or (λ s. Spoke (is_again o.step)) (segment_of m o.connection o.step) Silent } ∷ n.history in
-        replies (segment_of m o.connection o.step) o.connection.sockets (ident_of history) (is_again o.step) (ident_low history) (λ s e. said_sound m o.connection o.step s h (bytes.says o.connection f k) e));
+        replies (segment_of m o.connection o.step) o.connection.sockets (ident_of history) (is_again o.step) (ident_low history) (λ s e. sent_sound m o.connection o.step s h (bytes.says o.connection f k) e));
   }
 
   opens_sound : (n : AbstractNode) (sockets : Sockets) (s : PlainSegment) (slot : Option ℕ) → IsAddr sockets.peer → sockets.peer_port.0 < 65536 → Rest n → SoundNode H n (opens m n sockets s slot)

@@ -1,6 +1,6 @@
 -- Every datagram that was ever sent is sound.
 use Rattle.link_world.proofs.Prelude.{◌≡◌, ℕ, suc, ◌<◌, Bool, false, List, [], ◌∷◌, map, refl, sym, ap, ◌∙◌, subst, arith, Option, Some, None, slice_get, Addr, PlainSegment, AppSpec, IsAddr, Connection, same_sockets, Reply, Arrived, EchoAsked, Periodic, Echo, TcpReply, AbstractNode, NodeStep, step, AbstractClient, ClientStep, client_takes, client_opens, client_again, client_closes, client_aborts, advertises_window, World, Side, Sent, Content, client_sockets, retires, retires_in, addressed, posts, posts_reply, posts_of_client, node_stepped, node_handles, with_client, with_side, client_stepped, marked, delivers, OfSegment, OfPing, OfEcho, ping_from, client_acts, handles_all, does, Act, Who, FromClient, FromNode, Pinger, IsAct, IsLoss, IsSteady, choose, only_some, get_push, older, newest, get_map, get_set, here, there, IsSoundSegment}
-use Rattle.link_world.proofs.SaidBytes.{SaysBytesWhere}
+use Rattle.link_world.proofs.SentBytes.{SendsBytesWhere}
 use Rattle.link_world.proofs.FitWorlds.{FitWorld, put_fits, periodic_fits}
 use Rattle.link_world.proofs.Sound.{IsSoundClient, SoundStep, takes_sound, opens_sound, again_sound, closes_sound, aborts_sound, window_sound}
 use Rattle.link_world.proofs.SoundNodes.{EachOf, LensAll, SoundReply, SoundNode, arrival_node, periodic_node}
@@ -119,7 +119,7 @@ module _ (H : Connection → Type 0) where
     known = same_known (client_stepped w (suc n) base took) w (posted_node (with_side w (suc n) (with_client base took.client)) (suc n) took.sent) h.known;
   }
 
-module _ (m : AppSpec) (steady : IsSteady m) (H : Connection → Type 0) (bytes : SaysBytesWhere m H) (served : ℕ → Bool) where
+module _ (m : AppSpec) (steady : IsSteady m) (H : Connection → Type 0) (bytes : SendsBytesWhere m H) (served : ℕ → Bool) where
   gives_node_sound : (w : World) (n k : ℕ) (e : Sent) (s : PlainSegment) (side : Side) → slice_get w.sides n ≡ Some side → IsSoundSegment s → FitWorld w → KnownWorld H w
       → KnownWorld H (node_handles m served (with_side w (suc n) (marked side k e)) (Arrived (client_sockets side) s))
   gives_node_sound w n k e s side at g f h =

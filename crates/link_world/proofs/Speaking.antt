@@ -17,7 +17,7 @@ abbrev pub page_by : Speaker → Pages
 page_by speaker = record { page = speaker.text; complete = speaker.whole }
 
 -- A piece is received, or a prefix of it after which the state is lost. A lost state receives nothing more.
-pub record HearsSome (speaker : Speaker) (p q : AppState) (piece : List ℕ) : Type 0 where
+pub record ReceivesSome (speaker : Speaker) (p q : AppState) (piece : List ℕ) : Type 0 where
   pub here : speaker.here q ≡ true
   pub prefix : List ℕ
   pub rest : List ℕ
@@ -26,7 +26,7 @@ pub record HearsSome (speaker : Speaker) (p q : AppState) (piece : List ℕ) : T
   pub all : (rest ≡ []) ⊎ (speaker.lost q ≡ true)
   pub no_more : speaker.lost p ≡ true → (q.input ≡ p.input) × (speaker.lost q ≡ true)
 
-pub record KeepsHeard (speaker : Speaker) (p q : AppState) : Type 0 where
+pub record KeepsReceived (speaker : Speaker) (p q : AppState) : Type 0 where
   pub here : speaker.here q ≡ true
   pub input : q.input ≡ p.input
   pub lost : speaker.lost q ≡ speaker.lost p
@@ -41,27 +41,27 @@ pub record HasOutputModel (m : AppSpec) (speaker : Speaker) : Type 0 where
   pub output : (p : AppState) → speaker.here p ≡ true → m.output p ≡ speaker.text p.input p.snapshots
   pub connected_here : (numbers : List ℕ) (port : ℕ) → speaker.at port ≡ true → speaker.here (m.connected numbers port).part ≡ true
   pub connected_input : (numbers : List ℕ) (port : ℕ) → speaker.at port ≡ true → (m.connected numbers port).part.input ≡ []
-  pub newdata : (numbers : List ℕ) (p : AppState) (piece : List ℕ) → speaker.here p ≡ true → HearsSome speaker p (m.newdata numbers p piece).part piece
-  pub prepare : (numbers : List ℕ) (p : AppState) (now : Now) → speaker.here p ≡ true → KeepsHeard speaker p (m.prepare numbers p now)
-  pub acked : (numbers : List ℕ) (p : AppState) (n : ℕ) → speaker.here p ≡ true → KeepsHeard speaker p (m.acked numbers p n).part
-  pub polled : (numbers : List ℕ) (p : AppState) → speaker.here p ≡ true → KeepsHeard speaker p (m.polled numbers p).part
+  pub newdata : (numbers : List ℕ) (p : AppState) (piece : List ℕ) → speaker.here p ≡ true → ReceivesSome speaker p (m.newdata numbers p piece).part piece
+  pub prepare : (numbers : List ℕ) (p : AppState) (now : Now) → speaker.here p ≡ true → KeepsReceived speaker p (m.prepare numbers p now)
+  pub acked : (numbers : List ℕ) (p : AppState) (n : ℕ) → speaker.here p ≡ true → KeepsReceived speaker p (m.acked numbers p n).part
+  pub polled : (numbers : List ℕ) (p : AppState) → speaker.here p ≡ true → KeepsReceived speaker p (m.polled numbers p).part
   -- it closes at the end of a whole text alone
   pub closes : (numbers : List ℕ) (p : AppState) → speaker.here p ≡ true → p.acked ≤ length (m.output p) → m.want numbers p ≡ Close → MayWant (page_by speaker) p Close
 
 module _ (m : AppSpec) (speaker : Speaker) (laws : HasOutputModel m speaker) where
   -- what receiving text does to a state
   pub record Received (p q : AppState) (text : List ℕ) : Type 0 where
-    pub some : HearsSome speaker p q text
+    pub some : ReceivesSome speaker p q text
     pub snapshots : q.snapshots ≡ p.snapshots
     pub acked : q.acked ≡ p.acked
 
-  pub hears_is : (numbers : List ℕ) (p : AppState) (text : List ℕ) → speaker.here p ≡ true → Received p (delivers_text m numbers p text).part text
-  hears_is numbers p [] h = record {
+  pub receives_is : (numbers : List ℕ) (p : AppState) (text : List ℕ) → speaker.here p ≡ true → Received p (delivers_text m numbers p text).part text
+  receives_is numbers p [] h = record {
     some = record { here = h; prefix = []; rest = []; joined = refl; input = sym (append_nothing p.input); all = inl refl; no_more = λ e. (refl, e) };
     snapshots = refl;
     acked = refl;
   }
-  hears_is numbers p (x ∷ xs) h = record {
+  receives_is numbers p (x ∷ xs) h = record {
     some = laws.newdata numbers p (x ∷ xs) h;
     snapshots = laws.steady.newdata_snapshots numbers p (x ∷ xs);
     acked = (laws.steady.lawful.newdata_grows numbers p (x ∷ xs) tt).offset;
@@ -69,7 +69,7 @@ module _ (m : AppSpec) (speaker : Speaker) (laws : HasOutputModel m speaker) whe
 
   -- taking captures
   pub record Prepared (p q : AppState) : Type 0 where
-    pub keeps : KeepsHeard speaker p q
+    pub keeps : KeepsReceived speaker p q
     pub more : List Snapshot
     pub snapshots : q.snapshots ≡ p.snapshots ++ more
     pub acked : q.acked ≡ p.acked

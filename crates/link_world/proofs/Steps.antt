@@ -1,25 +1,25 @@
 -- One step of a connection preserves what holds of it.
 use Rattle.link_world.proofs.Prelude.{◌≡◌, ℕ, ◌+◌, ◌<◌, ◌≤◌, min, Bool, true, false, not, ◌&&◌, inl, inr, List, [], ◌++◌, length, take, drop, refl, sym, ap, ◌∙◌, subst, arith, Option, Some, None, length-append, ltb, append_assoc, wrap, PlainSegment, has_fin, has_rst, has_ack, Beat, AppState, Snapshot, AppSpec, IsPrefixOf, MayWant, Now, State, Closed, SynRcvd, Established, CloseWait, FinWait1, FinWait2, Closing, TimeWait, LastAck, Want, Nothing, Send, Close, Abort, Connection, is_live, rcv_nxt, bare_ack, syn_ack, text_segment, fin_of, reset_of, Outcome, leaves, closes, after_own_fin, peer_has_closed, idles, does_as_wanted, prepared, ask, asked_for, asked, is_out_of_order, is_acked, rests, has_text, delivers_text, takes, with_part, in_state, with_window, connects, peer_closes, stays_established, in_established, fin_acked, fin_waits, by_state, on_segment, outstanding, grows_older, by_beat, on_tick, Step, AbstractClient, own_first, IsPart, prefix_part, prefix_length, prefix_joins, and_true, same_place, empty_part, zero_or_more, ltb-zero, in_place, choose, append_nothing, cut_part, both_ways, is_open, by_open, by_own_fin, fin_lives, on_tick_by, open_live}
-use Rattle.link_world.proofs.Later.{page_more, page_heard, prefix_grows, prefix_all}
-use Rattle.link_world.proofs.CleanClientInvariant.{Spoken, spoken, AtSyn, AtText, AtOpen, AtFin, ConnGood, StateGood, Moved, StepGood, SentGood, ClientSaid, IsData, Steady}
-use Rattle.link_world.proofs.CleanClientInvariant.NodeSaid.{node_reset, node_syn, node_ack, node_text, node_fin}
-use Rattle.link_world.proofs.CleanClientInvariant.ClientSaid.{said_reset, said_syn, said_data}
-use Rattle.link_world.proofs.Speaking.{Speaker, HasOutputModel, page_by, HearsSome, KeepsHeard, Received, hears_is, prepare_is, acked_is, wants_is}
+use Rattle.link_world.proofs.Later.{page_more, page_received, prefix_grows, prefix_all}
+use Rattle.link_world.proofs.CleanClientInvariant.{Spoken, spoken, AtSyn, AtText, AtOpen, AtFin, ConnGood, StateGood, Moved, StepGood, SentGood, ClientSent, IsData, Steady}
+use Rattle.link_world.proofs.CleanClientInvariant.NodeSent.{node_reset, node_syn, node_ack, node_text, node_fin}
+use Rattle.link_world.proofs.CleanClientInvariant.ClientSent.{sent_reset, sent_syn, sent_data}
+use Rattle.link_world.proofs.Speaking.{Speaker, HasOutputModel, page_by, ReceivesSome, KeepsReceived, Received, receives_is, prepare_is, acked_is, wants_is}
 
 module _ (m : AppSpec) (speaker : Speaker) (laws : HasOutputModel m speaker) where
   module _ (opened : Option ℕ) (client : AbstractClient) where
     -- what a connection may send
-    says_ack : (d : Connection) → is_live d.state ≡ true → SentGood speaker opened client d (bare_ack d)
-    says_ack d l = record { incarnations = λ e. l; output = node_ack refl record { no_syn = refl; no_fin = refl; no_text = refl } }
+    outputs_ack : (d : Connection) → is_live d.state ≡ true → SentGood speaker opened client d (bare_ack d)
+    outputs_ack d l = record { incarnations = λ e. l; output = node_ack refl record { no_syn = refl; no_fin = refl; no_text = refl } }
 
-    says_reset : (d c : Connection) → SentGood speaker opened client d (reset_of c)
-    says_reset d c = record { incarnations = λ e. absurd (let z : true ≡ false = e in cc); output = node_reset refl }
+    sends_reset : (d c : Connection) → SentGood speaker opened client d (reset_of c)
+    sends_reset d c = record { incarnations = λ e. absurd (let z : true ≡ false = e in cc); output = node_reset refl }
 
-    pub says_syn : (d : Connection) → is_live d.state ≡ true → d.acked ≡ 0 → SentGood speaker opened client d (syn_ack d)
-    says_syn d l z = record { incarnations = λ e. l; output = node_syn refl record { syn = refl; seq = ap wrap (omega (arith, z)) } }
+    pub sends_syn : (d : Connection) → is_live d.state ≡ true → d.acked ≡ 0 → SentGood speaker opened client d (syn_ack d)
+    sends_syn d l z = record { incarnations = λ e. l; output = node_syn refl record { syn = refl; seq = ap wrap (omega (arith, z)) } }
 
-    says_text : (d : Connection) → is_live d.state ≡ true → AtText speaker opened client d → SentGood speaker opened client d (text_segment m d)
-    says_text d l h =
+    sends_text : (d : Connection) → is_live d.state ≡ true → AtText speaker opened client d → SentGood speaker opened client d (text_segment m d)
+    sends_text d l h =
         let output : m.output d.part ≡ speaker.text d.part.input d.part.snapshots = laws.output d.part h.here in
         record {
           incarnations = λ e. l;
@@ -34,8 +34,8 @@ module _ (m : AppSpec) (speaker : Speaker) (laws : HasOutputModel m speaker) whe
           };
         }
 
-    says_fin : (d : Connection) → is_live d.state ≡ true → AtFin speaker opened client d → SentGood speaker opened client d (fin_of d)
-    says_fin d l h = record {
+    sends_fin : (d : Connection) → is_live d.state ≡ true → AtFin speaker opened client d → SentGood speaker opened client d (fin_of d)
+    sends_fin d l h = record {
       incarnations = λ e. l;
       output = node_fin refl h.opened_is record { no_syn = refl; is_fin = refl; no_text = refl; at = d.part.acked; ends = h.ends; seq = ap wrap (omega (arith, h.count)) };
     }
@@ -43,8 +43,8 @@ module _ (m : AppSpec) (speaker : Speaker) (laws : HasOutputModel m speaker) whe
     move_silent : (c d : Connection) → Moved speaker opened client c d → StepGood speaker opened client c (record { connection = d; sent = None })
     move_silent c d h = record { moved = h; output = λ s e. absurd (cc) }
 
-    move_says : (c d : Connection) (s : PlainSegment) → Moved speaker opened client c d → SentGood speaker opened client d s → StepGood speaker opened client c (record { connection = d; sent = Some s })
-    move_says c d s h g = record { moved = h; output = λ x e. subst (λ y. SentGood speaker opened client d y) (let e' : s ≡ x = cc in e') g }
+    move_sends : (c d : Connection) (s : PlainSegment) → Moved speaker opened client c d → SentGood speaker opened client d s → StepGood speaker opened client c (record { connection = d; sent = Some s })
+    move_sends c d s h g = record { moved = h; output = λ x e. subst (λ y. SentGood speaker opened client d y) (let e' : s ≡ x = cc in e') g }
 
     stays_good : (c : Connection) → ConnGood speaker opened client c → Moved speaker opened client c c
     stays_good c g = record { iss = refl; more = []; snapshots = sym (append_nothing c.part.snapshots); good = λ l. g }
@@ -92,20 +92,20 @@ module _ (m : AppSpec) (speaker : Speaker) (laws : HasOutputModel m speaker) whe
     wanted_good : (w : Want) (fresh : Bool) (c : Connection) (numbers : List ℕ) → is_open c.state ≡ true → ConnGood speaker opened client c → AtText speaker opened client c → MayWant (page_by speaker) c.part w →
         StepGood speaker opened client c (spoken m (does_as_wanted w fresh c numbers))
     unfolding idles
-    wanted_good Abort fresh c numbers o g h w = move_says c (closes c) (reset_of (closes c)) (closes_good c c refl refl) (says_reset (closes c) (closes c))
+    wanted_good Abort fresh c numbers o g h w = move_sends c (closes c) (reset_of (closes c)) (closes_good c c refl refl) (sends_reset (closes c) (closes c))
     wanted_good Close fresh c numbers o g h w =
         let d : Connection = record c { state = after_own_fin c.state; len = 1; age = 0 } in
         let a : AtFin speaker opened client d = record { opened_is = h.opened_is; ends = prefix_all m speaker laws client c.part.input c.part.snapshots c.part.acked h.input w.0 w.1; count = h.count; input = h.input } in
-        move_says c d (fin_of d) (turns c d refl refl g.irs (fin_state d c.state a)) (says_fin d (fin_lives c.state) a)
+        move_sends c d (fin_of d) (turns c d refl refl g.irs (fin_state d c.state a)) (sends_fin d (fin_lives c.state) a)
     wanted_good (Send n) fresh c numbers o g h w =
         let d : Connection = record c { len = min n c.mss; age = 0 } in
         let t : AtText speaker opened client d = like_text c d h.here refl refl h.count (omega (arith, w.1)) h in
-        move_says c d (text_segment m d) (turns c d refl refl g.irs (text_state c d c.state o g.state t refl refl refl)) (says_text d (open_live c.state o) t)
+        move_sends c d (text_segment m d) (turns c d refl refl g.irs (text_state c d c.state o g.state t refl refl refl)) (sends_text d (open_live c.state o) t)
     wanted_good Nothing fresh c numbers o g h w =
         choose (λ (x : Outcome). StepGood speaker opened client c (spoken m x)) (peer_has_closed c.state) _ _
-        (λ e. move_says c (closes c) (reset_of (closes c)) (closes_good c c refl refl) (says_reset (closes c) (closes c)))
+        (λ e. move_sends c (closes c) (reset_of (closes c)) (closes_good c c refl refl) (sends_reset (closes c) (closes c)))
         (λ e. choose (λ (x : Outcome). StepGood speaker opened client c (spoken m x)) fresh _ _
-        (λ f. move_says c c (bare_ack c) (stays_good c g) (says_ack c (open_live c.state o)))
+        (λ f. move_sends c c (bare_ack c) (stays_good c g) (outputs_ack c (open_live c.state o)))
         (λ f. move_silent c c (stays_good c g)))
 
     -- a step that ends by asking
@@ -149,11 +149,11 @@ module _ (m : AppSpec) (speaker : Speaker) (laws : HasOutputModel m speaker) whe
     asked_good snapshot c o h = asked_for_good snapshot c o.connection o.numbers o.step h
 
     -- the peer's text is in its request at the offset that the connection expects
-    said_part : (at_epoch : ℕ) (c : Connection) (s : PlainSegment) (n : ℕ) → Steady client → ClientSaid client opened at_epoch s → has_rst s.flags ≡ false →
+    sent_part : (at_epoch : ℕ) (c : Connection) (s : PlainSegment) (n : ℕ) → Steady client → ClientSent client opened at_epoch s → has_rst s.flags ≡ false →
         c.irs ≡ own_first client → c.taken ≡ n → n ≤ length client.request → (0 < length s.text → s.seq ≡ rcv_nxt c) → IsPart client.request s.text n
-    said_part at_epoch c s n steady (said_reset r) nr pf t l e = absurd (cc)
-    said_part at_epoch c s n steady (said_syn y) nr pf t l e = empty_part client.request s.text n (ap length y.no_text) l
-    said_part at_epoch c s n steady (said_data d) nr pf t l e =
+    sent_part at_epoch c s n steady (sent_reset r) nr pf t l e = absurd (cc)
+    sent_part at_epoch c s n steady (sent_syn y) nr pf t l e = empty_part client.request s.text n (ap length y.no_text) l
+    sent_part at_epoch c s n steady (sent_data d) nr pf t l e =
         elim (zero_or_more (length s.text)) [
           | inl z ↦ empty_part client.request s.text n z l
           | inr k ↦ (let a : s.seq ≡ wrap (own_first client + 1 + d.at) = d.seq k in
@@ -162,14 +162,14 @@ module _ (m : AppSpec) (speaker : Speaker) (laws : HasOutputModel m speaker) whe
               subst (λ x. IsPart client.request s.text x) f d.part)
         ]
 
-    is_data : (at_epoch : ℕ) (s : PlainSegment) → ClientSaid client opened at_epoch s → has_rst s.flags ≡ false → has_ack s.flags ≡ true → IsData client opened s
-    is_data at_epoch s (said_reset r) nr a = absurd (cc)
-    is_data at_epoch s (said_syn y) nr a = absurd (let n : has_ack s.flags ≡ false = y.no_ack in cc)
-    is_data at_epoch s (said_data d) nr a = d
+    is_data : (at_epoch : ℕ) (s : PlainSegment) → ClientSent client opened at_epoch s → has_rst s.flags ≡ false → has_ack s.flags ≡ true → IsData client opened s
+    is_data at_epoch s (sent_reset r) nr a = absurd (cc)
+    is_data at_epoch s (sent_syn y) nr a = absurd (let n : has_ack s.flags ≡ false = y.no_ack in cc)
+    is_data at_epoch s (sent_data d) nr a = d
 
     -- What is received of a text that follows what was received: a prefix of it, or nothing if the state is lost.
-    heard_prefix : (p q : AppState) (text : List ℕ) → IsPrefixOf p.input client.request → (speaker.lost p ≡ false → IsPart client.request text (length p.input)) → HearsSome speaker p q text → IsPrefixOf q.input client.request
-    heard_prefix p q text h t x =
+    received_prefix : (p q : AppState) (text : List ℕ) → IsPrefixOf p.input client.request → (speaker.lost p ≡ false → IsPart client.request text (length p.input)) → ReceivesSome speaker p q text → IsPrefixOf q.input client.request
+    received_prefix p q text h t x =
         both_ways (speaker.lost p)
         (λ l. subst (λ y. IsPrefixOf y client.request) (sym (x.no_more l).0) h)
         (λ l. let all : IsPrefixOf (p.input ++ text) client.request = prefix_joins client.request p.input text h (t l) in
@@ -179,8 +179,8 @@ module _ (m : AppSpec) (speaker : Speaker) (laws : HasOutputModel m speaker) whe
         })
 
     -- if the state is not lost afterwards, all of it is received
-    heard_whole : (p q : AppState) (text : List ℕ) → HearsSome speaker p q text → speaker.lost q ≡ false → (speaker.lost p ≡ false) × (length q.input ≡ length p.input + length text)
-    heard_whole p q text x l = (
+    received_whole : (p q : AppState) (text : List ℕ) → ReceivesSome speaker p q text → speaker.lost q ≡ false → (speaker.lost p ≡ false) × (length q.input ≡ length p.input + length text)
+    received_whole p q text x l = (
       both_ways (speaker.lost p) (λ y. absurd (let z : speaker.lost q ≡ true = (x.no_more y).1 in cc)) (λ y. y),
       elim (x.all) [
         | inl e ↦ (let t : x.prefix ≡ text = sym (append_nothing x.prefix) ∙ ap (λ y. x.prefix ++ y) (sym e) ∙ x.joined in
@@ -190,15 +190,15 @@ module _ (m : AppSpec) (speaker : Speaker) (laws : HasOutputModel m speaker) whe
     )
 
     -- text is received in ESTABLISHED; the state may change, and the peer's window
-    heard_text : (c d : Connection) (text : List ℕ) → AtText speaker opened client c → (speaker.lost c.part ≡ false → IsPart client.request text (length c.part.input)) → Received m speaker laws c.part d.part text → d.acked ≡ c.acked → d.len ≡ c.len → AtText speaker opened client d
-    heard_text c d text h p x ea el =
+    received_text : (c d : Connection) (text : List ℕ) → AtText speaker opened client c → (speaker.lost c.part ≡ false → IsPart client.request text (length c.part.input)) → Received m speaker laws c.part d.part text → d.acked ≡ c.acked → d.len ≡ c.len → AtText speaker opened client d
+    received_text c d text h p x ea el =
         let prefix : List ℕ = x.some.prefix in
         let e : length (speaker.text d.part.input d.part.snapshots) ≡ length (speaker.text (c.part.input ++ prefix) c.part.snapshots) = ap (λ q. length (speaker.text q d.part.snapshots)) x.some.input ∙ ap (λ q. length (speaker.text (c.part.input ++ prefix) q)) x.snapshots in
-        let more : length (speaker.text c.part.input c.part.snapshots) ≤ length (speaker.text (c.part.input ++ prefix) c.part.snapshots) = prefix_length (speaker.text c.part.input c.part.snapshots) (speaker.text (c.part.input ++ prefix) c.part.snapshots) (page_heard m speaker laws c.part.input prefix c.part.snapshots) in
+        let more : length (speaker.text c.part.input c.part.snapshots) ≤ length (speaker.text (c.part.input ++ prefix) c.part.snapshots) = prefix_length (speaker.text c.part.input c.part.snapshots) (speaker.text (c.part.input ++ prefix) c.part.snapshots) (page_received m speaker laws c.part.input prefix c.part.snapshots) in
         record {
           opened_is = h.opened_is;
           here = x.some.here;
-          input = heard_prefix c.part d.part text h.input p x.some;
+          input = received_prefix c.part d.part text h.input p x.some;
           fits = omega (arith, e, more, h.fits, x.acked, el);
           count = omega (arith, h.count, x.acked, ea);
         }
@@ -209,34 +209,34 @@ module _ (m : AppSpec) (speaker : Speaker) (laws : HasOutputModel m speaker) whe
     peer_closes_good : (c : Connection) (numbers : List ℕ) (s : PlainSegment) → c.irs ≡ own_first client → AtOpen speaker opened client c → (speaker.lost c.part ≡ false → IsPart client.request s.text (length c.part.input)) → OutGood c (peer_closes m c numbers s)
     unfolding peer_closes
     peer_closes_good c numbers s pf h part =
-        let x = hears_is m speaker laws numbers c.part s.text h.text.here in
+        let x = receives_is m speaker laws numbers c.part s.text h.text.here in
         let d : Connection = in_state CloseWait (with_window s.window (with_part (delivers_text m numbers c.part s.text).part (takes (length s.text + 1) c))) in
-        let t : AtText speaker opened client d = heard_text c d s.text h.text part x refl refl in
+        let t : AtText speaker opened client d = received_text c d s.text h.text part x refl refl in
         let w : Moved speaker opened client c d = turns c d refl x.snapshots pf t in
         choose (λ (o : Outcome). OutGood c o) (ltb 0 c.len) _ _
-        (λ e. move_says c d (bare_ack d) w (says_ack d refl))
+        (λ e. move_sends c d (bare_ack d) w (outputs_ack d refl))
         (λ e. record { moved = w; is_asked = refl; idle = ltb-zero c.len e })
 
     goes_on_good : (acked : Bool) (c : Connection) (numbers : List ℕ) (s : PlainSegment) → c.state ≡ Established → c.irs ≡ own_first client → AtOpen speaker opened client c → (speaker.lost c.part ≡ false → IsPart client.request s.text (length c.part.input)) → OutGood c (stays_established m acked c numbers s)
     unfolding stays_established
     goes_on_good acked c numbers s st pf h part =
-        let x = hears_is m speaker laws numbers c.part s.text h.text.here in
+        let x = receives_is m speaker laws numbers c.part s.text h.text.here in
         let d : Connection = with_window s.window (with_part (delivers_text m numbers c.part s.text).part (takes (length s.text) c)) in
-        let t : AtText speaker opened client d = heard_text c d s.text h.text part x refl refl in
-        let a : AtOpen speaker opened client d = record { text = t; taken = λ l. (let y = heard_whole c.part d.part s.text x.some l in omega (arith, h.taken y.0, y.1)) } in
+        let t : AtText speaker opened client d = received_text c d s.text h.text part x refl refl in
+        let a : AtOpen speaker opened client d = record { text = t; taken = λ l. (let y = received_whole c.part d.part s.text x.some l in omega (arith, h.taken y.0, y.1)) } in
         let w : Moved speaker opened client c d = turns c d refl x.snapshots pf (state_at d Established st a) in
         let l : is_live d.state ≡ true = ap is_live st in
         choose (λ (o : Outcome). OutGood c o) (not acked && not (has_text s)) _ _
         (λ e. move_silent c d w)
         (λ e. choose (λ (o : Outcome). OutGood c o) (ltb 0 c.len) _ _
-        (λ f. move_says c d (bare_ack d) w (says_ack d l))
+        (λ f. move_sends c d (bare_ack d) w (outputs_ack d l))
         (λ f. record { moved = w; is_asked = ap is_open st; idle = ltb-zero c.len f }))
 
-    established_good : (at_epoch : ℕ) (acked : Bool) (c : Connection) (numbers : List ℕ) (s : PlainSegment) → Steady client → ClientSaid client opened at_epoch s → has_rst s.flags ≡ false →
+    established_good : (at_epoch : ℕ) (acked : Bool) (c : Connection) (numbers : List ℕ) (s : PlainSegment) → Steady client → ClientSent client opened at_epoch s → has_rst s.flags ≡ false →
         c.state ≡ Established → c.irs ≡ own_first client → AtOpen speaker opened client c → (0 < length s.text → s.seq ≡ rcv_nxt c) → OutGood c (in_established m acked c numbers s)
     unfolding in_established
     established_good at_epoch acked c numbers s steady output nr st pf h e =
-        let part : speaker.lost c.part ≡ false → IsPart client.request s.text (length c.part.input) = λ l. said_part at_epoch c s (length c.part.input) steady output nr pf (h.taken l) (prefix_fits c h.text) e in
+        let part : speaker.lost c.part ≡ false → IsPart client.request s.text (length c.part.input) = λ l. sent_part at_epoch c s (length c.part.input) steady output nr pf (h.taken l) (prefix_fits c h.text) e in
         choose (λ (o : Outcome). OutGood c o) (has_fin s.flags) _ _
         (λ f. peer_closes_good c numbers s pf h part)
         (λ f. goes_on_good acked c numbers s st pf h part)
@@ -245,7 +245,7 @@ module _ (m : AppSpec) (speaker : Speaker) (laws : HasOutputModel m speaker) whe
     ack_text : (c : Connection) (numbers : List ℕ) → AtText speaker opened client c → AtText speaker opened client (with_part (m.acked numbers c.part c.len).part (rests c))
     ack_text c numbers h =
         let n : (m.acked numbers c.part c.len).part.acked ≡ c.part.acked + c.len = acked_is m speaker laws numbers c.part c.len h.here h.fits in
-        let x : KeepsHeard speaker c.part (m.acked numbers c.part c.len).part = laws.acked numbers c.part c.len h.here in
+        let x : KeepsReceived speaker c.part (m.acked numbers c.part c.len).part = laws.acked numbers c.part c.len h.here in
         like_text c (with_part (m.acked numbers c.part c.len).part (rests c)) x.here x.input (laws.steady.acked_snapshots numbers c.part c.len) (omega (arith, n, h.count)) (omega (arith, n, h.fits)) h
 
     out_from : (c b : Connection) (d : Connection) (s : Step) → b.iss ≡ c.iss → b.part.snapshots ≡ c.part.snapshots → OutBy b d s → OutBy c d s
@@ -261,15 +261,15 @@ module _ (m : AppSpec) (speaker : Speaker) (laws : HasOutputModel m speaker) whe
     out_from c b d (Step.Fin again) f k h = from_good c b (record { connection = d; sent = Some (fin_of d) }) [] f (k ∙ sym (append_nothing c.part.snapshots)) h
     out_from c b d Step.Reset f k h = from_good c b (record { connection = d; sent = Some (reset_of d) }) [] f (k ∙ sym (append_nothing c.part.snapshots)) h
 
-    connects_good : (at_epoch : ℕ) (c : Connection) (numbers : List ℕ) (s : PlainSegment) → Steady client → ClientSaid client opened at_epoch s → has_rst s.flags ≡ false → has_ack s.flags ≡ true →
+    connects_good : (at_epoch : ℕ) (c : Connection) (numbers : List ℕ) (s : PlainSegment) → Steady client → ClientSent client opened at_epoch s → has_rst s.flags ≡ false → has_ack s.flags ≡ true →
         c.irs ≡ own_first client → AtSyn speaker c → (0 < length s.text → s.seq ≡ rcv_nxt c) → OutGood c (connects m c numbers s)
     connects_good at_epoch c numbers s steady output nr ac pf h e =
         let reported = is_data at_epoch s output nr ac in
         let start : AppState = (m.connected numbers c.sockets.own_port.0).part in
-        let x = hears_is m speaker laws (m.connected numbers c.sockets.own_port.0).numbers start s.text (laws.connected_here numbers c.sockets.own_port.0 h.port) in
+        let x = receives_is m speaker laws (m.connected numbers c.sockets.own_port.0).numbers start s.text (laws.connected_here numbers c.sockets.own_port.0 h.port) in
         let d : Connection = with_part (delivers_text m (m.connected numbers c.sockets.own_port.0).numbers start s.text).part (takes (length s.text) (in_state Established (rests c))) in
         let none : start.input ≡ [] = laws.connected_input numbers c.sockets.own_port.0 h.port in
-        let part : IsPart client.request s.text 0 = said_part at_epoch c s 0 steady output nr pf h.taken (omega arith) e in
+        let part : IsPart client.request s.text 0 = sent_part at_epoch c s 0 steady output nr pf h.taken (omega arith) e in
         let begins : IsPrefixOf start.input client.request = subst (λ q. IsPrefixOf q client.request) (sym none) record { rest = client.request; joined = refl } in
         let acked : d.part.acked ≡ 0 = x.acked ∙ laws.steady.connected_acked numbers c.sockets.own_port.0 in
         let k : d.part.snapshots ≡ [] = x.snapshots ∙ laws.steady.connected_snapshots numbers c.sockets.own_port.0 in
@@ -278,17 +278,17 @@ module _ (m : AppSpec) (speaker : Speaker) (laws : HasOutputModel m speaker) whe
             text = record {
               opened_is = reported.opened_is;
               here = x.some.here;
-              input = heard_prefix start d.part s.text begins (λ l. subst (λ n. IsPart client.request s.text n) (sym (ap length none)) part) x.some;
+              input = received_prefix start d.part s.text begins (λ l. subst (λ n. IsPart client.request s.text n) (sym (ap length none)) part) x.some;
               fits = omega (arith, acked);
               count = omega (arith, acked, h.acked, h.len);
             };
-            taken = λ l. (let y = heard_whole start d.part s.text x.some l in omega (arith, h.taken, y.1, ap length none));
+            taken = λ l. (let y = received_whole start d.part s.text x.some l in omega (arith, h.taken, y.1, ap length none));
           };
           is_asked = refl;
           idle = refl;
         }
 
-    by_state_good : (at_epoch : ℕ) (st : State) (acked : Bool) (c : Connection) (numbers : List ℕ) (s : PlainSegment) → Steady client → ClientSaid client opened at_epoch s → has_rst s.flags ≡ false →
+    by_state_good : (at_epoch : ℕ) (st : State) (acked : Bool) (c : Connection) (numbers : List ℕ) (s : PlainSegment) → Steady client → ClientSent client opened at_epoch s → has_rst s.flags ≡ false →
         c.state ≡ st → c.irs ≡ own_first client → StateGood speaker opened client c st → is_acked c s ≡ acked → (0 < length s.text → s.seq ≡ rcv_nxt c) → is_live st ≡ true →
         OutGood c (by_state m st acked c numbers s)
     unfolding fin_acked fin_waits
@@ -313,24 +313,24 @@ module _ (m : AppSpec) (speaker : Speaker) (laws : HasOutputModel m speaker) whe
         move_silent c d (turns c d refl refl pf (state_at d CloseWait st u))
     by_state_good at_epoch FinWait1 true c numbers s steady output nr st pf h ac e lv =
         choose (λ (o : Outcome). OutGood c o) (has_fin s.flags) _ _
-        (λ f. let d : Connection = in_state TimeWait (takes (length s.text + 1) (rests c)) in move_says c d (bare_ack d) (turns c d refl refl pf record { opened_is = h.opened_is; input = h.input }) (says_ack d refl))
+        (λ f. let d : Connection = in_state TimeWait (takes (length s.text + 1) (rests c)) in move_sends c d (bare_ack d) (turns c d refl refl pf record { opened_is = h.opened_is; input = h.input }) (outputs_ack d refl))
         (λ f. let d : Connection = in_state FinWait2 (takes (length s.text) (rests c)) in move_silent c d (turns c d refl refl pf record { opened_is = h.opened_is; input = h.input }))
     by_state_good at_epoch FinWait1 false c numbers s steady output nr st pf h ac e lv =
         let g : ConnGood speaker opened client c = record { irs = pf; state = state_at c FinWait1 st h } in
         choose (λ (o : Outcome). OutGood c o) (has_fin s.flags) _ _
         (λ f. let d : Connection = in_state Closing (takes (length s.text + 1) c) in
         let a : AtFin speaker opened client d = record { opened_is = h.opened_is; ends = h.ends; count = h.count; input = h.input } in
-        move_says c d (bare_ack d) (turns c d refl refl pf a) (says_ack d refl))
+        move_sends c d (bare_ack d) (turns c d refl refl pf a) (outputs_ack d refl))
         (λ f. choose (λ (o : Outcome). OutGood c o) (has_text s) _ _
         (λ i. let d : Connection = takes (length s.text) c in
         let a : AtFin speaker opened client d = record { opened_is = h.opened_is; ends = h.ends; count = h.count; input = h.input } in
-        move_says c d (bare_ack d) (turns c d refl refl pf (state_at d FinWait1 st a)) (says_ack d (ap is_live st)))
+        move_sends c d (bare_ack d) (turns c d refl refl pf (state_at d FinWait1 st a)) (outputs_ack d (ap is_live st)))
         (λ i. move_silent c c (stays_good c g)))
     by_state_good at_epoch FinWait2 acked c numbers s steady output nr st pf h ac e lv =
         choose (λ (o : Outcome). OutGood c o) (has_fin s.flags) _ _
-        (λ f. let d : Connection = record (in_state TimeWait (takes (length s.text + 1) c)) { age = 0 } in move_says c d (bare_ack d) (turns c d refl refl pf record { opened_is = h.opened_is; input = h.input }) (says_ack d refl))
+        (λ f. let d : Connection = record (in_state TimeWait (takes (length s.text + 1) c)) { age = 0 } in move_sends c d (bare_ack d) (turns c d refl refl pf record { opened_is = h.opened_is; input = h.input }) (outputs_ack d refl))
         (λ f. choose (λ (o : Outcome). OutGood c o) (has_text s) _ _
-        (λ i. let d : Connection = takes (length s.text) c in move_says c d (bare_ack d) (turns c d refl refl pf (state_at d FinWait2 st record { opened_is = h.opened_is; input = h.input })) (says_ack d (ap is_live st)))
+        (λ i. let d : Connection = takes (length s.text) c in move_sends c d (bare_ack d) (turns c d refl refl pf (state_at d FinWait2 st record { opened_is = h.opened_is; input = h.input })) (outputs_ack d (ap is_live st)))
         (λ i. move_silent c c (stays_good c record { irs = pf; state = state_at c FinWait2 st h })))
     by_state_good at_epoch Closing true c numbers s steady output nr st pf h ac e lv =
         let d : Connection = in_state TimeWait (rests c) in move_silent c d (turns c d refl refl pf record { opened_is = h.opened_is; input = h.input })
@@ -338,17 +338,17 @@ module _ (m : AppSpec) (speaker : Speaker) (laws : HasOutputModel m speaker) whe
     by_state_good at_epoch LastAck true c numbers s steady output nr st pf h ac e lv = move_silent c (closes (rests c)) (closes_good c (rests c) refl refl)
     by_state_good at_epoch LastAck false c numbers s steady output nr st pf h ac e lv = move_silent c c (stays_good c record { irs = pf; state = state_at c LastAck st h })
     by_state_good at_epoch TimeWait acked c numbers s steady output nr st pf h ac e lv =
-        move_says c c (bare_ack c) (stays_good c record { irs = pf; state = state_at c TimeWait st h }) (says_ack c (ap is_live st))
+        move_sends c c (bare_ack c) (stays_good c record { irs = pf; state = state_at c TimeWait st h }) (outputs_ack c (ap is_live st))
 
     -- a segment of its client
-    pub on_segment_good : (at_epoch : ℕ) (c : Connection) (numbers : List ℕ) (s : PlainSegment) → Steady client → ClientSaid client opened at_epoch s → ConnGood speaker opened client c → is_live c.state ≡ true →
+    pub on_segment_good : (at_epoch : ℕ) (c : Connection) (numbers : List ℕ) (s : PlainSegment) → Steady client → ClientSent client opened at_epoch s → ConnGood speaker opened client c → is_live c.state ≡ true →
         OutGood c (on_segment m c numbers s)
     unfolding on_segment
     on_segment_good at_epoch c numbers s steady output g lv =
         choose (λ (o : Outcome). OutGood c o) (has_rst s.flags) _ _
         (λ r. move_silent c (closes c) (closes_good c c refl refl))
         (λ r. choose (λ (o : Outcome). OutGood c o) (is_out_of_order c s) _ _
-        (λ f. move_says c c (bare_ack c) (stays_good c g) (says_ack c lv))
+        (λ f. move_sends c c (bare_ack c) (stays_good c g) (outputs_ack c lv))
         (λ f. by_state_good at_epoch c.state (is_acked c s) c numbers s steady output r refl g.irs g.state refl (in_place s (rcv_nxt c) f) lv))
 
     -- the timer
@@ -369,19 +369,19 @@ module _ (m : AppSpec) (speaker : Speaker) (laws : HasOutputModel m speaker) whe
     -- what is outstanding is sent again
     again_good : (c d : Connection) (st : State) → Moved speaker opened client c d → d.state ≡ st → StateGood speaker opened client d st → OutBy c d (outstanding true st)
     again_good c d Closed w e h = move_silent c d w
-    again_good c d SynRcvd w e h = move_says c d (syn_ack d) w (says_syn d (ap is_live e) h.acked)
-    again_good c d Established w e h = move_says c d (text_segment m d) w (says_text d (ap is_live e) h.text)
-    again_good c d CloseWait w e h = move_says c d (text_segment m d) w (says_text d (ap is_live e) h)
-    again_good c d FinWait1 w e h = move_says c d (fin_of d) w (says_fin d (ap is_live e) h)
+    again_good c d SynRcvd w e h = move_sends c d (syn_ack d) w (sends_syn d (ap is_live e) h.acked)
+    again_good c d Established w e h = move_sends c d (text_segment m d) w (sends_text d (ap is_live e) h.text)
+    again_good c d CloseWait w e h = move_sends c d (text_segment m d) w (sends_text d (ap is_live e) h)
+    again_good c d FinWait1 w e h = move_sends c d (fin_of d) w (sends_fin d (ap is_live e) h)
     again_good c d FinWait2 w e h = move_silent c d w
-    again_good c d Closing w e h = move_says c d (fin_of d) w (says_fin d (ap is_live e) h)
+    again_good c d Closing w e h = move_sends c d (fin_of d) w (sends_fin d (ap is_live e) h)
     again_good c d TimeWait w e h = move_silent c d w
-    again_good c d LastAck w e h = move_says c d (fin_of d) w (says_fin d (ap is_live e) h)
+    again_good c d LastAck w e h = move_sends c d (fin_of d) w (sends_fin d (ap is_live e) h)
 
     by_beat_good : (b : Beat) (c : Connection) (numbers : List ℕ) → ConnGood speaker opened client c → OutGood c (by_beat m b c numbers)
     by_beat_good Beat.Wait c numbers g = move_silent c (grows_older c) (older_moved c g)
     by_beat_good Beat.Again c numbers g = again_good c (grows_older c) c.state (older_moved c g) refl (older c c.state g.state)
-    by_beat_good Beat.GiveUp c numbers g = move_says c (closes c) (reset_of (closes c)) (closes_good c c refl refl) (says_reset (closes c) (closes c))
+    by_beat_good Beat.GiveUp c numbers g = move_sends c (closes c) (reset_of (closes c)) (closes_good c c refl refl) (sends_reset (closes c) (closes c))
 
     pub on_tick_good : (c : Connection) (numbers : List ℕ) → ConnGood speaker opened client c → OutGood c (on_tick m c numbers)
     on_tick_good c numbers g = on_tick_by m (λ o. OutGood c o) c numbers record {
@@ -391,7 +391,7 @@ module _ (m : AppSpec) (speaker : Speaker) (laws : HasOutputModel m speaker) whe
       ends = move_silent c (closes c) (closes_good c c refl refl);
       polled = λ e z.
           (let h : AtOpen speaker opened client c = subst (λ st. StateGood speaker opened client c st) e g.state in
-          let x : KeepsHeard speaker c.part (m.polled numbers c.part).part = laws.polled numbers c.part h.text.here in
+          let x : KeepsReceived speaker c.part (m.polled numbers c.part).part = laws.polled numbers c.part h.text.here in
           let a : (m.polled numbers c.part).part.acked ≡ c.part.acked = (laws.steady.lawful.polled_keeps numbers c.part tt).1 in
           let k : (m.polled numbers c.part).part.snapshots ≡ c.part.snapshots = laws.steady.polled_snapshots numbers c.part in
           let d : Connection = with_part (m.polled numbers c.part).part c in

@@ -1,5 +1,5 @@
 -- The numbers of a connection beside those of its application's state, whatever happens.
-use Rattle.link_world.proofs.Prelude.{◌≡◌, ℕ, ◌+◌, ◌≤◌, Bool, true, false, not, ◌&&◌, inl, inr, List, [], ◌++◌, length, refl, sym, ap, ◌∙◌, subst, arith, length-append, ltb, PlainSegment, has_fin, has_rst, Beat, AppSpec, Pages, IsPaged, Now, State, Closed, SynRcvd, Established, CloseWait, FinWait1, FinWait2, Closing, TimeWait, LastAck, Want, Nothing, Send, Close, Abort, Connection, Sockets, closed, is_live, Outcome, after_own_fin, closes, peer_has_closed, idles, does_as_wanted, prepared, asked, accepted, delivers_text, is_out_of_order, is_acked, rests, has_text, in_state, takes, with_part, with_window, in_established, peer_closes, stays_established, fin_acked, fin_waits, by_state, on_segment, grows_older, by_beat, on_tick, Step, HasTextNumbers, choose, is_open, asked_by, by_open, by_own_fin, is_ask, no_ask_again, on_tick_by, open_live, Received, hears_is}
+use Rattle.link_world.proofs.Prelude.{◌≡◌, ℕ, ◌+◌, ◌≤◌, Bool, true, false, not, ◌&&◌, inl, inr, List, [], ◌++◌, length, refl, sym, ap, ◌∙◌, subst, arith, length-append, ltb, PlainSegment, has_fin, has_rst, Beat, AppSpec, Pages, IsPaged, Now, State, Closed, SynRcvd, Established, CloseWait, FinWait1, FinWait2, Closing, TimeWait, LastAck, Want, Nothing, Send, Close, Abort, Connection, Sockets, closed, is_live, Outcome, after_own_fin, closes, peer_has_closed, idles, does_as_wanted, prepared, asked, accepted, delivers_text, is_out_of_order, is_acked, rests, has_text, in_state, takes, with_part, with_window, in_established, peer_closes, stays_established, fin_acked, fin_waits, by_state, on_segment, grows_older, by_beat, on_tick, Step, HasTextNumbers, choose, is_open, asked_by, by_open, by_own_fin, is_ask, no_ask_again, on_tick_by, open_live, Received, receives_is}
 
 -- the numbers, by the state
 abbrev AtNumbers : State → Connection → Type 0
@@ -73,7 +73,7 @@ module _ (m : AppSpec) (pages : Pages) (lawful : IsPaged m pages) where
   closes_in : (c : Connection) (numbers : List ℕ) (s : PlainSegment) → c.acked ≡ 1 + c.part.acked → c.taken ≡ length c.part.input → OutNum (peer_closes m c numbers s)
   unfolding peer_closes
   closes_in c numbers s a t =
-      let x : Received m pages lawful c.part (delivers_text m numbers c.part s.text).part s.text = hears_is m pages lawful numbers c.part s.text in
+      let x : Received m pages lawful c.part (delivers_text m numbers c.part s.text).part s.text = receives_is m pages lawful numbers c.part s.text in
       let d : Connection = in_state CloseWait (with_window s.window (with_part (delivers_text m numbers c.part s.text).part (takes (length s.text + 1) c))) in
       let g : Num d = record { at = (omega (arith, a, x.acked), omega (arith, t, ap length x.input, length-append c.part.input s.text)) } in
       choose (λ (o : Outcome). OutNum o) (ltb 0 c.len) _ _ (λ e. record { num = g; open_there = λ z. refl }) (λ e. record { num = g; open_there = λ z. refl })
@@ -81,7 +81,7 @@ module _ (m : AppSpec) (pages : Pages) (lawful : IsPaged m pages) where
   goes_on_in : (acked : Bool) (c : Connection) (numbers : List ℕ) (s : PlainSegment) → c.state ≡ Established → c.acked ≡ 1 + c.part.acked → c.taken ≡ length c.part.input → OutNum (stays_established m acked c numbers s)
   unfolding stays_established
   goes_on_in acked c numbers s st a t =
-      let x : Received m pages lawful c.part (delivers_text m numbers c.part s.text).part s.text = hears_is m pages lawful numbers c.part s.text in
+      let x : Received m pages lawful c.part (delivers_text m numbers c.part s.text).part s.text = receives_is m pages lawful numbers c.part s.text in
       let d : Connection = with_window s.window (with_part (delivers_text m numbers c.part s.text).part (takes (length s.text) c)) in
       let g : Num d = num_at d Established st (omega (arith, a, x.acked), omega (arith, t, ap length x.input, length-append c.part.input s.text)) in
       let o : is_open d.state ≡ true = ap is_open st in
@@ -101,7 +101,7 @@ module _ (m : AppSpec) (pages : Pages) (lawful : IsPaged m pages) where
   by_state_num SynRcvd true c numbers s e h =
       let port : ℕ = c.sockets.own_port.0 in
       let start = m.connected numbers port in
-      let x : Received m pages lawful start.part (delivers_text m start.numbers start.part s.text).part s.text = hears_is m pages lawful start.numbers start.part s.text in
+      let x : Received m pages lawful start.part (delivers_text m start.numbers start.part s.text).part s.text = receives_is m pages lawful start.numbers start.part s.text in
       let none : start.part.input ≡ [] = lawful.connected_input numbers port in
       let zero : start.part.acked ≡ 0 = lawful.connected_acked numbers port in
       let text : length (delivers_text m start.numbers start.part s.text).part.input ≡ length s.text = ap length x.input ∙ ap (λ l. length (l ++ s.text)) none in

@@ -3,8 +3,8 @@ use Rattle.link_world.proofs.Prelude.{◌≡◌, ℕ, zero, suc, ◌+◌, ◌<�
 use Rattle.link_world.proofs.Speaking.{Speaker, HasOutputModel}
 use Rattle.link_world.proofs.Clients.{not_opening}
 use Rattle.link_world.proofs.Later.{part_later, all_later, node_later, client_later}
-use Rattle.link_world.proofs.CleanClientInvariant.{is_some, seg, from, to, AtText, AtFin, AtRest, StateGood, ConnGood, NodeSaid, Moved, FromGood, ToGood, HasOpened, OpenedGood, Good, TookGood}
-use Rattle.link_world.proofs.CleanClientInvariant.NodeSaid.{node_reset}
+use Rattle.link_world.proofs.CleanClientInvariant.{is_some, seg, from, to, AtText, AtFin, AtRest, StateGood, ConnGood, NodeSent, Moved, FromGood, ToGood, HasOpened, OpenedGood, Good, TookGood}
+use Rattle.link_world.proofs.CleanClientInvariant.NodeSent.{node_reset}
 
 -- the captures of an epoch only grow, and its first number stays
 pub record EraLater (a b : PastConnection) : Type 0 where
@@ -100,8 +100,8 @@ onward_born history c d n l = record {
 }
 
 module _ (m : AppSpec) (speaker : Speaker) (laws : HasOutputModel m speaker) where
-  pub reset_said : (c d : AbstractClient) (P Q : Type 0) (f g : ℕ) (k l : List Snapshot) (s : PlainSegment) → has_rst s.flags ≡ true → NodeSaid speaker c P f k s → NodeSaid speaker d Q g l s
-  reset_said c d P Q f g k l s r h = node_reset r
+  pub reset_sent : (c d : AbstractClient) (P Q : Type 0) (f g : ℕ) (k l : List Snapshot) (s : PlainSegment) → has_rst s.flags ≡ true → NodeSent speaker c P f k s → NodeSent speaker d Q g l s
+  reset_sent c d P Q f g k l s r h = node_reset r
 
   to_onward : (client : AbstractClient) (opened : Option ℕ) (history history' : List PastConnection) (c c' : Connection) (e : Sent) → Onward history c history' c' → ToGood speaker client opened history c e → ToGood speaker client opened history' c' e
   to_onward client opened history history' c c' e o g = record {

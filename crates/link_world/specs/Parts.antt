@@ -33,7 +33,7 @@ pub record IsFin (pages : Pages) (side : Side) (epoch : ℕ) (era : PastConnecti
 
 -- A segment of the node to a client, without RST. A SYN-ACK has the ISS of its connection. Text is a slice of the page at its offset, and
 -- a FIN follows the whole page. Both are sent only in the epoch in which the client opened.
-pub record SaysPage (pages : Pages) (side : Side) (epoch : ℕ) (era : PastConnection) (s : PlainSegment) : Type 0 where
+pub record SendsPage (pages : Pages) (side : Side) (epoch : ℕ) (era : PastConnection) (s : PlainSegment) : Type 0 where
   pub syn : has_syn s.flags ≡ true → s.seq ≡ wrap era.iss
   pub text : has_syn s.flags ≡ false → 0 < length s.text → IsText pages side epoch era s
   pub fin : has_syn s.flags ≡ false → has_fin s.flags ≡ true → IsFin pages side epoch era s
@@ -67,7 +67,7 @@ pub record HasTaken (client : AbstractClient) (c : Connection) : Type 0 where
 pub record HasParts (pages : Pages) (w : World) (number : ℕ) (side : Side) (c : Connection) : Type 0 where
   pub of_node : (i : ℕ) (e : Sent) (id : ℕ) (s : PlainSegment) → slice_get w.sent i ≡ Some e → e.who ≡ FromNode number
       → e.content ≡ OfSegment id s → has_rst s.flags ≡ false →
-      SaysPage pages side e.epoch (era side.history c e.epoch) s
+      SendsPage pages side e.epoch (era side.history c e.epoch) s
   pub of_client : (i : ℕ) (e : Sent) (id : ℕ) (s : PlainSegment) → slice_get w.sent i ≡ Some e → e.who ≡ FromClient number
       → e.content ≡ OfSegment id s → has_rst s.flags ≡ false → 0 < length s.text →
       AsksRequest side s

@@ -13,7 +13,7 @@ pub use Rattle.link_world.specs.History.{IsPlan, IsPlanned, Planned, Start, capt
 pub use Rattle.link_world.specs.History.{initial_world, page_of, planned_of, sockets_in, started}
 pub use Rattle.link_world.specs.Honest.{HonestLink, IsServedWhole}
 pub use Rattle.link_world.specs.Nodes.{CapturesFit, HasTextNumbers, IsOfNode, TextNumbers, TextsAreShort}
-pub use Rattle.link_world.specs.Parts.{AsksRequest, CleanParts, HasOneEpoch, HasTaken, SaysPage}
+pub use Rattle.link_world.specs.Parts.{AsksRequest, CleanParts, HasOneEpoch, HasTaken, SendsPage}
 pub use Rattle.link_world.specs.Reading.{BytesAreRead, IsNumberOf, IsRead, IsSentBy, SentToClients}
 pub use Rattle.link_world.specs.Schedule.{BadLine, acts_of, mark_after, past_mark, plays, plays_from, plays_line}
 pub use Rattle.link_world.specs.Times.{AcknowledgedLater, EpochsAreFew, IsLater, MarkIsLow, NoneIsEmpty, OneConnection, SidesAsPlanned}

@@ -155,15 +155,15 @@ module _ (m : AppSpec) (steady : IsSteady m) (port : ℕ) (model : OutputModel) 
       only_text (suc back) l = absurd (omega (arith, l))
 
   current_longer : (c d : Connection) (x : Exchange) (incarnation : List Exchange) (v : Current c incarnation) → Onward m steady port model laws c incarnation v.good d x → Current d (x ∷ incarnation)
-  current_longer c d x incarnation v o = record { good = o.good; promise = record { account = with_newest o.good.kept.account v.promise.account; holds = keeps_on; conforms = tells_on; grows = grows_on }; newest = refl }
+  current_longer c d x incarnation v o = record { good = o.good; promise = record { account = with_newest o.good.kept.account v.promise.account; holds = keeps_on; conforms = reports_on; grows = grows_on }; newest = refl }
     where
       keeps_on : (back : ℕ) → back < length (x ∷ incarnation) → AccountHolds (drop back (x ∷ incarnation)) (with_newest o.good.kept.account v.promise.account back)
       keeps_on zero l = keeps_account model (x ∷ incarnation) o.good.kept
       keeps_on (suc back) l = v.promise.holds back (omega (arith, l))
 
-      tells_on : (back : ℕ) → back < length (x ∷ incarnation) → TextConforms model (drop back (x ∷ incarnation)) (with_newest o.good.kept.account v.promise.account back)
-      tells_on zero l = keeps_text m port model laws (x ∷ incarnation) o.good.kept
-      tells_on (suc back) l = v.promise.conforms back (omega (arith, l))
+      reports_on : (back : ℕ) → back < length (x ∷ incarnation) → TextConforms model (drop back (x ∷ incarnation)) (with_newest o.good.kept.account v.promise.account back)
+      reports_on zero l = keeps_text m port model laws (x ∷ incarnation) o.good.kept
+      reports_on (suc back) l = v.promise.conforms back (omega (arith, l))
 
       grows_on : (back : ℕ) → suc back < length (x ∷ incarnation) → IsExtendedBy (with_newest o.good.kept.account v.promise.account (suc back)) (with_newest o.good.kept.account v.promise.account back)
       grows_on zero l = subst (λ a. IsExtendedBy a o.good.kept.account) (sym v.newest) o.grew

@@ -9,14 +9,14 @@ use Rattle.node_laws.proofs.Steps.{LineStep, OfNode, Changes, IsStep, all_happen
 abbrev NoEcho : NodeStep → Type 0
 NoEcho r = (request : List ℕ) → r.sent ≡ Some (Echo request) → ⊥
 
-no_echo_said : (output : Option PlainSegment) (sockets : Sockets) (id : ℕ) (again : Bool) (request : List ℕ) → option_map (λ s. TcpReply sockets id again s) output ≡ Some (Echo request) → ⊥
-no_echo_said None sockets id again request e = absurd (cc)
-no_echo_said (Some s) sockets id again request e = absurd (cc)
+no_echo_sent : (output : Option PlainSegment) (sockets : Sockets) (id : ℕ) (again : Bool) (request : List ℕ) → option_map (λ s. TcpReply sockets id again s) output ≡ Some (Echo request) → ⊥
+no_echo_sent None sockets id again request e = absurd (cc)
+no_echo_sent (Some s) sockets id again request e = absurd (cc)
 
 module _ (m : AppSpec) (served : ℕ → Bool) where
   happened_no : (n : AbstractNode) (event : Event) (slot : ℕ) (old : Connection) (o : Outcome) → NoEcho (happened m n event slot old o)
   unfolding happened
-  happened_no n event slot old o request e = no_echo_said (segment_of m o.connection o.step) o.connection.sockets (ident_of (happened m n event slot old o).node.history) (is_again o.step) request e
+  happened_no n event slot old o request e = no_echo_sent (segment_of m o.connection o.step) o.connection.sockets (ident_of (happened m n event slot old o).node.history) (is_again o.step) request e
 
   opens_no : (n : AbstractNode) (q : Sockets) (s : PlainSegment) (slot : Option ℕ) → NoEcho (opens_at m n q s slot)
   unfolding opens_in

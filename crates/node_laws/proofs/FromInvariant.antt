@@ -35,15 +35,15 @@ pub grows_refl : (a : Account) → IsExtendedBy a a
 grows_refl a = record { irs = refl; iss = refl; peer_mss = refl; input = prefix_refl a.input; snapshots = ([], append_nothing a.snapshots); stream = prefix_refl a.stream }
 
 -- the exchange in which something was sent
-pub record SaidIn (incarnation : List Exchange) (k : ℕ) (s : PlainSegment) : Type 0 where
+pub record SentIn (incarnation : List Exchange) (k : ℕ) (s : PlainSegment) : Type 0 where
   pub exchange : Exchange
   pub there : slice_get incarnation k ≡ Some exchange
   pub output : exchange.output ≡ Some s
 
-pub said_in : (incarnation : List Exchange) (k : ℕ) (s : PlainSegment) → sent_at incarnation k ≡ Some s → SaidIn incarnation k s
-said_in [] k s h = absurd (cc)
-said_in (x ∷ incarnation) zero s h = record { exchange = x; there = refl; output = h }
-said_in (x ∷ incarnation) (suc k) s h = let r = said_in incarnation k s h in record { exchange = r.exchange; there = r.there; output = r.output }
+pub sent_text_in : (incarnation : List Exchange) (k : ℕ) (s : PlainSegment) → sent_at incarnation k ≡ Some s → SentIn incarnation k s
+sent_text_in [] k s h = absurd (cc)
+sent_text_in (x ∷ incarnation) zero s h = record { exchange = x; there = refl; output = h }
+sent_text_in (x ∷ incarnation) (suc k) s h = let r = sent_text_in incarnation k s h in record { exchange = r.exchange; there = r.there; output = r.output }
 
 -- what was received before is received
 pub received_on : (iss : ℕ) (x : Exchange) (incarnation : List Exchange) (text : List ℕ) → IsReceived iss incarnation text → IsReceived iss (x ∷ incarnation) text

@@ -1,5 +1,5 @@
 -- The connection with an honest peer: at each segment of its peer it sends what the application has next.
-use Rattle.node_laws.proofs.Prelude.{All, option_map_or, ◌≡◌, ℕ, suc, ◌+◌, ◌<◌, ◌≤◌, ◌==◌, min, Bool, true, false, if◌then◌else◌, not, ◌&&◌, inl, inr, List, [], ◌∷◌, ◌++◌, length, take, drop, refl, sym, ap, ◌∙◌, subst, arith, Option, Some, None, is_some, eqb, ltb, length-append, eq-eqb, take-append-le, take_all, length-take-le, common_steps, take-add, wrap, PlainSegment, has_fin, has_rst, has_ack, beat_at, Beat, AppState, After, AppSpec, IsPrefixOf, Pages, IsPaged, IsU32, IsNow, IsSnapshot, MayWant, Now, Reset, State, SynRcvd, Established, FinWait1, Want, Nothing, Send, Close, Abort, Sockets, Connection, is_live, serves, snd_una, rcv_nxt, occupies_sequence_space, segment_of, bare_ack, fin_of, reset_of, syn_ack, text_segment, Outcome, leaves, closes, idles, does_as_wanted, ask, asked, reported_end, peer_closes, is_out_of_order, is_acked, has_text, delivers_text, with_window, stays_established, in_established, by_state, on_segment, Step, choose, ltb-yes, cut_length, wrap_wrap, prefix_length, append_nothing, zero_or_more, same_place, is_time_wait, same_self, FitOut, prepared_snapshots, steady_of, hears_is, prepare_is, Exchange, AnswersPolled, GoesOnBy, Asker, text_received, awaits_ack, is_bare_ack, bare_acks, SendsNext, HasItsPage}
+use Rattle.node_laws.proofs.Prelude.{All, option_map_or, ◌≡◌, ℕ, suc, ◌+◌, ◌<◌, ◌≤◌, ◌==◌, min, Bool, true, false, if◌then◌else◌, not, ◌&&◌, inl, inr, List, [], ◌∷◌, ◌++◌, length, take, drop, refl, sym, ap, ◌∙◌, subst, arith, Option, Some, None, is_some, eqb, ltb, length-append, eq-eqb, take-append-le, take_all, length-take-le, common_steps, take-add, wrap, PlainSegment, has_fin, has_rst, has_ack, beat_at, Beat, AppState, After, AppSpec, IsPrefixOf, Pages, IsPaged, IsU32, IsNow, IsSnapshot, MayWant, Now, Reset, State, SynRcvd, Established, FinWait1, Want, Nothing, Send, Close, Abort, Sockets, Connection, is_live, serves, snd_una, rcv_nxt, occupies_sequence_space, segment_of, bare_ack, fin_of, reset_of, syn_ack, text_segment, Outcome, leaves, closes, idles, does_as_wanted, ask, asked, reported_end, peer_closes, is_out_of_order, is_acked, has_text, delivers_text, with_window, stays_established, in_established, by_state, on_segment, Step, choose, ltb-yes, cut_length, wrap_wrap, prefix_length, append_nothing, zero_or_more, same_place, is_time_wait, same_self, FitOut, prepared_snapshots, steady_of, receives_is, prepare_is, Exchange, AnswersPolled, GoesOnBy, Asker, text_received, awaits_ack, is_bare_ack, bare_acks, SendsNext, HasItsPage}
 use Rattle.tcp_machine.specs.OnTick.{by_beat, limit_of, on_tick, polls as polled_by, ticks_established}
 use Rattle.node_laws.proofs.HonestSessions.{has_of, has_on, lets_go, nothing_more, takes_at}
 use Rattle.node_laws.proofs.Lines.{quiet, met}
@@ -184,9 +184,9 @@ module _ (m : AppSpec) (pages : Pages) (lawful : IsPaged m pages) (p : Sockets) 
       }
 
   -- the next text was sent
-  says_text : (received : Option PlainSegment) (older : List Exchange) (q : AppState) (taken iss acked most len : ℕ) → Counts iss → Ready received older q taken acked most → q.acked + len ≤ length (page q) →
+  sends_text : (received : Option PlainSegment) (older : List Exchange) (q : AppState) (taken iss acked most len : ℕ) → Counts iss → Ready received older q taken acked most → q.acked + len ≤ length (page q) →
       Interactive (met received (Some (text_segment m (conn_at Established taken iss acked len 0 q))) ∷ older) q taken acked len
-  says_text received older q taken iss acked most len k h within =
+  sends_text received older q taken iss acked most len k h within =
       let t : PlainSegment = text_segment m (conn_at Established taken iss acked len 0 q) in
       let output : t.text ≡ take len (drop q.acked (page q)) = ap (λ l. take len (drop q.acked l)) (lawful.output q) in
       let size : length t.text ≡ len = ap length output ∙ cut_length (page q) q.acked len within in
@@ -203,9 +203,9 @@ module _ (m : AppSpec) (pages : Pages) (lawful : IsPaged m pages) (p : Sockets) 
       }
 
   -- nothing was sent
-  says_none : (received : Option PlainSegment) (output : Option PlainSegment) (older : List Exchange) (q : AppState) (taken acked most : ℕ) → Ready received older q taken acked most →
+  outputs_none : (received : Option PlainSegment) (output : Option PlainSegment) (older : List Exchange) (q : AppState) (taken acked most : ℕ) → Ready received older q taken acked most →
       has_of a.iss (met received output ∷ older) ≡ has_of a.iss older → Interactive (met received output ∷ older) q taken acked 0
-  says_none received output older q taken acked most h e = record {
+  outputs_none received output older q taken acked most h e = record {
     input = h.input;
     is_taken = h.is_taken;
     asked = h.asked;
@@ -224,15 +224,15 @@ module _ (m : AppSpec) (pages : Pages) (lawful : IsPaged m pages) (p : Sockets) 
       let len : ℕ = min j a.mss in
       let some : 0 < len = (let l = may.0 in omega (arith, l, room)) in
       let within : q.acked + len ≤ length (page q) = (let l = may.1 in omega (arith, l)) in
-      goes_on_so (reported taken iss acked len 0 most q k refl (says_text received older q taken iss acked most len k h within) record { some = some; next = g } h.bound)
+      goes_on_so (reported taken iss acked len 0 most q k refl (sends_text received older q taken iss acked most len k h within) record { some = some; next = g } h.bound)
   by_want polls received older fresh numbers taken iss acked age most q Nothing k h snapshots may g rested =
       let d : Connection = conn_at Established taken iss acked 0 age q in
       let P : Outcome → Type 0 = λ o. Next polls (met received (segment_of m o.connection o.step) ∷ older) o.connection in
       let r : Rests polls q most = record { good = g.0; few = g.1; more = g.2 } in
       choose P fresh (leaves d numbers Step.Ack) (leaves d numbers Step.Drop)
       (λ f. goes_on_so (waits taken iss acked age most q k refl
-      (says_none received (segment_of m d Step.Ack) older q taken acked most h (has_on a.iss (met received (segment_of m d Step.Ack)) older ∙ nothing_more a.iss (has_of a.iss older) (bare_ack d) refl)) refl r h.bound))
-      (λ f. goes_on_so (waits taken iss acked age most q k refl (says_none received None older q taken acked most h (has_on a.iss (met received None) older)) rested r h.bound))
+      (outputs_none received (segment_of m d Step.Ack) older q taken acked most h (has_on a.iss (met received (segment_of m d Step.Ack)) older ∙ nothing_more a.iss (has_of a.iss older) (bare_ack d) refl)) refl r h.bound))
+      (λ f. goes_on_so (waits taken iss acked age most q k refl (outputs_none received None older q taken acked most h (has_on a.iss (met received None) older)) rested r h.bound))
 
   -- as many texts are left, or more
   at_most_more : (polls : ℕ) (q : AppState) (few most : ℕ) (w : Want) → few ≤ most → GoesOnBy m a.request a.mss (fine polls) left q few w → GoesOnBy m a.request a.mss (fine polls) left q most w
@@ -265,11 +265,11 @@ module _ (m : AppSpec) (pages : Pages) (lawful : IsPaged m pages) (p : Sockets) 
     pub fits : part.acked ≤ length (page part)
     pub has : has_of a.iss older ≡ take part.acked (page part)
 
-  heard_ready : (s : PlainSegment) (older : List Exchange) (numbers : List ℕ) (part : AppState) (taken acked most : ℕ) → IsPrefixOf (text_received older ++ s.text) a.request → Acked older part taken acked → bare_acks (met (Some s) None ∷ older) + most ≤ texts + 1 →
+  received_ready : (s : PlainSegment) (older : List Exchange) (numbers : List ℕ) (part : AppState) (taken acked most : ℕ) → IsPrefixOf (text_received older ++ s.text) a.request → Acked older part taken acked → bare_acks (met (Some s) None ∷ older) + most ≤ texts + 1 →
       Ready (Some s) older (delivers_text m numbers part s.text).part (taken + length s.text) acked most
-  heard_ready s older numbers part taken acked most prefix h bound =
+  received_ready s older numbers part taken acked most prefix h bound =
       let q : AppState = (delivers_text m numbers part s.text).part in
-      let is = hears_is m pages lawful numbers part s.text in
+      let is = receives_is m pages lawful numbers part s.text in
       let grows : IsPrefixOf (page part) (page q) =
       subst (λ k. IsPrefixOf (page part) (pages.page q.input k)) (append_nothing part.snapshots ∙ sym is.snapshots)
       (subst (λ t. IsPrefixOf (page part) (pages.page t (part.snapshots ++ []))) (sym is.input) (lawful.grows part.input s.text part.snapshots [])) in
@@ -283,10 +283,10 @@ module _ (m : AppSpec) (pages : Pages) (lawful : IsPaged m pages) (p : Sockets) 
         bound = bound;
       }
 
-  heard_fine : (polls : ℕ) → polls ≤ patience → (numbers : List ℕ) (part : AppState) (text rest : List ℕ) (most : ℕ) → fine polls part ≡ true → left part ≤ most → (part.input ++ text) ++ rest ≡ a.request →
+  received_fine : (polls : ℕ) → polls ≤ patience → (numbers : List ℕ) (part : AppState) (text rest : List ℕ) (most : ℕ) → fine polls part ≡ true → left part ≤ most → (part.input ++ text) ++ rest ≡ a.request →
       (fine polls (delivers_text m numbers part text).part ≡ true) × (left (delivers_text m numbers part text).part ≤ most)
-  heard_fine polls l numbers part [] rest most good few joined = (good, few)
-  heard_fine polls l numbers part (y ∷ ys) rest most good few joined =
+  received_fine polls l numbers part [] rest most good few joined = (good, few)
+  received_fine polls l numbers part (y ∷ ys) rest most good few joined =
       let more = (answering.answers polls l).delivers_text numbers part (y ∷ ys) rest good joined in (more.0, omega (arith, more.1, few))
 
   -- what the environment of a step gives
@@ -308,12 +308,12 @@ module _ (m : AppSpec) (pages : Pages) (lawful : IsPaged m pages) (p : Sockets) 
   asked_after polls l at s older o next taken iss acked age most part k prefix b bound good few e snapshots =
       let delivered : After = delivers_text m next part s.text in
       let d : Connection = conn_at Established (taken + length s.text) iss acked 0 age delivered.part in
-      let f = heard_fine polls l next part s.text prefix.rest most good few (ap (λ t. (t ++ s.text) ++ prefix.rest) b.input ∙ prefix.joined) in
+      let f = received_fine polls l next part s.text prefix.rest most good few (ap (λ t. (t ++ s.text) ++ prefix.rest) b.input ∙ prefix.joined) in
       let z : Outcome = leaves d delivered.numbers (Step.Ask (has_text s)) in
       let given : Snapshots at z = subst (λ (y : Outcome). Snapshots at y) e snapshots in
       subst (λ (y : Outcome). (let r : Outcome = asked m at y in Next polls (met (Some s) (segment_of m r.connection r.step) ∷ older) r.connection)) (sym e)
       (asks polls l (Some s) older (has_text s) delivered.numbers (at d) (taken + length s.text) iss acked age most delivered.part given.fit.numbers given.is (given.rows d refl) k
-      (heard_ready s older next part taken acked most prefix b bound) f.0 f.1 given.fit.conn.snapshots refl)
+      (received_ready s older next part taken acked most prefix b bound) f.0 f.1 given.fit.conn.snapshots refl)
 
   -- ---- its next segment
 

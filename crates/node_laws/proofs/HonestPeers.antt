@@ -46,9 +46,9 @@ module _ (m : AppSpec) (pages : Pages) (lawful : IsPaged m pages) (serves_port :
     can_wait : (text_received incarnation ≡ a.request) ⊎ (polls + calls_of i rest ≤ patience)
     stage : At polls incarnation c
 
-  data Standing (n : AbstractNode) (incarnation : List Exchange) (rest : List TraceEntry) : Type 0 where
-    incarnations : Living n incarnation rest → Standing n incarnation rest
-    over : HasItsPage pages a incarnation → Standing n incarnation rest
+  data Representing (n : AbstractNode) (incarnation : List Exchange) (rest : List TraceEntry) : Type 0 where
+    incarnations : Living n incarnation rest → Representing n incarnation rest
+    over : HasItsPage pages a incarnation → Representing n incarnation rest
 
   module _ (n : AbstractNode) (event : Event) (good : Good n) (y : Exchange) (older : List Exchange) (rest : List TraceEntry) where
     abbrev r : NodeStep
@@ -64,7 +64,7 @@ module _ (m : AppSpec) (pages : Pages) (lawful : IsPaged m pages) (serves_port :
     incarnation = y ∷ older
 
     abbrev After : Exchange → Type 0
-    After z = Standing r.node (z ∷ incarnation) rest
+    After z = Representing r.node (z ∷ incarnation) rest
 
     snapshots : (i : ℕ) (c : Connection) (o : Outcome) → slice_get n.connections i ≡ Some c → Rattle.uip_node.proofs.Fits.FitOut o → Snapshots m pages lawful p a room fine left texts patience answering (snapshot n event i) o
     snapshots i c o there f = record {
@@ -77,7 +77,7 @@ module _ (m : AppSpec) (pages : Pages) (lawful : IsPaged m pages) (serves_port :
     stepped i c d there e = ap (λ l. slice_get l i) e ∙ get_set_same n.connections i c d there
 
     -- the slot is called
-    at_call : (v : Living n incarnation (turn ∷ rest)) → event ≡ Periodic v.i → Acted m serves_port n p v.i v.c event r None (asked m (snapshot n event v.i) (on_tick m v.c n.numbers)) → IsWaitedFor x → Standing r.node (x ∷ incarnation) rest
+    at_call : (v : Living n incarnation (turn ∷ rest)) → event ≡ Periodic v.i → Acted m serves_port n p v.i v.c event r None (asked m (snapshot n event v.i) (on_tick m v.c n.numbers)) → IsWaitedFor x → Representing r.node (x ∷ incarnation) rest
     at_call v e g q =
         let at = snapshot n event v.i in
         let o : Outcome = asked m at (on_tick m v.c n.numbers) in
@@ -100,7 +100,7 @@ module _ (m : AppSpec) (pages : Pages) (lawful : IsPaged m pages) (serves_port :
         ])
 
     -- a segment of the peer comes
-    at_segment : (v : Living n incarnation (turn ∷ rest)) (s : PlainSegment) → Acted m serves_port n p v.i v.c event r (Some s) (asked m (snapshot n event v.i) (on_segment m v.c n.numbers s)) → SendsNext a x incarnation → Standing r.node (x ∷ incarnation) rest
+    at_segment : (v : Living n incarnation (turn ∷ rest)) (s : PlainSegment) → Acted m serves_port n p v.i v.c event r (Some s) (asked m (snapshot n event v.i) (on_segment m v.c n.numbers s)) → SendsNext a x incarnation → Representing r.node (x ∷ incarnation) rest
     at_segment v s g h =
         let at = snapshot n event v.i in
         let o : Outcome = asked m at (on_segment m v.c n.numbers s) in
@@ -125,7 +125,7 @@ module _ (m : AppSpec) (pages : Pages) (lawful : IsPaged m pages) (serves_port :
         ])
 
     -- the event is another's
-    at_other : (v : Living n incarnation (turn ∷ rest)) → slice_get r.node.connections v.i ≡ Some v.c → x ≡ quiet → Standing r.node (x ∷ incarnation) rest
+    at_other : (v : Living n incarnation (turn ∷ rest)) → slice_get r.node.connections v.i ≡ Some v.c → x ≡ quiet → Representing r.node (x ∷ incarnation) rest
     at_other v there e =
         let more : calls_of v.i rest ≤ calls_of v.i (turn ∷ rest) = calls_more v.i turn rest in
         subst After (sym e) (incarnations record {
@@ -138,7 +138,7 @@ module _ (m : AppSpec) (pages : Pages) (lawful : IsPaged m pages) (serves_port :
           stage = stage_quiet m pages lawful p a room fine left texts patience answering v.polls incarnation v.c v.stage;
         })
 
-    at_living : (v : Living n incarnation (turn ∷ rest)) → IsWaitedFor x ⊎ SendsNext a x incarnation → Standing r.node (x ∷ incarnation) rest
+    at_living : (v : Living n incarnation (turn ∷ rest)) → IsWaitedFor x ⊎ SendsNext a x incarnation → Representing r.node (x ∷ incarnation) rest
     at_living v h =
         elim (acts m serves_port n p v.i v.c good.single v.there (stage_serves m pages lawful p a room fine left texts patience answering v.polls incarnation v.c v.stage) event) [
           | is_called e g ↦ elim h [
@@ -153,8 +153,8 @@ module _ (m : AppSpec) (pages : Pages) (lawful : IsPaged m pages) (serves_port :
           | makes_room e rested none ↦ absurd (let z = stage_stays m pages lawful p a room fine left texts patience answering v.polls incarnation v.c v.stage in cc)
         ]
 
-    stands_on : IsWaitedFor x ⊎ SendsNext a x incarnation → Standing n incarnation (turn ∷ rest) → Standing r.node (x ∷ incarnation) rest
-    stands_on h s = elim s [ incarnations v ↦ at_living v h | over reported ↦ over (stays_reported m pages lawful p a room fine left texts patience answering x incarnation reported) ]
+    represents_on : IsWaitedFor x ⊎ SendsNext a x incarnation → Representing n incarnation (turn ∷ rest) → Representing r.node (x ∷ incarnation) rest
+    represents_on h s = elim s [ incarnations v ↦ at_living v h | over reported ↦ over (stays_reported m pages lawful p a room fine left texts patience answering x incarnation reported) ]
 
   -- ---- the opening
 
@@ -185,7 +185,7 @@ module _ (m : AppSpec) (pages : Pages) (lawful : IsPaged m pages) (serves_port :
 
     -- the connection is in its slot
     born_there : (iss : ℕ) (s : PlainSegment) → is_plain_syn s ≡ true → first_exchange ≡ met (Some s) (Some (syn_ack (accepted iss p s))) → serving p s_node.connections ≡ accepted iss p s → SendsSyn a first_exchange →
-        ((slot : ℕ) → calls_of slot rest ≤ patience) → Standing s_node (first_exchange ∷ []) rest
+        ((slot : ℕ) → calls_of slot rest ≤ patience) → Representing s_node (first_exchange ∷ []) rest
     born_there iss s plain e f o prompt =
         let received : Some o.syn ≡ Some s = sym o.received ∙ ap (λ z. z.received) e in
         let syn : o.syn ≡ s = cc in
@@ -194,7 +194,7 @@ module _ (m : AppSpec) (pages : Pages) (lawful : IsPaged m pages) (serves_port :
         let k : Counts m pages lawful p a room fine left texts patience answering iss = counts_by iss o.answer.seq (ap (λ t. t.seq) answers) o.seq in
         let as_it_is = f ∙ opened_as iss s (ap (λ t. t.seq) (sym syn) ∙ o.number) (ap (λ t. first_mss t.mss) (sym syn) ∙ o.mss) in
         elim (is_served p s_node.connections) [
-          | served i there own ↦ subst (λ z. Standing s_node (z ∷ []) rest) (sym e) (incarnations record {
+          | served i there own ↦ subst (λ z. Representing s_node (z ∷ []) rest) (sym e) (incarnations record {
             i = i;
             c = serving p s_node.connections;
             there = there;
@@ -206,10 +206,10 @@ module _ (m : AppSpec) (pages : Pages) (lawful : IsPaged m pages) (serves_port :
           | free none ↦ absurd (let z : closed ≡ accepted iss p s = sym (Rattle.uip_node.proofs.Connections.serving_free s_node.connections p none) ∙ f in let y : false ≡ true = ap (λ c. is_live c.state) z in cc)
         ]
 
-    opens : SendsSyn a first_exchange → ((slot : ℕ) → calls_of slot rest ≤ patience) → Standing s_node (first_exchange ∷ []) rest
+    opens : SendsSyn a first_exchange → ((slot : ℕ) → calls_of slot rest ≤ patience) → Representing s_node (first_exchange ∷ []) rest
     opens o prompt =
         let x : Exchange = first_exchange in
-        let silent : x.output ≡ None → Standing s_node (x ∷ []) rest = λ e. absurd (let z : Some o.answer ≡ None = sym o.output ∙ e in cc) in
+        let silent : x.output ≡ None → Representing s_node (x ∷ []) rest = λ e. absurd (let z : Some o.answer ≡ None = sym o.output ∙ e in cc) in
         elim ((comes m serves_port (steady_of m pages lawful) n event is good.single good.fit).each p) [
           | passes_by e f ↦ silent (ap (λ z. z.output) e)
           | evicted e f ↦ silent (ap (λ z. z.output) e)
@@ -226,8 +226,8 @@ module _ (m : AppSpec) (pages : Pages) (lawful : IsPaged m pages) (serves_port :
   abbrev Reaches : List Exchange → Type 0
   Reaches incarnation = texts < bare_acks incarnation → HasItsPage pages a incarnation
 
-  whole_stands : (n : AbstractNode) (so_far : List Exchange) (some others : List TraceEntry) → text_received so_far ≡ a.request → Standing n so_far some → Standing n so_far others
-  whole_stands n so_far some others w s = elim s [
+  whole_represents : (n : AbstractNode) (so_far : List Exchange) (some others : List TraceEntry) → text_received so_far ≡ a.request → Representing n so_far some → Representing n so_far others
+  whole_represents n so_far some others w s = elim s [
     | incarnations v ↦ incarnations record { i = v.i; c = v.c; there = v.there; polls = v.polls; few = v.few; can_wait = inl w; stage = v.stage }
     | over reported ↦ over reported
   ]
@@ -244,18 +244,18 @@ module _ (m : AppSpec) (pages : Pages) (lawful : IsPaged m pages) (serves_port :
 
     -- after the whole request
     run_later : (es : List Event) (n : AbstractNode) (y : Exchange) (older : List Exchange) → OfLine es → Good n → IsHonest a (exchanges_onto p (trace_of m serves_port es n) (y ∷ older)) → text_received (y ∷ older) ≡ a.request →
-        Standing n (y ∷ older) [] → Reaches (exchanges_onto p (trace_of m serves_port es n) (y ∷ older))
+        Representing n (y ∷ older) [] → Reaches (exchanges_onto p (trace_of m serves_port es n) (y ∷ older))
     run_later [] n y older l g h w s few = elim s [ incarnations v ↦ absurd (runs_out m pages lawful p a room fine left texts patience answering v.polls (y ∷ older) v.c w few v.stage) | over reported ↦ reported ]
     run_later (e ∷ es) n y older l g h w s few =
         let x : Exchange = exchange p e (step m serves_port n e).sent in
         let here = honest_before a p (trace_of m serves_port es (step m serves_port n e).node) x (y ∷ older) h in
         let turn : TraceEntry = record { event = e; sent = (step m serves_port n e).sent } in
         run_later es (step m serves_port n e).node x (y ∷ older) (All-tail (IsOfLine own) e es l) (good_on m (steady_of m pages lawful) serves_port n e (first_is own e es l) g) h (still_whole (y ∷ older) x w here.0)
-        (stands_on n e g y older [] here.0 (whole_stands n (y ∷ older) [] (turn ∷ []) w s)) few
+        (represents_on n e g y older [] here.0 (whole_represents n (y ∷ older) [] (turn ∷ []) w s)) few
 
     -- while it asks
     run_asking : (asking later : List TraceEntry) (es : List Event) (n : AbstractNode) (y : Exchange) (older : List Exchange) → trace_of m serves_port es n ≡ asking ++ later → OfLine es → Good n → IsHonest a (exchanges_onto p (asking ++ later) (y ∷ older)) →
-        text_received (exchanges_onto p asking (y ∷ older)) ≡ a.request → Standing n (y ∷ older) asking → Reaches (exchanges_onto p (asking ++ later) (y ∷ older))
+        text_received (exchanges_onto p asking (y ∷ older)) ≡ a.request → Representing n (y ∷ older) asking → Reaches (exchanges_onto p (asking ++ later) (y ∷ older))
     run_asking [] later es n y older q l g h w s =
         subst (λ ts. Reaches (exchanges_onto p ts (y ∷ older))) q (run_later es n y older l g (subst (λ ts. IsHonest a (exchanges_onto p ts (y ∷ older))) (sym q) h) w s)
     run_asking (t ∷ asking) later [] n y older q l g h w s = absurd (cc)
@@ -270,7 +270,7 @@ module _ (m : AppSpec) (pages : Pages) (lawful : IsPaged m pages) (serves_port :
         subst (λ z. Reaches (exchanges_onto p (asking ++ later) (z ∷ y ∷ older))) (sym same)
         (run_asking asking later es (step m serves_port n e).node x (y ∷ older) tail (All-tail (IsOfLine own) e es l) (good_on m (steady_of m pages lawful) serves_port n e (first_is own e es l) g) goes
         (subst (λ z. text_received (exchanges_onto p asking (z ∷ y ∷ older)) ≡ a.request) same w)
-        (stands_on n e g y older asking here.0 (subst (λ z. Standing n (y ∷ older) (z ∷ asking)) (sym head) s)))
+        (represents_on n e g y older asking here.0 (subst (λ z. Representing n (y ∷ older) (z ∷ asking)) (sym head) s)))
 
     -- from the opening
     from_opening : (e : Event) (es : List Event) (n : AbstractNode) (asking later : List TraceEntry) → OfLine (e ∷ es) → Good n →

@@ -1,12 +1,12 @@
 -- An incarnation of a connection, one exchange longer.
-use Rattle.node_laws.proofs.Prelude.{All, option_map_or, ◌≡◌, ℕ, zero, suc, ◌+◌, ◌<◌, ◌≤◌, min, Bool, true, false, not, ◌&&◌, ◌||◌, ◌⊎◌, inl, inr, List, [], ◌∷◌, ◌++◌, length, take, drop, refl, sym, ap, ◌∙◌, subst, arith, Option, Some, None, slice_get, eqb, ltb, if◌then◌else◌, common_steps, wrap, OWN_MSS, PlainSegment, has_syn, has_fin, has_rst, has_ack, SYN, AppState, Snapshot, AppSpec, IsPrefixOf, IsSnapshot, State, Closed, SynRcvd, Established, CloseWait, FinWait1, FinWait2, Closing, TimeWait, LastAck, Sockets, Connection, closed, is_live, snd_una, rcv_nxt, occupies_sequence_space, is_plain_syn, segment_of, is_again, syn_ack, text_segment, fin_of, reset_for_no_connection, Outcome, asked, first_mss, accepted, is_acked, on_segment, on_tick, Alike, IsSlice, choose, both_ways, only_some, same_place, append_nothing, IsPart, part_grows, prefix_refl, prefix_length, and_true, eqb-eq, FitConn, FitOut, all_nil, on_segment_fits, on_tick_fits, Moves, asked_moves, segment_moves, tick_moves, IsSteady, stepped_fits, stepped_tells, Safe, SafeState, IsDue, StepReports, due, alike_trans, alike_sym, alike_refl, segment_tells, tick_tells, Exchange, is_opening, Account, Begins, IsSelection, SendsSlice, Acknowledges, sequence_length, IsAcknowledged, IsExtendedBy, IsReceived, OutputModel, FollowsModelAt, Now, LensWithin, asked_within, on_segment_within, on_tick_within}
+use Rattle.node_laws.proofs.Prelude.{All, option_map_or, ◌≡◌, ℕ, zero, suc, ◌+◌, ◌<◌, ◌≤◌, min, Bool, true, false, not, ◌&&◌, ◌||◌, ◌⊎◌, inl, inr, List, [], ◌∷◌, ◌++◌, length, take, drop, refl, sym, ap, ◌∙◌, subst, arith, Option, Some, None, slice_get, eqb, ltb, if◌then◌else◌, common_steps, wrap, OWN_MSS, PlainSegment, has_syn, has_fin, has_rst, has_ack, SYN, AppState, Snapshot, AppSpec, IsPrefixOf, IsSnapshot, State, Closed, SynRcvd, Established, CloseWait, FinWait1, FinWait2, Closing, TimeWait, LastAck, Sockets, Connection, closed, is_live, snd_una, rcv_nxt, occupies_sequence_space, is_plain_syn, segment_of, is_again, syn_ack, text_segment, fin_of, reset_for_no_connection, Outcome, asked, first_mss, accepted, is_acked, on_segment, on_tick, Alike, IsSlice, choose, both_ways, only_some, same_place, append_nothing, IsPart, part_grows, prefix_refl, prefix_length, and_true, eqb-eq, FitConn, FitOut, all_nil, on_segment_fits, on_tick_fits, Moves, asked_moves, segment_moves, tick_moves, IsSteady, stepped_fits, stepped_reports, Safe, SafeState, IsDue, StepReports, due, alike_trans, alike_sym, alike_refl, segment_reports, tick_reports, Exchange, is_opening, Account, Begins, IsSelection, SendsSlice, Acknowledges, sequence_length, IsAcknowledged, IsExtendedBy, IsReceived, OutputModel, FollowsModelAt, Now, LensWithin, asked_within, on_segment_within, on_tick_within}
 use Rattle.node_laws.proofs.Speaking.{IsEnd, IsReported, prefix_size, prefix_trans, slice_prefix, reported_end, reported_on, reported_starts, reported_where}
 use Rattle.node_laws.proofs.Texts.{get_append}
 use Rattle.node_laws.proofs.Texts.InBoth.{in_first, in_second}
 use Rattle.node_laws.proofs.FromInvariant.{HasEnded, Kept, Unended, grows_refl, received_on}
 use Rattle.node_laws.proofs.StepTable.{IsBare, bare, Reading, AtPage, AtOpen, AtEnd, Page, Moved, Spoke, segment_moved, tick_moved, accepted_page}
 use Rattle.node_laws.proofs.Beating.{due_size}
-use Rattle.node_laws.proofs.Replying.{answer_no_syn, said_ack, step_short}
+use Rattle.node_laws.proofs.Replying.{answer_no_syn, sent_ack, step_short}
 use Rattle.node_laws.proofs.Lines.{OfMedium, met, left_of}
 use Rattle.node_laws.proofs.Lines.OfMedium.{passes_by, evicted, unanswered, refused, born, delivers_text, ticks}
 
@@ -23,8 +23,8 @@ ack_from : (x : Exchange) (incarnation : List Exchange) (j : ℕ) (s : PlainSegm
 ack_from x incarnation j s h = record { place = suc h.place; from = omega arith; to = omega (arith, h.to); segment = h.segment; received = h.received; acks = h.acks; exact = h.exact }
 
 -- a bare segment carries nothing
-bare_says : (iss : ℕ) (text : List ℕ) (s : PlainSegment) → IsBare s → SendsSlice iss text s
-bare_says iss text s b = record {
+bare_sends : (iss : ℕ) (text : List ℕ) (s : PlainSegment) → IsBare s → SendsSlice iss text s
+bare_sends iss text s b = record {
   syn = λ e. absurd (let z : has_syn s.flags ≡ false = b.syn in cc);
   bytes = λ l. absurd (let z : length s.text ≡ 0 = ap length b.text in omega (arith, l, z));
   fin = λ e. absurd (let z : has_fin s.flags ≡ false = b.fin in cc);
@@ -39,8 +39,8 @@ fin_placed : (s : PlainSegment) → has_fin s.flags ≡ true → occupies_sequen
 fin_placed s h = or_right (ltb 0 (length s.text)) (has_syn s.flags || has_fin s.flags) (or_right (has_syn s.flags) (has_fin s.flags) h)
 
 -- more text after exchanges without a FIN
-says_more : (iss : ℕ) (sent more : List ℕ) (s : PlainSegment) → (has_fin s.flags ≡ true → ⊥) → SendsSlice iss sent s → SendsSlice iss (sent ++ more) s
-says_more iss sent more s none h = record {
+sends_more : (iss : ℕ) (sent more : List ℕ) (s : PlainSegment) → (has_fin s.flags ≡ true → ⊥) → SendsSlice iss sent s → SendsSlice iss (sent ++ more) s
+sends_more iss sent more s none h = record {
   syn = h.syn;
   bytes = λ l. (let x = h.bytes l in
       let p : IsPart (sent ++ more) s.text x.at = part_grows sent more s.text x.at record { fits = x.slice.fits; same = x.slice.same } in
@@ -150,19 +150,19 @@ module _ (m : AppSpec) (steady : IsSteady m) (port : ℕ) (model : OutputModel) 
       (same : length sent < 1073741824 → (s : PlainSegment) (j : ℕ) (y : Exchange) (t : PlainSegment) → x.output ≡ Some s → slice_get incarnation j ≡ Some y → y.output ≡ Some t → occupies_sequence_space s ≡ true → occupies_sequence_space t ≡ true → s.seq ≡ t.seq → Alike t s)
       (one : (s : PlainSegment) (j : ℕ) (y : Exchange) (t : PlainSegment) → x.output ≡ Some s → slice_get incarnation j ≡ Some y → y.output ≡ Some t → occupies_sequence_space s ≡ true → occupies_sequence_space t ≡ true → (s.seq ≡ t.seq → ⊥) → IsAcknowledged (x ∷ incarnation) 0 (suc j) t)
       (of_page : IsReported model (HasEnded (x ∷ incarnation)) now captures sent) where
-    said_is : (y : Exchange) (s : PlainSegment) → Some x ≡ Some y → y.output ≡ Some s → x.output ≡ Some s
-    said_is y s g h = only_some (λ z. z.output ≡ Some s → x.output ≡ Some s) x y g (λ e. e) h
+    sent_text_is : (y : Exchange) (s : PlainSegment) → Some x ≡ Some y → y.output ≡ Some s → x.output ≡ Some s
+    sent_text_is y s g h = only_some (λ z. z.output ≡ Some s → x.output ≡ Some s) x y g (λ e. e) h
 
-    says_on : (i : ℕ) (y : Exchange) (s : PlainSegment) → slice_get (x ∷ incarnation) i ≡ Some y → y.output ≡ Some s → SendsSlice k.account.iss sent s
-    says_on zero y s g h = says s (said_is y s g h)
-    says_on (suc i) y s g h = grows i y s g h
+    sends_on : (i : ℕ) (y : Exchange) (s : PlainSegment) → slice_get (x ∷ incarnation) i ≡ Some y → y.output ≡ Some s → SendsSlice k.account.iss sent s
+    sends_on zero y s g h = says s (sent_text_is y s g h)
+    sends_on (suc i) y s g h = grows i y s g h
 
     short_on : (i : ℕ) (y : Exchange) (s : PlainSegment) → slice_get (x ∷ incarnation) i ≡ Some y → y.output ≡ Some s → length s.text ≤ first_mss k.account.peer_mss
-    short_on zero y s g h = short s (said_is y s g h)
+    short_on zero y s g h = short s (sent_text_is y s g h)
     short_on (suc i) y s g h = k.short i y s g h
 
     acks_on : (i : ℕ) (y : Exchange) (s : PlainSegment) → slice_get (x ∷ incarnation) i ≡ Some y → y.output ≡ Some s → has_rst s.flags ≡ false → Acknowledges k.account.irs (drop i (x ∷ incarnation)) now s
-    acks_on zero y s g h r = acks s (said_is y s g h) r
+    acks_on zero y s g h r = acks s (sent_text_is y s g h) r
     acks_on (suc i) y s g h r = (let a = k.acknowledges i y s g h r in record { selected = a.selected; counts_fin = a.counts_fin; is = a.is; prefix = prefix_trans a.selected k.account.input now a.prefix prefix; ack = a.ack })
 
     short_before : length sent < 1073741824 → length k.account.stream < 1073741824
@@ -170,12 +170,12 @@ module _ (m : AppSpec) (steady : IsSteady m) (port : ℕ) (model : OutputModel) 
 
     same_on : length sent < 1073741824 → (i j : ℕ) (y z : Exchange) (s t : PlainSegment) → i < j → slice_get (x ∷ incarnation) i ≡ Some y → slice_get (x ∷ incarnation) j ≡ Some z → y.output ≡ Some s → z.output ≡ Some t → occupies_sequence_space s ≡ true → occupies_sequence_space t ≡ true → s.seq ≡ t.seq → Alike t s
     same_on few i zero y z s t l g h p q a b e = absurd (omega (arith, l))
-    same_on few zero (suc j) y z s t l g h p q a b e = same few s j z t (said_is y s g p) h q a b e
+    same_on few zero (suc j) y z s t l g h p q a b e = same few s j z t (sent_text_is y s g p) h q a b e
     same_on few (suc i) (suc j) y z s t l g h p q a b e = k.same (short_before few) i j y z s t (omega (arith, l)) g h p q a b e
 
     one_on : (i j : ℕ) (y z : Exchange) (s t : PlainSegment) → i < j → slice_get (x ∷ incarnation) i ≡ Some y → slice_get (x ∷ incarnation) j ≡ Some z → y.output ≡ Some s → z.output ≡ Some t → occupies_sequence_space s ≡ true → occupies_sequence_space t ≡ true → (s.seq ≡ t.seq → ⊥) → IsAcknowledged (x ∷ incarnation) i j t
     one_on i zero y z s t l g h p q a b e = absurd (omega (arith, l))
-    one_on zero (suc j) y z s t l g h p q a b e = one s j z t (said_is y s g p) h q a b e
+    one_on zero (suc j) y z s t l g h p q a b e = one s j z t (sent_text_is y s g p) h q a b e
     one_on (suc i) (suc j) y z s t l g h p q a b e = ack_later x incarnation i j t (k.one i j y z s t (omega (arith, l)) g h p q a b e)
 
     abbrev longer : Kept model (x ∷ incarnation)
@@ -186,7 +186,7 @@ module _ (m : AppSpec) (steady : IsSteady m) (port : ℕ) (model : OutputModel) 
       taken = taken;
       in_range = snapshots;
       sent = is_received;
-      says = says_on;
+      says = sends_on;
       short = short_on;
       acknowledges = acks_on;
       same = same_on;
@@ -216,7 +216,7 @@ module _ (m : AppSpec) (steady : IsSteady m) (port : ℕ) (model : OutputModel) 
         let k : Kept model incarnation = g.kept in
         longer x incarnation k k.account.input k.ended k.account.snapshots k.account.stream (inl k.taken) k.in_range (prefix_refl k.account.input) (prefix_refl k.account.stream)
         (received_on k.account.iss x incarnation k.account.stream k.sent) k.says
-        (λ s e. bare_says k.account.iss _ s (bare s (resets s e).1))
+        (λ s e. bare_sends k.account.iss _ s (bare s (resets s e).1))
         (λ s e. bare_short (first_mss k.account.peer_mss) s (bare s (resets s e).1))
         no_acks
         (λ few s j y t e h q a b u. absurd (unplaced s e a))
@@ -245,8 +245,8 @@ module _ (m : AppSpec) (steady : IsSteady m) (port : ℕ) (model : OutputModel) 
   -- ---- what is outstanding
 
   -- what it states of the text
-  says_text : (incarnation : List Exchange) (d : Connection) (now : List ℕ) (over fin : Bool) (sent : List ℕ) (s : PlainSegment) → AtOpen m port model laws (Unended incarnation) fin d now over sent → s.seq ≡ wrap (d.iss + d.acked) → Alike s (text_segment m d) → SendsSlice d.iss sent s
-  says_text incarnation d now over fin sent s h q a =
+  sends_text : (incarnation : List Exchange) (d : Connection) (now : List ℕ) (over fin : Bool) (sent : List ℕ) (s : PlainSegment) → AtOpen m port model laws (Unended incarnation) fin d now over sent → s.seq ≡ wrap (d.iss + d.acked) → Alike s (text_segment m d) → SendsSlice d.iss sent s
+  sends_text incarnation d now over fin sent s h q a =
       let p : IsSlice (take (d.part.acked + d.len) (m.output d.part)) (take d.len (drop d.part.acked (m.output d.part))) d.part.acked = slice_prefix d.part.acked d.len (m.output d.part) h.fits in
       let r : IsSlice sent s.text d.part.acked = subst (λ z. IsSlice z s.text d.part.acked) (sym h.sent_is) (subst (λ z. IsSlice (take (d.part.acked + d.len) (m.output d.part)) z d.part.acked) (sym a.text) p) in
       record {
@@ -255,28 +255,28 @@ module _ (m : AppSpec) (steady : IsSteady m) (port : ℕ) (model : OutputModel) 
         fin = λ e. absurd (let z : has_fin s.flags ≡ false = ap has_fin a.flags in cc);
       }
 
-  says_fin : (incarnation : List Exchange) (d : Connection) (now : List ℕ) (over fin : Bool) (sent : List ℕ) (s : PlainSegment) → AtEnd m port model laws (Unended incarnation) 1 fin d now over sent → s.seq ≡ wrap (d.iss + d.acked) → Alike s (fin_of d) → SendsSlice d.iss sent s
-  says_fin incarnation d now over fin sent s h q a = record {
+  sends_fin : (incarnation : List Exchange) (d : Connection) (now : List ℕ) (over fin : Bool) (sent : List ℕ) (s : PlainSegment) → AtEnd m port model laws (Unended incarnation) 1 fin d now over sent → s.seq ≡ wrap (d.iss + d.acked) → Alike s (fin_of d) → SendsSlice d.iss sent s
+  sends_fin incarnation d now over fin sent s h q a = record {
     syn = λ e. absurd (let z : has_syn s.flags ≡ false = ap has_syn a.flags in cc);
     bytes = λ l. absurd (let z : length s.text ≡ 0 = ap length a.text in omega (arith, l, z));
     fin = λ e. (a.text, q ∙ ap wrap (omega (arith, h.count)));
   }
 
-  says_due : (incarnation : List Exchange) (d : Connection) (st : State) (now : List ℕ) (over : Bool) (sent : List ℕ) (s : PlainSegment) → SafeState m steady AnyLength any_length d st → At incarnation st d now over sent → 0 < d.len → s.seq ≡ wrap (d.iss + d.acked) → Alike s (due m st d)
+  sends_due : (incarnation : List Exchange) (d : Connection) (st : State) (now : List ℕ) (over : Bool) (sent : List ℕ) (s : PlainSegment) → SafeState m steady AnyLength any_length d st → At incarnation st d now over sent → 0 < d.len → s.seq ≡ wrap (d.iss + d.acked) → Alike s (due m st d)
       → SendsSlice d.iss sent s
-  says_due incarnation d Closed now over sent s h g l q a = absurd h
-  says_due incarnation d SynRcvd now over sent s h g l q a = record {
+  sends_due incarnation d Closed now over sent s h g l q a = absurd h
+  sends_due incarnation d SynRcvd now over sent s h g l q a = record {
     syn = λ e. (q ∙ ap wrap (omega (arith, h.acked)), a.text);
     bytes = λ z. absurd (let y : length s.text ≡ 0 = ap length a.text in omega (arith, z, y));
     fin = λ e. absurd (let z : has_fin s.flags ≡ false = ap has_fin a.flags in cc);
   }
-  says_due incarnation d Established now over sent s h g l q a = says_text incarnation d now over false sent s g q a
-  says_due incarnation d CloseWait now over sent s h g l q a = says_text incarnation d now over true sent s g q a
-  says_due incarnation d FinWait1 now over sent s h g l q a = says_fin incarnation d now over false sent s g q a
-  says_due incarnation d FinWait2 now over sent s h g l q a = absurd (let z = h.len in omega (arith, l, z))
-  says_due incarnation d Closing now over sent s h g l q a = says_fin incarnation d now over true sent s g q a
-  says_due incarnation d TimeWait now over sent s h g l q a = absurd (let z = h.len in omega (arith, l, z))
-  says_due incarnation d LastAck now over sent s h g l q a = says_fin incarnation d now over true sent s g q a
+  sends_due incarnation d Established now over sent s h g l q a = sends_text incarnation d now over false sent s g q a
+  sends_due incarnation d CloseWait now over sent s h g l q a = sends_text incarnation d now over true sent s g q a
+  sends_due incarnation d FinWait1 now over sent s h g l q a = sends_fin incarnation d now over false sent s g q a
+  sends_due incarnation d FinWait2 now over sent s h g l q a = absurd (let z = h.len in omega (arith, l, z))
+  sends_due incarnation d Closing now over sent s h g l q a = sends_fin incarnation d now over true sent s g q a
+  sends_due incarnation d TimeWait now over sent s h g l q a = absurd (let z = h.len in omega (arith, l, z))
+  sends_due incarnation d LastAck now over sent s h g l q a = sends_fin incarnation d now over true sent s g q a
 
   -- before the own FIN none is due, and with it the text is that of the end
   no_fin_due : (d : Connection) (st : State) (s : PlainSegment) → speaks st ≡ true → Alike s (due m st d) → has_fin s.flags ≡ true → ⊥
@@ -329,7 +329,7 @@ module _ (m : AppSpec) (steady : IsSteady m) (port : ℕ) (model : OutputModel) 
 
   module _ (c c' : Connection) (o : Outcome) (received : Option PlainSegment) (acked : Bool) (incarnation : List Exchange) (g : Good c incarnation) (alive : is_live c.state ≡ true) (fit : FitConn o.connection)
       (sp : Spoke m port model laws (Unended incarnation) received c g.kept.account.input g.kept.ended g.kept.account.stream o)
-      (tells : StepReports m steady AnyLength any_length c o.connection (segment_of m o.connection o.step) (is_again o.step))
+      (reported_as : StepReports m steady AnyLength any_length c o.connection (segment_of m o.connection o.step) (is_again o.step))
       (moves : Moves acked c o.connection)
       (receives_ack : acked ≡ true → Acks received c)
       (number : (s : PlainSegment) → segment_of m o.connection o.step ≡ Some s → s.ack ≡ rcv_nxt o.connection)
@@ -373,7 +373,7 @@ module _ (m : AppSpec) (steady : IsSteady m) (port : ℕ) (model : OutputModel) 
     captures_on = ap (λ l. l ++ w.more) (sym lv.captures_are) ∙ sym w.snapshots
 
     first_on : is_live d.state ≡ true → d.iss ≡ a.iss
-    first_on l = (tells.onto l).iss ∙ lv.first_is
+    first_on l = (reported_as.onto l).iss ∙ lv.first_is
 
     -- ---- the text that was sent
 
@@ -404,19 +404,19 @@ module _ (m : AppSpec) (steady : IsSteady m) (port : ℕ) (model : OutputModel) 
               ])
         ]
 
-    older_says : (i : ℕ) (y : Exchange) (s : PlainSegment) → slice_get incarnation i ≡ Some y → y.output ≡ Some s → SendsSlice a.iss sp.sent_now s
-    older_says i y s h e = elim sp.adds [
+    older_sends : (i : ℕ) (y : Exchange) (s : PlainSegment) → slice_get incarnation i ≡ Some y → y.output ≡ Some s → SendsSlice a.iss sp.sent_now s
+    older_sends i y s h e = elim sp.adds [
       | inl q ↦ subst (λ z. SendsSlice a.iss z s) (sym q) (g.kept.says i y s h e)
       | inr n ↦ subst (λ z. SendsSlice a.iss z s) (sym n.joined)
-          (says_more a.iss a.stream (text_segment m d).text s (λ f. n.unended record { place = i; exchange = y; segment = s; there = h; output = e; fin = f }) (g.kept.says i y s h e))
+          (sends_more a.iss a.stream (text_segment m d).text s (λ f. n.unended record { place = i; exchange = y; segment = s; there = h; output = e; fin = f }) (g.kept.says i y s h e))
     ]
 
-    step_says : (s : PlainSegment) → sent ≡ Some s → SendsSlice a.iss sp.sent_now s
-    step_says s e = both_ways (occupies_sequence_space s)
-        (λ p. let t = tells.output s e p in
+    step_sends : (s : PlainSegment) → sent ≡ Some s → SendsSlice a.iss sp.sent_now s
+    step_sends s e = both_ways (occupies_sequence_space s)
+        (λ p. let t = reported_as.output s e p in
         subst (λ n. SendsSlice n sp.sent_now s) (first_on t.live)
-        (says_due incarnation d d.state w.now w.over sp.sent_now s (tells.safe t.live).state w.page.at t.due_now.len t.due_now.seq t.due_now.alike))
-        (λ p. bare_says a.iss _ s (bare s p))
+        (sends_due incarnation d d.state w.now w.over sp.sent_now s (reported_as.safe t.live).state w.page.at t.due_now.len t.due_now.seq t.due_now.alike))
+        (λ p. bare_sends a.iss _ s (bare s p))
 
     step_acks : (s : PlainSegment) → sent ≡ Some s → has_rst s.flags ≡ false → Acknowledges a.irs (x ∷ incarnation) w.now s
     step_acks s e r = record {
@@ -445,7 +445,7 @@ module _ (m : AppSpec) (steady : IsSteady m) (port : ℕ) (model : OutputModel) 
     -- and with a FIN the text is that of the end
     reported_with : (s : PlainSegment) → sent ≡ Some s → has_fin s.flags ≡ true → IsReported model (HasEnded (x ∷ incarnation)) w.now d.part.snapshots sp.sent_now
     reported_with s e f =
-        let t = tells.output s e (fin_placed s f) in
+        let t = reported_as.output s e (fin_placed s f) in
         reported_end model (HasEnded (x ∷ incarnation)) w.now d.part.snapshots sp.sent_now (end_due incarnation d d.state w.now w.over sp.sent_now s w.page.at t.due_now.alike f)
 
     reported_by : (output : Option PlainSegment) → sent ≡ output → IsReported model (HasEnded (x ∷ incarnation)) w.now d.part.snapshots sp.sent_now
@@ -459,14 +459,14 @@ module _ (m : AppSpec) (steady : IsSteady m) (port : ℕ) (model : OutputModel) 
 
     still_unended : speaks d.state ≡ true → Unended incarnation → Unended (x ∷ incarnation)
     still_unended st u h = elim (last_or_before x incarnation h) [
-      | inl q ↦ (let t = tells.output q.0 q.1 (fin_placed q.0 q.2) in no_fin_due d d.state q.0 st t.due_now.alike q.2)
+      | inl q ↦ (let t = reported_as.output q.0 q.1 (fin_placed q.0 q.2) in no_fin_due d d.state q.0 st t.due_now.alike q.2)
       | inr old ↦ u old
     ]
 
     -- what was sent before, now
     older_placed : is_live d.state ≡ true → (k : ℕ) (y : Exchange) (t : PlainSegment) → slice_get incarnation k ≡ Some y → y.output ≡ Some t → occupies_sequence_space t ≡ true → Passed (x ∷ incarnation) (suc k) d t ⊎ DueIn d t
     older_placed l k y t h e p =
-        let o = tells.onto l in
+        let o = reported_as.onto l in
         elim (g.placed alive k y t h e p) [
           | inl q ↦ inl record { at = q.at; seq = q.seq ∙ ap (λ n. wrap (n + q.at)) (sym o.iss); history = (let a = q.history in omega (arith, a, o.grows)); acked = ack_from x incarnation k t q.acked }
           | inr q ↦ elim moves.place [
@@ -488,7 +488,7 @@ module _ (m : AppSpec) (steady : IsSteady m) (port : ℕ) (model : OutputModel) 
 
     step_same : length sp.sent_now < 1073741824 → (s : PlainSegment) (j : ℕ) (y : Exchange) (t : PlainSegment) → sent ≡ Some s → slice_get incarnation j ≡ Some y → y.output ≡ Some t → occupies_sequence_space s ≡ true → occupies_sequence_space t ≡ true → s.seq ≡ t.seq → Alike t s
     step_same few s j y t e h q a b u =
-        let v = tells.output s e a in
+        let v = reported_as.output s e a in
         let low : d.acked < 4294967296 = page_low incarnation d d.state w.now w.over sp.sent_now v.live w.page.at few in
         elim (older_placed v.live j y t h q b) [
           | inl z ↦ absurd (let f : z.at ≡ d.acked = same_place d.iss z.at d.acked (let r = z.history in omega (arith, low, r)) low (sym z.seq ∙ sym u ∙ v.due_now.seq) in let r = z.history in omega (arith, f, r))
@@ -497,16 +497,16 @@ module _ (m : AppSpec) (steady : IsSteady m) (port : ℕ) (model : OutputModel) 
 
     step_one : (s : PlainSegment) (j : ℕ) (y : Exchange) (t : PlainSegment) → sent ≡ Some s → slice_get incarnation j ≡ Some y → y.output ≡ Some t → occupies_sequence_space s ≡ true → occupies_sequence_space t ≡ true → (s.seq ≡ t.seq → ⊥) → IsAcknowledged (x ∷ incarnation) 0 (suc j) t
     step_one s j y t e h q a b u =
-        let v = tells.output s e a in
+        let v = reported_as.output s e a in
         elim (older_placed v.live j y t h q b) [ inl z ↦ z.acked | inr z ↦ absurd (u (v.due_now.seq ∙ sym z.seq)) ]
 
     step_placed : is_live d.state ≡ true → (i : ℕ) (y : Exchange) (s : PlainSegment) → slice_get (x ∷ incarnation) i ≡ Some y → y.output ≡ Some s → occupies_sequence_space s ≡ true → Passed (x ∷ incarnation) i d s ⊎ DueIn d s
-    step_placed l zero y s h e p = (let q : sent ≡ Some s = only_some (λ z. z.output ≡ Some s → x.output ≡ Some s) x y h (λ q. q) e in inr (tells.output s q p).due_now)
+    step_placed l zero y s h e p = (let q : sent ≡ Some s = only_some (λ z. z.output ≡ Some s → x.output ≡ Some s) x y h (λ q. q) e in inr (reported_as.output s q p).due_now)
     step_placed l (suc i) y s h e p = older_placed l i y s h e p
 
     abbrev step_good : Good c' (x ∷ incarnation)
     step_good = record {
-      kept = longer x incarnation g.kept w.now w.over d.part.snapshots sp.sent_now step_taken fit.snapshots step_prefix more_sent step_received older_says step_says short step_acks step_same step_one step_of_page;
+      kept = longer x incarnation g.kept w.now w.over d.part.snapshots sp.sent_now step_taken fit.snapshots step_prefix more_sent step_received older_sends step_sends short step_acks step_same step_one step_of_page;
       live = λ l. subst (λ z. Live (x ∷ incarnation) (record a { input = w.now; snapshots = d.part.snapshots; stream = sp.sent_now }) w.over z) (sym (left l).1)
           (let e : is_live d.state ≡ true = (left l).0 in
           record {
@@ -514,7 +514,7 @@ module _ (m : AppSpec) (steady : IsSteady m) (port : ℕ) (model : OutputModel) 
             peer_is = w.irs ∙ lv.peer_is;
             captures_are = refl;
             page = record { at = unended_page incarnation (x ∷ incarnation) d d.state w.now w.over sp.sent_now still_unended w.page.at; taken = w.page.taken };
-            safe = tells.safe e;
+            safe = reported_as.safe e;
             fit = fit;
             within = within;
           });
@@ -572,7 +572,7 @@ module _ (m : AppSpec) (steady : IsSteady m) (port : ℕ) (model : OutputModel) 
           taken = inl (refl, refl);
           in_range = all_nil IsSnapshot;
           sent = λ at byte e. absurd (cc);
-          says = λ k y t h e. subst (λ z. SendsSlice iss [] z) (only k y t h e) (says_due (x ∷ []) c SynRcvd [] false [] (syn_ack c) safe.state page.at due_now.len due_now.seq due_now.alike);
+          says = λ k y t h e. subst (λ z. SendsSlice iss [] z) (only k y t h e) (sends_due (x ∷ []) c SynRcvd [] false [] (syn_ack c) safe.state page.at due_now.len due_now.seq due_now.alike);
           short = λ k y t h e. subst (λ z. length z.text ≤ first_mss s.mss) (only k y t h e) (omega arith);
           acknowledges = λ k y t h e r. subst (λ z. Acknowledges s.seq (drop k (x ∷ [])) [] z) (only k y t h e)
               (record { selected = []; counts_fin = false; is = first_taken s.seq x k; prefix = prefix_refl []; ack = ap wrap (omega arith) });
@@ -600,9 +600,9 @@ module _ (m : AppSpec) (steady : IsSteady m) (port : ℕ) (model : OutputModel) 
       (λ e h. absurd (let z : is_live (left_of d).state ≡ false = ap (λ b. is_live (if b then d else closed).state) e in cc))
 
   -- what it sends stays as short as the peer's SYN requires
-  heard_within : {c : Connection} {incarnation : List Exchange} (g : Good c incarnation) → is_live c.state ≡ true → (at : Connection → Now) (numbers : List ℕ) (s : PlainSegment)
+  received_within : {c : Connection} {incarnation : List Exchange} (g : Good c incarnation) → is_live c.state ≡ true → (at : Connection → Now) (numbers : List ℕ) (s : PlainSegment)
       → LensWithin (first_mss g.kept.account.peer_mss) (asked m at (on_segment m c numbers s)).connection
-  heard_within {c} g alive at numbers s =
+  received_within {c} g alive at numbers s =
       let most : ℕ = first_mss g.kept.account.peer_mss in
       let some : 1 ≤ most = mss_some g.kept.account.peer_mss in
       asked_within m most some at (on_segment m c numbers s) (on_segment_within m most some c numbers s (g.live alive).within)
@@ -633,12 +633,12 @@ module _ (m : AppSpec) (steady : IsSteady m) (port : ℕ) (model : OutputModel) 
           (on_step c d oo (Some s) (not (has_rst s.flags) && is_acked c s) incarnation g alive
           (stepped_fits m steady AnyLength any_length at o is fo)
           (segment_moved m port model laws (Unended incarnation) steady at c g.kept.account.input g.kept.ended g.kept.account.stream numbers s (g.live alive).page)
-          (stepped_tells m steady AnyLength any_length at c o is fo (segment_tells m steady AnyLength any_length c numbers s safe))
+          (stepped_reports m steady AnyLength any_length at c o is fo (segment_reports m steady AnyLength any_length c numbers s safe))
           (asked_moves m (not (has_rst s.flags) && is_acked c s) c at o (segment_moves m c numbers s))
           (acks_of c s)
-          (λ t q. said_ack m oo.connection oo.step t q)
-          (heard_within g alive at numbers s)
-          (λ t q. step_short m (first_mss g.kept.account.peer_mss) oo.connection oo.step t (heard_within g alive at numbers s) q)
+          (λ t q. sent_ack m oo.connection oo.step t q)
+          (received_within g alive at numbers s)
+          (λ t q. step_short m (first_mss g.kept.account.peer_mss) oo.connection oo.step t (received_within g alive at numbers s) q)
           (subst (λ z. is_live z.state ≡ true → (is_live oo.connection.state ≡ true) × (z ≡ oo.connection)) (sym h.1) (left_is oo.connection))))
       | ticks numbers at alive fit words is h ↦
           (let o : Outcome = on_tick m c numbers in
@@ -649,10 +649,10 @@ module _ (m : AppSpec) (steady : IsSteady m) (port : ℕ) (model : OutputModel) 
           (on_step c d oo None false incarnation g alive
           (stepped_fits m steady AnyLength any_length at o is fo)
           (tick_moved m port model laws (Unended incarnation) steady at c g.kept.account.input g.kept.ended g.kept.account.stream numbers (g.live alive).page)
-          (stepped_tells m steady AnyLength any_length at c o is fo (tick_tells m steady AnyLength any_length c numbers safe))
+          (stepped_reports m steady AnyLength any_length at c o is fo (tick_reports m steady AnyLength any_length c numbers safe))
           (asked_moves m false c at o (tick_moves m c numbers))
           (λ z. absurd (cc))
-          (λ t q. said_ack m oo.connection oo.step t q)
+          (λ t q. sent_ack m oo.connection oo.step t q)
           (ticked_within g alive at numbers)
           (λ t q. step_short m (first_mss g.kept.account.peer_mss) oo.connection oo.step t (ticked_within g alive at numbers) q)
           (subst (λ z. is_live z.state ≡ true → (is_live oo.connection.state ≡ true) × (z ≡ oo.connection)) (sym h.1) (left_is oo.connection))))

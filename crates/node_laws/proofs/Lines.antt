@@ -36,13 +36,13 @@ came_here p q s e = ap (λ b. if b then Some s else None) (is_same q p e)
 pub came_elsewhere : (p q : Sockets) (s : PlainSegment) → same_sockets q p ≡ false → received_from p (Arrived q s) ≡ None
 came_elsewhere p q s e = ap (λ b. if b then Some s else None) e
 
-pub said_here : (p q : Sockets) (id : ℕ) (again : Bool) (output : Option PlainSegment) → q ≡ p → sent_to p (option_map (λ s. TcpReply q id again s) output) ≡ output
-said_here p q id again None e = refl
-said_here p q id again (Some s) e = ap (λ b. if b then Some s else None) (is_same q p e)
+pub sent_here : (p q : Sockets) (id : ℕ) (again : Bool) (output : Option PlainSegment) → q ≡ p → sent_to p (option_map (λ s. TcpReply q id again s) output) ≡ output
+sent_here p q id again None e = refl
+sent_here p q id again (Some s) e = ap (λ b. if b then Some s else None) (is_same q p e)
 
-pub said_elsewhere : (p q : Sockets) (id : ℕ) (again : Bool) (output : Option PlainSegment) → same_sockets q p ≡ false → sent_to p (option_map (λ s. TcpReply q id again s) output) ≡ None
-said_elsewhere p q id again None e = refl
-said_elsewhere p q id again (Some s) e = ap (λ b. if b then Some s else None) e
+pub sent_elsewhere : (p q : Sockets) (id : ℕ) (again : Bool) (output : Option PlainSegment) → same_sockets q p ≡ false → sent_to p (option_map (λ s. TcpReply q id again s) output) ≡ None
+sent_elsewhere p q id again None e = refl
+sent_elsewhere p q id again (Some s) e = ap (λ b. if b then Some s else None) e
 
 pub meets : (a b : Option PlainSegment) (x y : Option PlainSegment) → a ≡ x → b ≡ y → met a b ≡ met x y
 meets a b x y e f = ap (λ z. met z b) e ∙ ap (λ z. met x z) f
@@ -73,13 +73,13 @@ module _ (m : AppSpec) (served : ℕ → Bool) where
           (λ e. let q : old.sockets ≡ p = same_is old.sockets p e in
           let before : serving p n.connections ≡ old = serving_is n.connections p i old single at (serves_yes p old live q) in
           let x : exchange p event r.sent ≡ met received (segment_of m o.connection o.step) =
-          meets (received_from p event) (sent_to p r.sent) received (segment_of m o.connection o.step) (ap (λ z. received_from z event) (sym q) ∙ here) (said_here p o.connection.sockets (ident_of r.node.history) (is_again o.step) (segment_of m o.connection o.step) (peer ∙ q)) in
+          meets (received_from p event) (sent_to p r.sent) received (segment_of m o.connection o.step) (ap (λ z. received_from z event) (sym q) ∙ here) (sent_here p o.connection.sockets (ident_of r.node.history) (is_again o.step) (segment_of m o.connection o.step) (peer ∙ q)) in
           let g : OfMedium m served old.sockets old (serving p (set n.connections i o.connection)) (exchange p event r.sent) = does (serving p (set n.connections i o.connection)) (exchange p event r.sent) x (left_here p q) in
           subst (λ z. OfMedium m served p z (serving p (set n.connections i o.connection)) (exchange p event r.sent)) (sym before)
           (subst (λ z. OfMedium m served z old (serving p (set n.connections i o.connection)) (exchange p event r.sent)) q g))
           (λ e. let after : serving p (set n.connections i o.connection) ≡ serving p n.connections =
           serving_other n.connections single i old at o.connection owns_step p (serves_not p old e) (serves_not p o.connection (ap (λ z. same_sockets z p) peer ∙ e)) in
-          passes_by (meets (received_from p event) (sent_to p r.sent) None None (away p e) (said_elsewhere p o.connection.sockets (ident_of r.node.history) (is_again o.step) (segment_of m o.connection o.step) (ap (λ z. same_sockets z p) peer ∙ e))) after));
+          passes_by (meets (received_from p event) (sent_to p r.sent) None None (away p e) (sent_elsewhere p o.connection.sockets (ident_of r.node.history) (is_again o.step) (segment_of m o.connection o.step) (ap (λ z. same_sockets z p) peer ∙ e))) after));
     }
 
   -- nothing changes in the table
@@ -122,11 +122,11 @@ module _ (m : AppSpec) (served : ℕ → Bool) where
       each = λ p. subst (λ z. OfMedium m served p (serving p n.connections) (serving p z) (exchange p (Arrived q s) r.sent)) (sym e)
           (both_ways (same_sockets q p)
           (λ h. let z : q ≡ p = same_is q p h in
-          let x : exchange p (Arrived q s) r.sent ≡ met (Some s) (Some (syn_ack new)) = meets (received_from p (Arrived q s)) (sent_to p r.sent) (Some s) (Some (syn_ack new)) (came_here p q s z) (ap (λ y. sent_to p y) t ∙ said_here p q id false (Some (syn_ack new)) z) in
+          let x : exchange p (Arrived q s) r.sent ≡ met (Some s) (Some (syn_ack new)) = meets (received_from p (Arrived q s)) (sent_to p r.sent) (Some s) (Some (syn_ack new)) (came_here p q s z) (ap (λ y. sent_to p y) t ∙ sent_here p q id false (Some (syn_ack new)) z) in
           let g : OfMedium m served q (serving p n.connections) (serving p (set n.connections i new)) (exchange p (Arrived q s) r.sent) =
           born (initial_number n.history) s plain port fit x (serving_new n.connections single i old at new owns_born p (serves_yes p new refl z)) in
           subst (λ y. OfMedium m served y (serving p n.connections) (serving p (set n.connections i new)) (exchange p (Arrived q s) r.sent)) z g)
-          (λ h. born_away p r.sent h (meets (received_from p (Arrived q s)) (sent_to p r.sent) None None (came_elsewhere p q s h) (ap (λ y. sent_to p y) t ∙ said_elsewhere p q id false (Some (syn_ack new)) h))));
+          (λ h. born_away p r.sent h (meets (received_from p (Arrived q s)) (sent_to p r.sent) None None (came_elsewhere p q s h) (ap (λ y. sent_to p y) t ∙ sent_elsewhere p q id false (Some (syn_ack new)) h))));
     }
 
   module _ (steady : IsSteady m) where
@@ -147,9 +147,9 @@ module _ (m : AppSpec) (served : ℕ → Bool) where
         (λ e. choose (λ r. Comes m served n (Arrived q s) r) (has_rst s.flags) _ _
         (λ f. comes_away n q s _ single free refl (λ p h. refl) (λ p c d z k g. unanswered s (ap (λ y. is_live y.state) k) (meets (received_from p (Arrived q s)) None (Some s) None (came_here p q s z) refl) g))
         (λ f. comes_away n q s (refuses n q s) single free refl
-        (λ p h. said_elsewhere p q (ident_of (refuses n q s).node.history) false (Some (reset_for_no_connection s)) h)
+        (λ p h. sent_elsewhere p q (ident_of (refuses n q s).node.history) false (Some (reset_for_no_connection s)) h)
         (λ p c d z k g. refused s f (ap (λ y. is_live y.state) k)
-        (meets (received_from p (Arrived q s)) (sent_to p (refuses n q s).sent) (Some s) (Some (reset_for_no_connection s)) (came_here p q s z) (said_here p q (ident_of (refuses n q s).node.history) false (Some (reset_for_no_connection s)) z)) g)))
+        (meets (received_from p (Arrived q s)) (sent_to p (refuses n q s).sent) (Some s) (Some (reset_for_no_connection s)) (came_here p q s z) (sent_here p q (ident_of (refuses n q s).node.history) false (Some (reset_for_no_connection s)) z)) g)))
 
     comes_arrival : (n : AbstractNode) (q : Sockets) (s : PlainSegment) (found : Option ℕ) → position (serves q) n.connections ≡ found → IsAddr q.peer → q.peer_port.0 < 65536 → Single n.connections → FitNode n → Comes m served n (Arrived q s) (arrives_at m served n q s found)
     comes_arrival n q s found e a b single f =

@@ -1,5 +1,5 @@
 -- What each peer reads.
-use Rattle.node_laws.proofs.Prelude.{All, option_map, ◌≡◌, ℕ, ◌<◌, Bool, true, false, ◌&&◌, inr, List, [], ◌∷◌, position, replicate, refl, sym, ap, ◌∙◌, subst, arith, Option, Some, None, if◌then◌else◌, All-head, All-tail, Addr, IsReadBack, head_of, PlainSegment, Datagram, datagram_bytes, has_rst, AppSpec, IsAddr, IsByte, IsU32, Sockets, Connection, closed, is_live, serves, same_sockets, is_again, is_plain_syn, reset_for_no_connection, segment_of, Outcome, asked, accepted, on_segment, on_tick, Step, by_head, by_segment, datagram_to, Event, Reply, HistoryEntry, IpRefused, IcmpRefused, TcpRefused, EchoAsked, Arrived, Overlong, Periodic, TcpReply, ident_of, serving, IsSteady, SendsBytes, DeliveredBytes, asked_bytes, on_segment_bytes, on_tick_bytes, both_ways, choose, only_some, wrap_low, FitConn, FitOut, all_nil, all_cons, asked_fits, on_segment_fits, on_tick_fits, FitNode, closed_fits, event_fits, none_serves, all_closed, Single, serving_free, same_is, same_self, closed_lens, Lens, accepted_lens, asked_lens, on_segment_lens, on_tick_lens, IsSoundSegment, said_sound, IsPlace, datagram_back, datagram_short, Exchange, received_from, exchange, sent_to, IsOfLine, IsDecoded, IsDecodedAt, seen_from_peer}
+use Rattle.node_laws.proofs.Prelude.{All, option_map, ◌≡◌, ℕ, ◌<◌, Bool, true, false, ◌&&◌, inr, List, [], ◌∷◌, position, replicate, refl, sym, ap, ◌∙◌, subst, arith, Option, Some, None, if◌then◌else◌, All-head, All-tail, Addr, IsReadBack, head_of, PlainSegment, Datagram, datagram_bytes, has_rst, AppSpec, IsAddr, IsByte, IsU32, Sockets, Connection, closed, is_live, serves, same_sockets, is_again, is_plain_syn, reset_for_no_connection, segment_of, Outcome, asked, accepted, on_segment, on_tick, Step, by_head, by_segment, datagram_to, Event, Reply, HistoryEntry, IpRefused, IcmpRefused, TcpRefused, EchoAsked, Arrived, Overlong, Periodic, TcpReply, ident_of, serving, IsSteady, SendsBytes, DeliveredBytes, asked_bytes, on_segment_bytes, on_tick_bytes, both_ways, choose, only_some, wrap_low, FitConn, FitOut, all_nil, all_cons, asked_fits, on_segment_fits, on_tick_fits, FitNode, closed_fits, event_fits, none_serves, all_closed, Single, serving_free, same_is, same_self, closed_lens, Lens, accepted_lens, asked_lens, on_segment_lens, on_tick_lens, IsSoundSegment, sent_sound, IsPlace, datagram_back, datagram_short, Exchange, received_from, exchange, sent_to, IsOfLine, IsDecoded, IsDecodedAt, seen_from_peer}
 use Rattle.uip_node.specs.Node.{AbstractNode, NodeStep, arrives_at, for_no_connection, happened, initial_node, opens as opens_at, opens_in, refuses, slot_for_syn, step}
 use Rattle.node_laws.proofs.Lines.{OfMedium, Comes, comes, left_of}
 use Rattle.node_laws.proofs.Lines.OfMedium.{passes_by, evicted, unanswered, refused, born, delivers_text, ticks}
@@ -40,9 +40,9 @@ reset_sound s h = record { seq = h; ack = wrap_low _; flags = omega arith; windo
 abbrev LowId : NodeStep → Type 0
 LowId r = (p : Sockets) (id : ℕ) (again : Bool) (s : PlainSegment) → r.sent ≡ Some (TcpReply p id again s) → id < 65536
 
-said_low : (output : Option PlainSegment) (q : Sockets) (n : ℕ) (b : Bool) → n < 65536 → (p : Sockets) (id : ℕ) (again : Bool) (s : PlainSegment) → option_map (λ x. TcpReply q n b x) output ≡ Some (TcpReply p id again s) → id < 65536
-said_low None q n b l p id again s e = absurd (cc)
-said_low (Some x) q n b l p id again s e = (let z : n ≡ id = cc in omega (arith, l, z))
+sent_low : (output : Option PlainSegment) (q : Sockets) (n : ℕ) (b : Bool) → n < 65536 → (p : Sockets) (id : ℕ) (again : Bool) (s : PlainSegment) → option_map (λ x. TcpReply q n b x) output ≡ Some (TcpReply p id again s) → id < 65536
+sent_low None q n b l p id again s e = absurd (cc)
+sent_low (Some x) q n b l p id again s e = (let z : n ≡ id = cc in omega (arith, l, z))
 
 ident_low : (history : List HistoryEntry) → ident_of history < 65536
 ident_low history = omega arith
@@ -50,7 +50,7 @@ ident_low history = omega arith
 module _ (m : AppSpec) (served : ℕ → Bool) where
   happened_low : (n : AbstractNode) (event : Event) (slot : ℕ) (old : Connection) (o : Outcome) → LowId (happened m n event slot old o)
   unfolding happened
-  happened_low n event slot old o p id again s e = said_low (segment_of m o.connection o.step) o.connection.sockets (ident_of (happened m n event slot old o).node.history) (is_again o.step) (ident_low (happened m n event slot old o).node.history) p id again s e
+  happened_low n event slot old o p id again s e = sent_low (segment_of m o.connection o.step) o.connection.sockets (ident_of (happened m n event slot old o).node.history) (is_again o.step) (ident_low (happened m n event slot old o).node.history) p id again s e
 
   opens_low : (n : AbstractNode) (q : Sockets) (s : PlainSegment) (slot : Option ℕ) → LowId (opens_at m n q s slot)
   unfolding opens_in
@@ -62,7 +62,7 @@ module _ (m : AppSpec) (served : ℕ → Bool) where
   stranger_low n q s =
       choose (λ r. LowId r) (is_plain_syn s && served q.own_port.0) _ _ (λ e. opens_low n q s (slot_for_syn n.connections))
       (λ e. choose (λ r. LowId r) (has_rst s.flags) _ _ (λ f p id again t g. absurd (cc))
-      (λ f p id again t g. said_low (Some (reset_for_no_connection s)) q (ident_of (refuses n q s).node.history) false (ident_low (refuses n q s).node.history) p id again t g))
+      (λ f p id again t g. sent_low (Some (reset_for_no_connection s)) q (ident_of (refuses n q s).node.history) false (ident_low (refuses n q s).node.history) p id again t g))
 
   arrives_low : (n : AbstractNode) (q : Sockets) (s : PlainSegment) (found : Option ℕ) → LowId (arrives_at m served n q s found)
   arrives_low n q s None p id again t e = stranger_low n q s p id again t e
@@ -84,13 +84,13 @@ record SoundConn (p : Sockets) (c : Connection) : Type 0 where
   lens : Lens c
   input : DeliveredBytes c
 
-record SoundSaid (p : Sockets) (s : PlainSegment) : Type 0 where
+record SoundOutput (p : Sockets) (s : PlainSegment) : Type 0 where
   fits : Fits p
   segment : IsSoundSegment s
 
 record SoundDoes (p : Sockets) (d : Connection) (x : Exchange) : Type 0 where
   conn : is_live d.state ≡ true → SoundConn p d
-  output : (s : PlainSegment) → x.output ≡ Some s → SoundSaid p s
+  output : (s : PlainSegment) → x.output ≡ Some s → SoundOutput p s
 
 module _ (m : AppSpec) (steady : IsSteady m) (bytes : SendsBytes m) where
   still_sound : (p : Sockets) (c d : Connection) (x : Exchange) → x.output ≡ None → (is_live d.state ≡ true → d ≡ c) → (is_live c.state ≡ true → SoundConn p c) → SoundDoes p d x
@@ -106,7 +106,7 @@ module _ (m : AppSpec) (steady : IsSteady m) (bytes : SendsBytes m) where
       lens = subst (λ z. Lens z) (sym q) (choose (λ z. Lens z) (is_live o.connection.state) o.connection closed (λ y. lens) (λ y. closed_lens));
       input = subst (λ z. DeliveredBytes z) (sym q) (choose (λ z. DeliveredBytes z) (is_live o.connection.state) o.connection closed (λ y. delivered) (λ y. all_nil IsByte));
     };
-    output = λ s g. record { fits = f; segment = said_sound m o.connection o.step s lens (bytes.output o.connection.part delivered fit.snapshots) (sym e ∙ g) };
+    output = λ s g. record { fits = f; segment = sent_sound m o.connection o.step s lens (bytes.output o.connection.part delivered fit.snapshots) (sym e ∙ g) };
   }
 
   does_sound : (served : ℕ → Bool) (p : Sockets) (event : Event) (sent : Option Reply) (c d : Connection) → IsWire event → OfMedium m served p c d (exchange p event sent) → (is_live c.state ≡ true → SoundConn p c) → SoundDoes p d (exchange p event sent)
@@ -125,7 +125,7 @@ module _ (m : AppSpec) (steady : IsSteady m) (bytes : SendsBytes m) where
             let b : Connection = accepted iss p s in
             record {
               conn = λ z. record { fits = k.fits; lens = subst (λ y. Lens y) (sym f) (accepted_lens iss p s); input = subst (λ y. DeliveredBytes y) (sym f) (all_nil IsByte) };
-              output = λ t g. record { fits = k.fits; segment = said_sound m b (Step.SynAck false) t (accepted_lens iss p s) (bytes.output b.part (all_nil IsByte) fit.snapshots) (sym (ap (λ y. y.output) e) ∙ g) };
+              output = λ t g. record { fits = k.fits; segment = sent_sound m b (Step.SynAck false) t (accepted_lens iss p s) (bytes.output b.part (all_nil IsByte) fit.snapshots) (sym (ap (λ y. y.output) e) ∙ g) };
             })
         | delivers_text s numbers at alive fit words is q ↦
             (let o : Outcome = on_segment m c numbers s in
@@ -163,7 +163,7 @@ module _ (m : AppSpec) (steady : IsSteady m) (bytes : SendsBytes m) where
         let s : (p : Sockets) → SoundDoes p (serving p r.node.connections) (exchange p event r.sent) = λ p. does_sound served p event r.sent (serving p n.connections) (serving p r.node.connections) w (c.each p) (g.each p) in (
           record { single = c.single; fit = event_fits m steady served n event (wire_event event w) g.fit; each = λ p. (s p).conn },
           λ p id again t e. (let output : sent_to p r.sent ≡ Some t = ap (λ z. sent_to p z) e ∙ ap (λ b. if b then Some t else None) (same_self p) in
-              let k : SoundSaid p t = (s p).output t output in
+              let k : SoundOutput p t = (s p).output t output in
               read_there own p id again t is_own k.fits (step_low m served n event p id again t e) k.segment),
         )
 

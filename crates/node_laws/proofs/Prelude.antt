@@ -8,7 +8,7 @@ pub use Rattle.app_events.specs.declared.want.Want.{Want}
 pub use Rattle.app_events.specs.declared.want.Want.TheVariants.{Abort, Close, Nothing, Send}
 pub use Rattle.icmp_echo.specs.Prelude.{echo_fate}
 pub use Rattle.icmp_echo.specs.declared.fate.IcmpFate.{IcmpFate}
-pub use Rattle.node_laws.specs.Prelude.{AcceptsPrefix, Account, AccountHolds, Acknowledges, Asker, Begins, CarriesByte, EndsAfter, EveryTraceConforms, EveryTraceOfPagesConforms, Exchange, FitsNewest, FitsWindows, FollowsModelAt, FollowsPagesAt, Free, HasItsPage, HasOutputModel, HonestPeer, IncarnationConforms, Interactive, IsSelection, IsAcknowledged, IsAtOffset, IsEchoed, IsExtendedBy, IsHonest, IsIncarnationIn, IsNewText, IsOfLine, IsOutstanding, IsPagedAt, IsPassedOver, IsPrefixOfPage, IsDecoded, IsDecodedAt, IsReceived, IsRetried, IsRetriedIn, IsSolicited, IsWaitedFor, IsWithoutReset, LeavesDelivered, ContinuesUnreset, NothingUnsolicited, NumbersGiveOffsets, Opening, OpensServed, OutputModel, Paged, PlainestReceives, RetransmitsOrResets, SendsNext, SendsSlice, SendsSyn, SpeaksBy, TextConforms, TraceConforms, TraceEntry, WindowsAreRespected, WrongIncarnationsFall, acknowledges_refused, at_every_port, awaits_ack, bare_acks, calls_of, cut_again, echoes_before, ends_early, exchange, exchanged, exchanges_onto, exchanges_with, given_up, hello_pages, in_turn, is_bare_ack, is_empty, is_incarnation, is_opening, mirror_pages, of_bytes, of_call, of_overlong, opened, received_at, received_from, receives, receives_all, repeats_byte, replies_of, seen_from_peer, segment, sent_again, sent_at, sent_to, sequence_length, takes_next, tells_another, text_received, trace_of, two_under_way, with_first}
+pub use Rattle.node_laws.specs.Prelude.{AcceptsPrefix, Account, AccountHolds, Acknowledges, Asker, Begins, CarriesByte, EndsAfter, EveryTraceConforms, EveryTraceOfPagesConforms, Exchange, FitsNewest, FitsWindows, FollowsModelAt, FollowsPagesAt, Free, HasItsPage, HasOutputModel, HonestPeer, IncarnationConforms, Interactive, IsSelection, IsAcknowledged, IsAtOffset, IsEchoed, IsExtendedBy, IsHonest, IsIncarnationIn, IsNewText, IsOfLine, IsOutstanding, IsPagedAt, IsPassedOver, IsPrefixOfPage, IsDecoded, IsDecodedAt, IsReceived, IsRetried, IsRetriedIn, IsSolicited, IsWaitedFor, IsWithoutReset, LeavesDelivered, ContinuesUnreset, NothingUnsolicited, NumbersGiveOffsets, Opening, OpensServed, OutputModel, Paged, PlainestReceives, RetransmitsOrResets, SendsNext, SendsSlice, SendsSyn, SpeaksBy, TextConforms, TraceConforms, TraceEntry, WindowsAreRespected, WrongIncarnationsFall, acknowledges_refused, at_every_port, awaits_ack, bare_acks, calls_of, cut_again, echoes_before, ends_early, exchange, exchanged, exchanges_onto, exchanges_with, given_up, hello_pages, in_turn, is_bare_ack, is_empty, is_incarnation, is_opening, mirror_pages, of_bytes, of_call, of_overlong, opened, received_at, received_from, receives, receives_all, repeats_byte, replies_of, seen_from_peer, segment, sent_again, sent_at, sent_to, sequence_length, takes_next, reports_another, text_received, trace_of, two_under_way, with_first}
 pub use Rattle.rexmit_timer.specs.Prelude.{ages, beat_at, give_up_age}
 pub use Rattle.rexmit_timer.specs.declared.timer.Beat.{Beat}
 pub use Rattle.std.proofs.Common.{Bool, List, None, Option, Result, Some, [], ap, append_assoc, arith, bytes_eq, drop, eqb, false, if◌then◌else◌, inl, inr, is_some, length, length-append, length-drop, length-take, ltb, map, min, not, position, refl, replicate, set, slice_get, slice_index, slice_index_or, subst, suc, sym, take, true, zero, ℕ, ◌%◌, ◌&&◌, ◌++◌, ◌+◌, ◌-◌, ◌<◌, ◌==◌, ◌||◌, ◌∙◌, ◌∷◌, ◌≡◌, ◌≤◌, ◌⊎◌}
@@ -46,14 +46,14 @@ pub use Rattle.uip_node.proofs.DeliveredBytes.{DeliveredBytes, asked_bytes, on_s
 pub use Rattle.uip_node.proofs.Finding.{found}
 pub use Rattle.uip_node.proofs.FitNodes.{FitNode, closed_fits, event_fits, node_snapshot, slot_inside}
 pub use Rattle.uip_node.proofs.Fits.{FitConn, FitOut, accepted_fits, all_cons, all_nil, asked_fits, on_segment_fits, on_tick_fits, prepared_snapshots}
-pub use Rattle.uip_node.proofs.Handed.{hears_is, prepare_is}
+pub use Rattle.uip_node.proofs.Handed.{receives_is, prepare_is}
 pub use Rattle.uip_node.proofs.Acknowledged.{Moves, asked_moves, segment_moves, tick_moves}
 pub use Rattle.uip_node.proofs.Peers.{asked_keeps, on_segment_keeps, on_tick_closed, on_tick_keeps}
 pub use Rattle.uip_node.proofs.SocketPairs.{is_same, same_is, same_self, serves_dead, serves_not, serves_yes}
-pub use Rattle.uip_node.proofs.SoundSegments.{IsSoundSegment, Lens, LensWithin, accepted_lens, asked_lens, asked_within, closed_lens, on_segment_lens, on_segment_within, on_tick_lens, on_tick_within, said_sound}
+pub use Rattle.uip_node.proofs.SoundSegments.{IsSoundSegment, Lens, LensWithin, accepted_lens, asked_lens, asked_within, closed_lens, on_segment_lens, on_segment_within, on_tick_lens, on_tick_within, sent_sound}
 pub use Rattle.uip_node.proofs.Steadiness.{steady_of}
-pub use Rattle.uip_node.proofs.Stepped.{stepped_fits, stepped_tells}
-pub use Rattle.uip_node.proofs.Outstanding.{IsDue, OutReports, Safe, SafeState, StepReports, alike_refl, alike_sym, alike_trans, due, segment_tells, tick_tells}
+pub use Rattle.uip_node.proofs.Stepped.{stepped_fits, stepped_reports}
+pub use Rattle.uip_node.proofs.Outstanding.{IsDue, OutReports, Safe, SafeState, StepReports, alike_refl, alike_sym, alike_trans, due, segment_reports, tick_reports}
 pub use Rattle.uip_node.specs.Prelude.{AbstractNode, Alike, AnswersPolled, Arrived, Echo, EchoAsked, Event, GoesOnBy, HasBytes, HistoryEntry, IcmpRefused, IpRefused, IsEvent, IsSlice, IsSteady, NodeStep, Overlong, Periodic, Reply, SendsBytes, TcpReply, TcpRefused, arrives_at, by_head, by_proto, by_segment, called_by, connection_in, datagram_to, event_of, ident_of, initial_node, initial_number, joined, opens, periodic, refuses, run, serving, slot_for_syn, snapshot, step}
 unfoldable pub use Rattle.uip_node.specs.Prelude.{for_no_connection, happened, opens_in}
 pub use Rattle.uip_wire.specs.Prelude.{address_at, checksum_of, long_at, word_at, wrap}

@@ -59,17 +59,17 @@ module _ (m : AppSpec) where
       choose (λ o. NoSyn o) (has_rst s.flags) _ _ (λ e. calm _ refl refl) (λ e.
       choose (λ o. NoSyn o) (is_out_of_order c s) _ _ (λ f. calm _ refl refl) (λ f. by_state_no c.state (is_acked c s) c numbers s))
 
-  said_no : (d : Connection) (st : Step) (s : PlainSegment) → is_syn_ack st ≡ false → segment_of m d st ≡ Some s → has_syn s.flags ≡ false
-  said_no d Step.Drop s n e = absurd (cc)
-  said_no d Step.Ack s n e = only_some (λ x. has_syn x.flags ≡ false) (bare_ack d) s e refl
-  said_no d (Step.SynAck again) s n e = absurd (cc)
-  said_no d (Step.Text again) s n e = only_some (λ x. has_syn x.flags ≡ false) (text_segment m d) s e refl
-  said_no d (Step.Fin again) s n e = only_some (λ x. has_syn x.flags ≡ false) (fin_of d) s e refl
-  said_no d Step.Reset s n e = only_some (λ x. has_syn x.flags ≡ false) (reset_of d) s e refl
-  said_no d (Step.Ask fresh) s n e = absurd (cc)
+  sent_no : (d : Connection) (st : Step) (s : PlainSegment) → is_syn_ack st ≡ false → segment_of m d st ≡ Some s → has_syn s.flags ≡ false
+  sent_no d Step.Drop s n e = absurd (cc)
+  sent_no d Step.Ack s n e = only_some (λ x. has_syn x.flags ≡ false) (bare_ack d) s e refl
+  sent_no d (Step.SynAck again) s n e = absurd (cc)
+  sent_no d (Step.Text again) s n e = only_some (λ x. has_syn x.flags ≡ false) (text_segment m d) s e refl
+  sent_no d (Step.Fin again) s n e = only_some (λ x. has_syn x.flags ≡ false) (fin_of d) s e refl
+  sent_no d Step.Reset s n e = only_some (λ x. has_syn x.flags ≡ false) (reset_of d) s e refl
+  sent_no d (Step.Ask fresh) s n e = absurd (cc)
 
   pub answer_no_syn : (at : Connection → Now) (c : Connection) (numbers : List ℕ) (s t : PlainSegment) → (let o : Outcome = asked m at (on_segment m c numbers s) in segment_of m o.connection o.step ≡ Some t) → has_syn t.flags ≡ false
-  answer_no_syn at c numbers s t e = (let o : Outcome = asked m at (on_segment m c numbers s) in said_no o.connection o.step t (asked_no at (on_segment m c numbers s) (on_segment_no c numbers s)).no_syn e)
+  answer_no_syn at c numbers s t e = (let o : Outcome = asked m at (on_segment m c numbers s) in sent_no o.connection o.step t (asked_no at (on_segment m c numbers s) (on_segment_no c numbers s)).no_syn e)
 
   -- a RST is not answered
   pub rst_silent : (at : Connection → Now) (c : Connection) (numbers : List ℕ) (s : PlainSegment) → has_rst s.flags ≡ true → (let o : Outcome = asked m at (on_segment m c numbers s) in segment_of m o.connection o.step ≡ None)
@@ -84,19 +84,19 @@ module _ (m : AppSpec) where
   rst_ends at c numbers s r =
       choose (λ z. is_live (asked m at z).connection.state ≡ false) (has_rst s.flags) _ _ (λ e. refl) (λ e. absurd (cc))
 
-  said_reset : (d : Connection) (st : Step) (s : PlainSegment) → segment_of m d st ≡ Some s → has_rst s.flags ≡ true → is_reset st ≡ true
-  said_reset d Step.Drop s e r = absurd (cc)
-  said_reset d Step.Ack s e r = absurd (let z : has_rst s.flags ≡ false = only_some (λ x. has_rst x.flags ≡ false) (bare_ack d) s e refl in cc)
-  said_reset d (Step.SynAck again) s e r = absurd (let z : has_rst s.flags ≡ false = only_some (λ x. has_rst x.flags ≡ false) (syn_ack d) s e refl in cc)
-  said_reset d (Step.Text again) s e r = absurd (let z : has_rst s.flags ≡ false = only_some (λ x. has_rst x.flags ≡ false) (text_segment m d) s e refl in cc)
-  said_reset d (Step.Fin again) s e r = absurd (let z : has_rst s.flags ≡ false = only_some (λ x. has_rst x.flags ≡ false) (fin_of d) s e refl in cc)
-  said_reset d Step.Reset s e r = refl
-  said_reset d (Step.Ask fresh) s e r = absurd (cc)
+  sent_reset : (d : Connection) (st : Step) (s : PlainSegment) → segment_of m d st ≡ Some s → has_rst s.flags ≡ true → is_reset st ≡ true
+  sent_reset d Step.Drop s e r = absurd (cc)
+  sent_reset d Step.Ack s e r = absurd (let z : has_rst s.flags ≡ false = only_some (λ x. has_rst x.flags ≡ false) (bare_ack d) s e refl in cc)
+  sent_reset d (Step.SynAck again) s e r = absurd (let z : has_rst s.flags ≡ false = only_some (λ x. has_rst x.flags ≡ false) (syn_ack d) s e refl in cc)
+  sent_reset d (Step.Text again) s e r = absurd (let z : has_rst s.flags ≡ false = only_some (λ x. has_rst x.flags ≡ false) (text_segment m d) s e refl in cc)
+  sent_reset d (Step.Fin again) s e r = absurd (let z : has_rst s.flags ≡ false = only_some (λ x. has_rst x.flags ≡ false) (fin_of d) s e refl in cc)
+  sent_reset d Step.Reset s e r = refl
+  sent_reset d (Step.Ask fresh) s e r = absurd (cc)
 
   -- a connection that sends a RST is gone
   pub reset_ends : (at : Connection → Now) (c : Connection) (numbers : List ℕ) (s t : PlainSegment) → (let o : Outcome = asked m at (on_segment m c numbers s) in segment_of m o.connection o.step ≡ Some t) → has_rst t.flags ≡ true
       → is_live (asked m at (on_segment m c numbers s)).connection.state ≡ false
-  reset_ends at c numbers s t e r = (let o : Outcome = asked m at (on_segment m c numbers s) in (asked_no at (on_segment m c numbers s) (on_segment_no c numbers s)).gone (said_reset o.connection o.step t e r))
+  reset_ends at c numbers s t e r = (let o : Outcome = asked m at (on_segment m c numbers s) in (asked_no at (on_segment m c numbers s) (on_segment_no c numbers s)).gone (sent_reset o.connection o.step t e r))
 
   -- ---- a periodic call
 
@@ -127,7 +127,7 @@ module _ (m : AppSpec) where
 
   pub tick_reset_ends : (at : Connection → Now) (c : Connection) (numbers : List ℕ) (t : PlainSegment) → (let o : Outcome = asked m at (on_tick m c numbers) in segment_of m o.connection o.step ≡ Some t) → has_rst t.flags ≡ true
       → is_live (asked m at (on_tick m c numbers)).connection.state ≡ false
-  tick_reset_ends at c numbers t e r = (let o : Outcome = asked m at (on_tick m c numbers) in asked_ends at (on_tick m c numbers) (on_tick_ends c numbers) (said_reset o.connection o.step t e r))
+  tick_reset_ends at c numbers t e r = (let o : Outcome = asked m at (on_tick m c numbers) in asked_ends at (on_tick m c numbers) (on_tick_ends c numbers) (sent_reset o.connection o.step t e r))
 
 -- no text is longer than what is outstanding
 pub step_short : (m : AppSpec) (most : ℕ) (c : Connection) (st : Step) (s : PlainSegment) → LensWithin most c → segment_of m c st ≡ Some s → length s.text ≤ most
@@ -141,11 +141,11 @@ step_short m most c Step.Reset s l e = only_some (λ x. length x.text ≤ most) 
 step_short m most c (Step.Ask fresh) s l e = absurd (cc)
 
 -- every segment of a connection acknowledges what it took
-pub said_ack : (m : AppSpec) (d : Connection) (st : Step) (s : PlainSegment) → segment_of m d st ≡ Some s → s.ack ≡ rcv_nxt d
-said_ack m d Step.Drop s e = absurd (cc)
-said_ack m d Step.Ack s e = only_some (λ x. x.ack ≡ rcv_nxt d) (bare_ack d) s e refl
-said_ack m d (Step.SynAck again) s e = only_some (λ x. x.ack ≡ rcv_nxt d) (syn_ack d) s e refl
-said_ack m d (Step.Text again) s e = only_some (λ x. x.ack ≡ rcv_nxt d) (text_segment m d) s e refl
-said_ack m d (Step.Fin again) s e = only_some (λ x. x.ack ≡ rcv_nxt d) (fin_of d) s e refl
-said_ack m d Step.Reset s e = only_some (λ x. x.ack ≡ rcv_nxt d) (reset_of d) s e refl
-said_ack m d (Step.Ask fresh) s e = absurd (cc)
+pub sent_ack : (m : AppSpec) (d : Connection) (st : Step) (s : PlainSegment) → segment_of m d st ≡ Some s → s.ack ≡ rcv_nxt d
+sent_ack m d Step.Drop s e = absurd (cc)
+sent_ack m d Step.Ack s e = only_some (λ x. x.ack ≡ rcv_nxt d) (bare_ack d) s e refl
+sent_ack m d (Step.SynAck again) s e = only_some (λ x. x.ack ≡ rcv_nxt d) (syn_ack d) s e refl
+sent_ack m d (Step.Text again) s e = only_some (λ x. x.ack ≡ rcv_nxt d) (text_segment m d) s e refl
+sent_ack m d (Step.Fin again) s e = only_some (λ x. x.ack ≡ rcv_nxt d) (fin_of d) s e refl
+sent_ack m d Step.Reset s e = only_some (λ x. x.ack ≡ rcv_nxt d) (reset_of d) s e refl
+sent_ack m d (Step.Ask fresh) s e = absurd (cc)

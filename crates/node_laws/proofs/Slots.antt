@@ -1,7 +1,7 @@
 -- What an event does to the connection in one slot, and what it adds to the exchanges with its peer.
 use Rattle.node_laws.proofs.Prelude.{option_or, option_map, ◌≡◌, ℕ, zero, suc, ◌+◌, Bool, true, false, not, ◌==◌, ◌&&◌, ◌⊎◌, inl, inr, List, [], ◌∷◌, set, position, refl, sym, ap, ◌∙◌, subst, arith, Option, Some, None, slice_get, slice_index_or, eqb, eq-eqb, PlainSegment, has_rst, AppSpec, is_time_wait, longest_wait, Sockets, Connection, closed, is_live, serves, same_sockets, segment_of, is_again, is_plain_syn, reset_for_no_connection, syn_ack, Outcome, leaves, asked, accepted, on_segment, on_tick, Step, initial_number, ident_of, Event, IpRefused, IcmpRefused, TcpRefused, EchoAsked, Arrived, Overlong, Periodic, TcpReply, AbstractNode, NodeStep, snapshot, happened, connection_in, slot_for_syn, opens_in, opens, refuses, for_no_connection, arrives_at, periodic, step, serving, both_ways, choose, and_true, eqb-eq, not-true, same_is, is_same, serves_not, find_is, get_set, get_set_other, index_of, Single, here, there, finds, finds_none, found, on_segment_keeps, asked_keeps, on_tick_keeps, on_tick_closed, received_from, sent_to, exchange}
 use Rattle.uip_node.proofs.Connections.{Free}
-use Rattle.node_laws.proofs.Lines.{quiet, met, meets, came_here, came_elsewhere, said_here, said_elsewhere}
+use Rattle.node_laws.proofs.Lines.{quiet, met, meets, came_here, came_elsewhere, sent_here, sent_elsewhere}
 
 -- ---- the slot that a SYN takes
 
@@ -59,7 +59,7 @@ module _ (m : AppSpec) (served : ℕ → Bool) (n : AbstractNode) (p : Sockets) 
     acted event received o e q =
         let r : NodeStep = happened m n event i c o in
         record {
-          exchanged = meets (received_from p event) (sent_to p r.sent) received (segment_of m o.connection o.step) e (said_here p o.connection.sockets (ident_of r.node.history) (is_again o.step) (segment_of m o.connection o.step) q);
+          exchanged = meets (received_from p event) (sent_to p r.sent) received (segment_of m o.connection o.step) e (sent_here p o.connection.sockets (ident_of r.node.history) (is_again o.step) (segment_of m o.connection o.step) q);
           id = ident_of r.node.history;
           sent = ap (λ z. option_map (λ s. TcpReply z (ident_of r.node.history) (is_again o.step) s) (segment_of m o.connection o.step)) q;
           table = refl;
@@ -72,7 +72,7 @@ module _ (m : AppSpec) (served : ℕ → Bool) (n : AbstractNode) (p : Sockets) 
     elsewhere event j old o away other e q =
         let r : NodeStep = happened m n event j old o in
         is_apart away
-        (meets (received_from p event) (sent_to p r.sent) None None e (said_elsewhere p o.connection.sockets (ident_of r.node.history) (is_again o.step) (segment_of m o.connection o.step) q))
+        (meets (received_from p event) (sent_to p r.sent) None None e (sent_elsewhere p o.connection.sockets (ident_of r.node.history) (is_again o.step) (segment_of m o.connection o.step) q))
         (get_set_other n.connections j o.connection i (λ z. other (sym z)) ∙ at)
 
     -- nothing is sent at all
@@ -131,7 +131,7 @@ module _ (m : AppSpec) (served : ℕ → Bool) (n : AbstractNode) (p : Sockets) 
       opened (Some k) e =
           let new : Connection = accepted (initial_number n.history) q s in
           let r : NodeStep = opens m n q s (Some k) in
-          let x : exchange p (Arrived q s) r.sent ≡ quiet = meets (received_from p (Arrived q s)) (sent_to p r.sent) None None far_came (said_elsewhere p q (ident_of r.node.history) false (Some (syn_ack new)) far) in
+          let x : exchange p (Arrived q s) r.sent ≡ quiet = meets (received_from p (Arrived q s)) (sent_to p r.sent) None None far_came (sent_elsewhere p q (ident_of r.node.history) false (Some (syn_ack new)) far) in
           both_ways (eqb k i)
           (λ z. makes_room x (slot_free n.connections i c (e ∙ ap Some (eqb-eq k i z)) at live) (gone k (eqb-eq k i z) new far))
           (λ z. is_apart no_call x (get_set_other n.connections k new i (λ y. (let w : eqb k i ≡ true = eq-eqb k i (sym y) in cc)) ∙ at))
@@ -144,7 +144,7 @@ module _ (m : AppSpec) (served : ℕ → Bool) (n : AbstractNode) (p : Sockets) 
           (λ e. choose (λ r. Acts (Arrived q s) r) (has_rst s.flags) _ _
           (λ f. still (Arrived q s) _ no_call (meets (received_from p (Arrived q s)) None None None far_came refl) refl)
           (λ f. still (Arrived q s) (refuses n q s) no_call
-          (meets (received_from p (Arrived q s)) (sent_to p (refuses n q s).sent) None None far_came (said_elsewhere p q (ident_of (refuses n q s).node.history) false (Some (reset_for_no_connection s)) far)) refl))
+          (meets (received_from p (Arrived q s)) (sent_to p (refuses n q s).sent) None None far_came (sent_elsewhere p q (ident_of (refuses n q s).node.history) false (Some (reset_for_no_connection s)) far)) refl))
 
       far_arrival : (where_found : Option ℕ) → position (serves q) n.connections ≡ where_found → Acts (Arrived q s) (arrives_at m served n q s where_found)
       far_arrival o e =

@@ -82,17 +82,17 @@ module _ (m : AppSpec) (port : ℕ) where
     )
 
     -- what was delivered to a state of what was accepted: all, or a prefix if it is lost
-    abbrev HeardOf : AppState → List ℕ → Type 0
-    HeardOf p text = (l.here p ≡ true) × ((p.input ≡ text) ⊎ ((l.lost p ≡ true) × IsPrefixOf p.input text))
+    abbrev ReceivedOf : AppState → List ℕ → Type 0
+    ReceivedOf p text = (l.here p ≡ true) × ((p.input ≡ text) ⊎ ((l.lost p ≡ true) × IsPrefixOf p.input text))
 
-    heard_prefix : (p : AppState) (text : List ℕ) → HeardOf p text → IsPrefixOf p.input text
-    heard_prefix p text h = elim (h.1) [ inl e ↦ all_prefix p.input text e | inr q ↦ q.1 ]
+    received_prefix : (p : AppState) (text : List ℕ) → ReceivedOf p text → IsPrefixOf p.input text
+    received_prefix p text h = elim (h.1) [ inl e ↦ all_prefix p.input text e | inr q ↦ q.1 ]
 
-    heard_new : (numbers : List ℕ) → HeardOf (m.connected numbers port).part []
-    heard_new numbers = (let x = l.connected numbers in (x.0, inl x.1))
+    received_new : (numbers : List ℕ) → ReceivedOf (m.connected numbers port).part []
+    received_new numbers = (let x = l.connected numbers in (x.0, inl x.1))
 
-    heard_piece : (numbers : List ℕ) (p : AppState) (piece text : List ℕ) → HeardOf p text → HeardOf (m.newdata numbers p piece).part (text ++ piece)
-    heard_piece numbers p piece text h =
+    received_piece : (numbers : List ℕ) (p : AppState) (piece text : List ℕ) → ReceivedOf p text → ReceivedOf (m.newdata numbers p piece).part (text ++ piece)
+    received_piece numbers p piece text h =
         let q : AppState = (m.newdata numbers p piece).part in
         let x : AcceptsPrefix l.here l.lost p q piece = l.newdata numbers p piece h.0 in (
           x.input.0,
@@ -114,8 +114,8 @@ module _ (m : AppSpec) (port : ℕ) where
           ],
         )
 
-    heard_left : (p q : AppState) (text : List ℕ) → LeavesDelivered l.here l.lost p q → HeardOf p text → HeardOf q text
-    heard_left p q text x h = (
+    received_left : (p q : AppState) (text : List ℕ) → LeavesDelivered l.here l.lost p q → ReceivedOf p text → ReceivedOf q text
+    received_left p q text x h = (
       x.0.0,
       elim (h.1) [
         | inl e ↦ inl (x.0.1 ∙ e)
@@ -123,12 +123,12 @@ module _ (m : AppSpec) (port : ℕ) where
       ],
     )
 
-    text_said : (E : Type 0) → (E → ⊥) → (p : AppState) (n : ℕ) → l.here p ≡ true → IsTextOf pages E p.input p.snapshots (take n (m.output p))
-    text_said E none p n h = (subst (λ z. IsPrefixOf (take n (m.output p)) z) (l.output p h) (prefix_of n (m.output p)), λ e. absurd (none e))
+    text_sent_text : (E : Type 0) → (E → ⊥) → (p : AppState) (n : ℕ) → l.here p ≡ true → IsTextOf pages E p.input p.snapshots (take n (m.output p))
+    text_sent_text E none p n h = (subst (λ z. IsPrefixOf (take n (m.output p)) z) (l.output p h) (prefix_of n (m.output p)), λ e. absurd (none e))
 
     -- it closes at the end of the page
-    end_of_said : (numbers : List ℕ) (p : AppState) → l.here p ≡ true → p.acked ≤ length (m.output p) → m.want numbers p ≡ Close → IsEndOf pages p.input p.snapshots (take p.acked (m.output p))
-    end_of_said numbers p h fits e =
+    end_of_sent : (numbers : List ℕ) (p : AppState) → l.here p ≡ true → p.acked ≤ length (m.output p) → m.want numbers p ≡ Close → IsEndOf pages p.input p.snapshots (take p.acked (m.output p))
+    end_of_sent numbers p h fits e =
         let w : MayWant pages p Close = l.closes numbers p h fits e in
         let page : List ℕ = pages.page p.input p.snapshots in (
           ap (λ z. take p.acked z) (l.output p h) ∙ ap (λ n. take n page) w.1 ∙ Rattle.std.proofs.Math.Seq.take-length page,
@@ -136,13 +136,13 @@ module _ (m : AppSpec) (port : ℕ) where
         )
 
   -- if every piece is delivered
-  heard_all : (pages : Pages) (l : IsPagedAt m port pages) (p : AppState) (text : List ℕ) → HeardOf pages l.follows p text → p.input ≡ text
-  heard_all pages l p text h = elim (h.1) [ inl e ↦ e | inr g ↦ absurd (let z : l.follows.lost p ≡ false = l.accepts_all p in let y : l.follows.lost p ≡ true = g.0 in cc) ]
+  received_all : (pages : Pages) (l : IsPagedAt m port pages) (p : AppState) (text : List ℕ) → ReceivedOf pages l.follows p text → p.input ≡ text
+  received_all pages l p text h = elim (h.1) [ inl e ↦ e | inr g ↦ absurd (let z : l.follows.lost p ≡ false = l.accepts_all p in let y : l.follows.lost p ≡ true = g.0 in cc) ]
 
   -- this was delivered to a state of this port, or for a session a prefix of it
   abbrev pub IsOpen : (model : OutputModel) → FollowsModelAt m port model → AppState → List ℕ → Type 0
-  IsOpen (Paged pages) laws p text = (let l : IsPagedAt m port pages = laws in HeardOf pages l.follows p text)
-  IsOpen (Interactive sessions) laws p text = HeardOf sessions laws p text
+  IsOpen (Paged pages) laws p text = (let l : IsPagedAt m port pages = laws in ReceivedOf pages l.follows p text)
+  IsOpen (Interactive sessions) laws p text = ReceivedOf sessions laws p text
   IsOpen Free laws p text = Unit {0}
 
   pub reported_on : (model : OutputModel) → FollowsModelAt m port model → (E : Type 0) (text more : List ℕ) (k later : List Snapshot) (sent : List ℕ) → IsReported model E text k sent → IsReported model E (text ++ more) (k ++ later) sent
@@ -167,56 +167,56 @@ module _ (m : AppSpec) (port : ℕ) where
   -- ---- what a call leaves
 
   pub open_new : (model : OutputModel) (laws : FollowsModelAt m port model) (numbers : List ℕ) → IsOpen model laws (m.connected numbers port).part []
-  open_new (Paged pages) laws numbers = (let l : IsPagedAt m port pages = laws in heard_new pages l.follows numbers)
-  open_new (Interactive sessions) laws numbers = heard_new sessions laws numbers
+  open_new (Paged pages) laws numbers = (let l : IsPagedAt m port pages = laws in received_new pages l.follows numbers)
+  open_new (Interactive sessions) laws numbers = received_new sessions laws numbers
   open_new Free laws numbers = tt
 
   open_piece : (model : OutputModel) (laws : FollowsModelAt m port model) (numbers : List ℕ) (p : AppState) (piece text : List ℕ) → IsOpen model laws p text → IsOpen model laws (m.newdata numbers p piece).part (text ++ piece)
-  open_piece (Paged pages) laws numbers p piece text h = (let l : IsPagedAt m port pages = laws in heard_piece pages l.follows numbers p piece text h)
-  open_piece (Interactive sessions) laws numbers p piece text h = heard_piece sessions laws numbers p piece text h
+  open_piece (Paged pages) laws numbers p piece text h = (let l : IsPagedAt m port pages = laws in received_piece pages l.follows numbers p piece text h)
+  open_piece (Interactive sessions) laws numbers p piece text h = received_piece sessions laws numbers p piece text h
   open_piece Free laws numbers p piece text h = tt
 
-  pub open_heard : (model : OutputModel) (laws : FollowsModelAt m port model) (numbers : List ℕ) (p : AppState) (piece text : List ℕ) → IsOpen model laws p text → IsOpen model laws (delivers_text m numbers p piece).part (text ++ piece)
-  open_heard model laws numbers p [] text h = subst (λ z. IsOpen model laws p z) (sym (append_nothing text)) h
-  open_heard model laws numbers p (x ∷ xs) text h = open_piece model laws numbers p (x ∷ xs) text h
+  pub open_received : (model : OutputModel) (laws : FollowsModelAt m port model) (numbers : List ℕ) (p : AppState) (piece text : List ℕ) → IsOpen model laws p text → IsOpen model laws (delivers_text m numbers p piece).part (text ++ piece)
+  open_received model laws numbers p [] text h = subst (λ z. IsOpen model laws p z) (sym (append_nothing text)) h
+  open_received model laws numbers p (x ∷ xs) text h = open_piece model laws numbers p (x ∷ xs) text h
 
   pub open_prepared : (model : OutputModel) (laws : FollowsModelAt m port model) (numbers : List ℕ) (p : AppState) (now : Now) (text : List ℕ) → IsOpen model laws p text → IsOpen model laws (m.prepare numbers p now) text
   open_prepared (Paged pages) laws numbers p now text h =
-      (let l : IsPagedAt m port pages = laws in heard_left pages l.follows p (m.prepare numbers p now) text (l.follows.prepare numbers p now h.0) h)
+      (let l : IsPagedAt m port pages = laws in received_left pages l.follows p (m.prepare numbers p now) text (l.follows.prepare numbers p now h.0) h)
   open_prepared (Interactive sessions) laws numbers p now text h =
-      (let l : FollowsPagesAt m port sessions = laws in heard_left sessions l p (m.prepare numbers p now) text (l.prepare numbers p now h.0) h)
+      (let l : FollowsPagesAt m port sessions = laws in received_left sessions l p (m.prepare numbers p now) text (l.prepare numbers p now h.0) h)
   open_prepared Free laws numbers p now text h = tt
 
   pub open_acked : (model : OutputModel) (laws : FollowsModelAt m port model) (numbers : List ℕ) (p : AppState) (n : ℕ) (text : List ℕ) → IsOpen model laws p text → IsOpen model laws (m.acked numbers p n).part text
   open_acked (Paged pages) laws numbers p n text h =
-      (let l : IsPagedAt m port pages = laws in heard_left pages l.follows p (m.acked numbers p n).part text (l.follows.acked numbers p n h.0) h)
+      (let l : IsPagedAt m port pages = laws in received_left pages l.follows p (m.acked numbers p n).part text (l.follows.acked numbers p n h.0) h)
   open_acked (Interactive sessions) laws numbers p n text h =
-      (let l : FollowsPagesAt m port sessions = laws in heard_left sessions l p (m.acked numbers p n).part text (l.acked numbers p n h.0) h)
+      (let l : FollowsPagesAt m port sessions = laws in received_left sessions l p (m.acked numbers p n).part text (l.acked numbers p n h.0) h)
   open_acked Free laws numbers p n text h = tt
 
   pub open_polled : (model : OutputModel) (laws : FollowsModelAt m port model) (numbers : List ℕ) (p : AppState) (text : List ℕ) → IsOpen model laws p text → IsOpen model laws (m.polled numbers p).part text
   open_polled (Paged pages) laws numbers p text h =
-      (let l : IsPagedAt m port pages = laws in heard_left pages l.follows p (m.polled numbers p).part text (l.follows.polled numbers p h.0) h)
+      (let l : IsPagedAt m port pages = laws in received_left pages l.follows p (m.polled numbers p).part text (l.follows.polled numbers p h.0) h)
   open_polled (Interactive sessions) laws numbers p text h =
-      (let l : FollowsPagesAt m port sessions = laws in heard_left sessions l p (m.polled numbers p).part text (l.polled numbers p h.0) h)
+      (let l : FollowsPagesAt m port sessions = laws in received_left sessions l p (m.polled numbers p).part text (l.polled numbers p h.0) h)
   open_polled Free laws numbers p text h = tt
 
   -- ---- what it sends
 
-  pub reported_said : (model : OutputModel) (laws : FollowsModelAt m port model) (E : Type 0) → (E → ⊥) → (p : AppState) (text : List ℕ) (n : ℕ) → IsOpen model laws p text → IsReported model E text p.snapshots (take n (m.output p))
-  reported_said (Paged pages) laws E none p text n h =
+  pub reported_sent : (model : OutputModel) (laws : FollowsModelAt m port model) (E : Type 0) → (E → ⊥) → (p : AppState) (text : List ℕ) (n : ℕ) → IsOpen model laws p text → IsReported model E text p.snapshots (take n (m.output p))
+  reported_sent (Paged pages) laws E none p text n h =
       (let l : IsPagedAt m port pages = laws in
-      subst (λ z. IsTextOf pages E z p.snapshots (take n (m.output p))) (heard_all pages l p text h) (text_said pages l.follows E none p n h.0))
-  reported_said (Interactive sessions) laws E none p text n h = (p.input, heard_prefix sessions laws p text h, text_said sessions laws E none p n h.0)
-  reported_said Free laws E none p text n h = tt
+      subst (λ z. IsTextOf pages E z p.snapshots (take n (m.output p))) (received_all pages l p text h) (text_sent_text pages l.follows E none p n h.0))
+  reported_sent (Interactive sessions) laws E none p text n h = (p.input, received_prefix sessions laws p text h, text_sent_text sessions laws E none p n h.0)
+  reported_sent Free laws E none p text n h = tt
 
   -- it closes at the end of the page
-  pub end_said : (model : OutputModel) (laws : FollowsModelAt m port model) (numbers : List ℕ) (p : AppState) (text : List ℕ) → IsOpen model laws p text → p.acked ≤ length (m.output p) → m.want numbers p ≡ Close → IsEnd model text p.snapshots (take p.acked (m.output p))
-  end_said (Paged pages) laws numbers p text h fits e =
+  pub end_sent : (model : OutputModel) (laws : FollowsModelAt m port model) (numbers : List ℕ) (p : AppState) (text : List ℕ) → IsOpen model laws p text → p.acked ≤ length (m.output p) → m.want numbers p ≡ Close → IsEnd model text p.snapshots (take p.acked (m.output p))
+  end_sent (Paged pages) laws numbers p text h fits e =
       (let l : IsPagedAt m port pages = laws in
-      subst (λ z. IsEndOf pages z p.snapshots (take p.acked (m.output p))) (heard_all pages l p text h) (end_of_said pages l.follows numbers p h.0 fits e))
-  end_said (Interactive sessions) laws numbers p text h fits e = (p.input, heard_prefix sessions laws p text h, end_of_said sessions laws numbers p h.0 fits e)
-  end_said Free laws numbers p text h fits e = tt
+      subst (λ z. IsEndOf pages z p.snapshots (take p.acked (m.output p))) (received_all pages l p text h) (end_of_sent pages l.follows numbers p h.0 fits e))
+  end_sent (Interactive sessions) laws numbers p text h fits e = (p.input, received_prefix sessions laws p text h, end_of_sent sessions laws numbers p h.0 fits e)
+  end_sent Free laws numbers p text h fits e = tt
 
   -- ---- what deliveries and captures do
 
@@ -226,9 +226,9 @@ module _ (m : AppSpec) (port : ℕ) where
       pub acked : q.acked ≡ p.acked
       pub grows : IsPrefixOf (m.output p) (m.output q)
 
-    pub heard_is : (numbers : List ℕ) (p : AppState) (piece : List ℕ) → Received p (delivers_text m numbers p piece).part
-    heard_is numbers p [] = record { snapshots = refl; acked = refl; grows = prefix_refl (m.output p) }
-    heard_is numbers p (x ∷ xs) =
+    pub received_is : (numbers : List ℕ) (p : AppState) (piece : List ℕ) → Received p (delivers_text m numbers p piece).part
+    received_is numbers p [] = record { snapshots = refl; acked = refl; grows = prefix_refl (m.output p) }
+    received_is numbers p (x ∷ xs) =
         (let g = steady.lawful.newdata_grows numbers p (x ∷ xs) tt in
         record { snapshots = steady.newdata_snapshots numbers p (x ∷ xs); acked = g.offset; grows = g.text })
 

@@ -1,6 +1,6 @@
 -- What a step of a connection accepts from its peer, and what its page is then.
 use Rattle.node_laws.proofs.Prelude.{◌≡◌, ℕ, ◌+◌, Bool, true, false, not, ◌&&◌, ◌||◌, ◌⊎◌, inl, inr, List, [], ◌∷◌, ◌++◌, length, refl, sym, ap, ◌∙◌, subst, arith, Option, Some, None, length-append, eqb, ltb, append_assoc, take, drop, length-drop, ◌≤◌, if◌then◌else◌, wrap, PlainSegment, has_fin, has_rst, has_syn, Beat, AppState, Snapshot, AppSpec, IsPrefixOf, CanSend, Now, State, Closed, SynRcvd, Established, CloseWait, FinWait1, FinWait2, Closing, TimeWait, LastAck, Want, Nothing, Send, Close, Abort, take-add, Connection, Sockets, is_live, rcv_nxt, occupies_sequence_space, segment_of, text_segment, Outcome, after_own_fin, closes, peer_has_closed, idles, does_as_wanted, prepared, asked, accepted, delivers_text, is_out_of_order, is_acked, rests, has_text, in_state, takes, with_part, with_window, in_established, peer_closes, stays_established, fin_acked, fin_waits, by_state, on_segment, grows_older, by_beat, on_tick, Step, choose, both_ways, append_nothing, ltb-zero, and_false, eqb-eq, not-false, prefix_length, prefix_refl, is_open, asked_by, by_open, is_ask, no_ask_again, on_tick_by, open_live, segment_moves, tick_moves, IsSteady, OutputModel, FollowsModelAt}
-use Rattle.node_laws.proofs.Speaking.{IsEnd, IsReported, IsOpen, end_more, end_said, prefix_size, heard_is, open_acked, open_heard, open_new, open_polled, open_prepared, prepared_is, equal_prefix, reported_said}
+use Rattle.node_laws.proofs.Speaking.{IsEnd, IsReported, IsOpen, end_more, end_sent, prefix_size, received_is, open_acked, open_received, open_new, open_polled, open_prepared, prepared_is, equal_prefix, reported_sent}
 
 -- the numbers that a FIN or a SYN takes up
 abbrev pub numbers_for : Bool → ℕ
@@ -194,7 +194,7 @@ module _ (m : AppSpec) (port : ℕ) (model : OutputModel) (laws : FollowsModelAt
       let all : sent ≡ take b.part.acked (m.output b.part) = g.sent_is ∙ ap (λ n. take n (m.output b.part)) (omega (arith, z)) in
       let size : length sent ≡ b.part.acked = ap length all ∙ prefix_size b.part.acked (m.output b.part) f in
       record {
-        end = subst (λ q. IsEnd model text q.snapshots sent) (sym p) (subst (λ q. IsEnd model text b.part.snapshots q) (sym all) (end_said m port model laws numbers b.part text g.opens f w));
+        end = subst (λ q. IsEnd model text q.snapshots sent) (sym p) (subst (λ q. IsEnd model text b.part.snapshots q) (sym all) (end_sent m port model laws numbers b.part text g.opens f w));
         count = omega (arith, a, g.count, size);
         len = omega (arith, l);
         is = g.is;
@@ -239,7 +239,7 @@ module _ (m : AppSpec) (port : ℕ) (model : OutputModel) (laws : FollowsModelAt
           joined = refl;
           acked = omega (arith, acked, g.count, size);
           unended = g.unended;
-          of_page = subst (λ z. IsReported model ⊥ text d.part.snapshots z) (sym q.sent_is) (reported_said m port model laws ⊥ (λ none. none) d.part text (d.part.acked + d.len) q.opens);
+          of_page = subst (λ z. IsReported model ⊥ text d.part.snapshots z) (sym q.sent_is) (reported_sent m port model laws ⊥ (λ none. none) d.part text (d.part.acked + d.len) q.opens);
         }
 
     sends_page : (st : State) → is_open st ≡ true → AtPage st b text e sent → AtPage st d text e text_sent
@@ -304,9 +304,9 @@ module _ (m : AppSpec) (port : ℕ) (model : OutputModel) (laws : FollowsModelAt
     stays received c text e sent d g k p t a = record { now = text; over = e; read = inl (refl, refl); more = []; snapshots = k ∙ sym (append_nothing c.part.snapshots); irs = p; page = record { at = a; taken = t ∙ g.taken } }
 
     -- text is accepted, and a FIN after it
-    hears_on : (c : Connection) (text : List ℕ) (e : Bool) (sent : List ℕ) (s : PlainSegment) (fin : Bool) (d : Connection) → (occupies_sequence_space s ≡ true → s.seq ≡ rcv_nxt c) → e ≡ false → c.taken ≡ length text + numbers_for e → (fin ≡ true → has_fin s.flags ≡ true) →
+    receives_on : (c : Connection) (text : List ℕ) (e : Bool) (sent : List ℕ) (s : PlainSegment) (fin : Bool) (d : Connection) → (occupies_sequence_space s ≡ true → s.seq ≡ rcv_nxt c) → e ≡ false → c.taken ≡ length text + numbers_for e → (fin ≡ true → has_fin s.flags ≡ true) →
         d.part.snapshots ≡ c.part.snapshots → d.irs ≡ c.irs → d.taken ≡ c.taken + length s.text + numbers_for fin → AtPage d.state d (text ++ s.text) fin sent → Moved (Some s) c text e sent d
-    hears_on c text e sent s fin d order q t f k p n a = record {
+    receives_on c text e sent s fin d order q t f k p n a = record {
       now = text ++ s.text;
       over = fin;
       read = in_turn c.irs c.taken text e s fin order q t f;
@@ -320,13 +320,13 @@ module _ (m : AppSpec) (port : ℕ) (model : OutputModel) (laws : FollowsModelAt
     shut received c b text e sent g k p t = stays received c text e sent (closes b) g k p t tt
 
     -- a piece is delivered to it
-    hears_open : (fin fin' : Bool) (c d : Connection) (numbers piece text : List ℕ) (e : Bool) (sent : List ℕ) → d.part ≡ (delivers_text m numbers c.part piece).part → d.acked ≡ c.acked → d.len ≡ c.len → AtOpen fin c text e sent → AtOpen fin' d (text ++ piece) fin' sent
-    hears_open fin fin' c d numbers piece text e sent part acked len h =
-        let x = heard_is m port steady numbers c.part piece in
+    receives_open : (fin fin' : Bool) (c d : Connection) (numbers piece text : List ℕ) (e : Bool) (sent : List ℕ) → d.part ≡ (delivers_text m numbers c.part piece).part → d.acked ≡ c.acked → d.len ≡ c.len → AtOpen fin c text e sent → AtOpen fin' d (text ++ piece) fin' sent
+    receives_open fin fin' c d numbers piece text e sent part acked len h =
+        let x = received_is m port steady numbers c.part piece in
         let at : d.part.acked ≡ c.part.acked = ap (λ q. q.acked) part ∙ x.acked in
         open_on fin fin' c d text (text ++ piece) e sent (λ g. omega (arith, g, acked, at)) (omega (arith, at, len))
         (subst (λ q. IsPrefixOf (m.output c.part) (m.output q)) (sym part) x.grows)
-        (λ g. subst (λ q. IsOpen m port model laws q (text ++ piece)) (sym part) (open_heard m port model laws numbers c.part piece text g)) h
+        (λ g. subst (λ q. IsOpen m port model laws q (text ++ piece)) (sym part) (open_received m port model laws numbers c.part piece text g)) h
 
     -- all that was outstanding is acknowledged
     acked_open : (fin : Bool) (c d : Connection) (numbers text : List ℕ) (e : Bool) (sent : List ℕ) → d.part ≡ (m.acked numbers c.part c.len).part → d.acked ≡ c.acked + c.len → d.len ≡ 0 → AtOpen fin c text e sent → AtOpen fin d text e sent
@@ -343,19 +343,19 @@ module _ (m : AppSpec) (port : ℕ) (model : OutputModel) (laws : FollowsModelAt
     closing_in : (c : Connection) (text : List ℕ) (e : Bool) (sent : List ℕ) (numbers : List ℕ) (s : PlainSegment) → (occupies_sequence_space s ≡ true → s.seq ≡ rcv_nxt c) → has_fin s.flags ≡ true → AtOpen false c text e sent → c.taken ≡ length text + numbers_for e → OutMoved (Some s) c text e sent (peer_closes m c numbers s)
     unfolding peer_closes
     closing_in c text e sent numbers s order f h t =
-        let x = heard_is m port steady numbers c.part s.text in
+        let x = received_is m port steady numbers c.part s.text in
         let d : Connection = in_state CloseWait (with_window s.window (with_part (delivers_text m numbers c.part s.text).part (takes (length s.text + 1) c))) in
-        let a : AtOpen true d (text ++ s.text) true sent = hears_open false true c d numbers s.text text e sent refl refl refl h in
-        let g : Moved (Some s) c text e sent d = hears_on c text e sent s true d order h.is t (λ z. f) x.snapshots refl (omega arith) a in
+        let a : AtOpen true d (text ++ s.text) true sent = receives_open false true c d numbers s.text text e sent refl refl refl h in
+        let g : Moved (Some s) c text e sent d = receives_on c text e sent s true d order h.is t (λ z. f) x.snapshots refl (omega arith) a in
         choose (λ (o : Outcome). OutMoved (Some s) c text e sent o) (ltb 0 c.len) _ _ (λ z. record { moved = g; open_there = λ y. refl }) (λ z. record { moved = g; open_there = λ y. refl })
 
     going_in : (acked : Bool) (c : Connection) (text : List ℕ) (e : Bool) (sent : List ℕ) (numbers : List ℕ) (s : PlainSegment) → (occupies_sequence_space s ≡ true → s.seq ≡ rcv_nxt c) → c.state ≡ Established → AtOpen false c text e sent → c.taken ≡ length text + numbers_for e → OutMoved (Some s) c text e sent (stays_established m acked c numbers s)
     unfolding stays_established
     going_in acked c text e sent numbers s order st h t =
-        let x = heard_is m port steady numbers c.part s.text in
+        let x = received_is m port steady numbers c.part s.text in
         let d : Connection = with_window s.window (with_part (delivers_text m numbers c.part s.text).part (takes (length s.text) c)) in
-        let a : AtOpen false d (text ++ s.text) false sent = hears_open false false c d numbers s.text text e sent refl refl refl h in
-        let g : Moved (Some s) c text e sent d = hears_on c text e sent s false d order h.is t (λ z. absurd (cc)) x.snapshots refl (omega arith) (page_at d Established (text ++ s.text) false sent st a) in
+        let a : AtOpen false d (text ++ s.text) false sent = receives_open false false c d numbers s.text text e sent refl refl refl h in
+        let g : Moved (Some s) c text e sent d = receives_on c text e sent s false d order h.is t (λ z. absurd (cc)) x.snapshots refl (omega arith) (page_at d Established (text ++ s.text) false sent st a) in
         let o : is_open d.state ≡ true = ap is_open st in
         choose (λ (o : Outcome). OutMoved (Some s) c text e sent o) (not acked && not (has_text s)) _ _ (λ z. record { moved = g; open_there = λ y. o })
         (λ z. choose (λ (o : Outcome). OutMoved (Some s) c text e sent o) (ltb 0 c.len) _ _ (λ f. record { moved = g; open_there = λ y. o }) (λ f. record { moved = g; open_there = λ y. o }))
@@ -400,7 +400,7 @@ module _ (m : AppSpec) (port : ℕ) (model : OutputModel) (laws : FollowsModelAt
         (λ f. choose (λ (o : Outcome). OutMoved (Some s) c text e sent o) (has_text s) _ _
         (λ i. let d : Connection = takes (length s.text) c in
         reported (Some s) c text e sent d Step.Ack numbers refl
-        (hears_on c text e sent s false d order h.is g.taken (λ z. absurd (cc)) refl refl (omega arith) (page_at d st (text ++ s.text) false sent q (to d (text ++ s.text) (ends_on far far false false c d text s.text e sent refl refl h.len h)))))
+        (receives_on c text e sent s false d order h.is g.taken (λ z. absurd (cc)) refl refl (omega arith) (page_at d st (text ++ s.text) false sent q (to d (text ++ s.text) (ends_on far far false false c d text s.text e sent refl refl h.len h)))))
         (λ i. reported (Some s) c text e sent c Step.Drop numbers refl (same (Some s) c text e sent g)))
 
     by_state_in : (st : State) (acked : Bool) (c : Connection) (text : List ℕ) (e : Bool) (sent : List ℕ) (numbers : List ℕ) (s : PlainSegment) → (occupies_sequence_space s ≡ true → s.seq ≡ rcv_nxt c) → c.state ≡ st → Page c text e sent → AtPage st c text e sent → OutMoved (Some s) c text e sent (by_state m st acked c numbers s)
@@ -409,13 +409,13 @@ module _ (m : AppSpec) (port : ℕ) (model : OutputModel) (laws : FollowsModelAt
     by_state_in SynRcvd true c text e sent numbers s order q g h =
         let own : ℕ = c.sockets.own_port.0 in
         let start = m.connected numbers own in
-        let x = heard_is m port steady start.numbers start.part s.text in
+        let x = received_is m port steady start.numbers start.part s.text in
         let d : Connection = with_part (delivers_text m start.numbers start.part s.text).part (takes (length s.text) (in_state Established (rests c))) in
         let zero : d.part.acked ≡ 0 = x.acked ∙ steady.connected_acked numbers own in
         let new : IsOpen m port model laws start.part [] = subst (λ n. IsOpen m port model laws (m.connected numbers n).part []) (sym h.here) (open_new m port model laws numbers) in
-        let delivered : IsOpen m port model laws d.part s.text = open_heard m port model laws start.numbers start.part s.text [] new in
+        let delivered : IsOpen m port model laws d.part s.text = open_received m port model laws start.numbers start.part s.text [] new in
         record {
-          moved = hears_on c text e sent s false d order h.is g.taken (λ z. absurd (cc)) (x.snapshots ∙ steady.connected_snapshots numbers own ∙ sym h.snapshots) refl (omega arith)
+          moved = receives_on c text e sent s false d order h.is g.taken (λ z. absurd (cc)) (x.snapshots ∙ steady.connected_snapshots numbers own ∙ sym h.snapshots) refl (omega arith)
               record {
                 count = omega (arith, h.acked, h.len, zero);
                 opens = subst (λ l. IsOpen m port model laws d.part (l ++ s.text)) (sym h.none) delivered;
@@ -448,18 +448,18 @@ module _ (m : AppSpec) (port : ℕ) (model : OutputModel) (laws : FollowsModelAt
         choose (λ (o : Outcome). OutMoved (Some s) c text e sent o) (has_fin s.flags) _ _
         (λ f. let d : Connection = in_state TimeWait (takes (length s.text + 1) (rests c)) in
         reported (Some s) c text e sent d Step.Ack numbers refl
-        (hears_on c text e sent s true d order h.is g.taken (λ z. f) refl refl (omega arith) (ends_on 1 2 false true c d text s.text e sent refl (omega (arith, h.len)) (omega arith) h)))
+        (receives_on c text e sent s true d order h.is g.taken (λ z. f) refl refl (omega arith) (ends_on 1 2 false true c d text s.text e sent refl (omega (arith, h.len)) (omega arith) h)))
         (λ f. let d : Connection = in_state FinWait2 (takes (length s.text) (rests c)) in
         reported (Some s) c text e sent d Step.Drop numbers refl
-        (hears_on c text e sent s false d order h.is g.taken (λ z. absurd (cc)) refl refl (omega arith) (ends_on 1 2 false false c d text s.text e sent refl (omega (arith, h.len)) (omega arith) h)))
+        (receives_on c text e sent s false d order h.is g.taken (λ z. absurd (cc)) refl refl (omega arith) (ends_on 1 2 false false c d text s.text e sent refl (omega (arith, h.len)) (omega arith) h)))
     by_state_in FinWait1 false c text e sent numbers s order q g h =
         let d : Connection = in_state Closing (takes (length s.text + 1) c) in
         waits_in 1 FinWait1 Closing c d text e sent numbers s order q (λ x y z. z) g h
-        (λ f. hears_on c text e sent s true d order h.is g.taken (λ z. f) refl refl (omega arith) (ends_on 1 1 false true c d text s.text e sent refl refl h.len h))
+        (λ f. receives_on c text e sent s true d order h.is g.taken (λ z. f) refl refl (omega arith) (ends_on 1 1 false true c d text s.text e sent refl refl h.len h))
     by_state_in FinWait2 acked c text e sent numbers s order q g h =
         let d : Connection = record (in_state TimeWait (takes (length s.text + 1) c)) { age = 0 } in
         waits_in 2 FinWait2 TimeWait c d text e sent numbers s order q (λ x y z. z) g h
-        (λ f. hears_on c text e sent s true d order h.is g.taken (λ z. f) refl refl (omega arith) (ends_on 2 2 false true c d text s.text e sent refl refl h.len h))
+        (λ f. receives_on c text e sent s true d order h.is g.taken (λ z. f) refl refl (omega arith) (ends_on 2 2 false true c d text s.text e sent refl refl h.len h))
     by_state_in Closing true c text e sent numbers s order q g h =
         let d : Connection = in_state TimeWait (rests c) in
         reported (Some s) c text e sent d Step.Drop numbers refl

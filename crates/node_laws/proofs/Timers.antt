@@ -1,5 +1,5 @@
 -- What is outstanding in the exchanges is outstanding at the node, and its timer expires.
-use Rattle.node_laws.proofs.Prelude.{All, option_map_or, option_map, ◌≡◌, ℕ, zero, suc, ◌+◌, ◌<◌, ◌≤◌, ◌==◌, Bool, true, false, not, ◌&&◌, inl, inr, List, [], ◌∷◌, ◌++◌, length, set, take, refl, sym, ap, ◌∙◌, subst, arith, Option, Some, None, slice_get, ltb, if◌then◌else◌, cases_lt, All-head, All-tail, wrap, Addr, PlainSegment, has_rst, has_ack, AppSpec, IsNow, is_time_wait, beat_at, Beat, Now, State, Closed, SynRcvd, Established, CloseWait, FinWait1, FinWait2, Closing, TimeWait, LastAck, Sockets, Connection, closed, is_live, serves, same_sockets, snd_una, occupies_sequence_space, segment_of, is_again, reset_for_no_connection, reset_of, syn_ack, Outcome, leaves, closes, asked, accepted, is_acked, on_segment, by_beat, grows_older, limit_of, on_tick, outstanding, Step, Event, called_by, IpRefused, IcmpRefused, TcpRefused, EchoAsked, Arrived, Overlong, Periodic, TcpReply, AbstractNode, NodeStep, snapshot, initial_node, step, serving, IsEvent, Alike, IsSteady, both_ways, and_true, eqb-eq, only_some, Single, get_set, get_set_same, is_served, serving_free, none_serves, here, there, served, free, FitConn, on_segment_fits, on_tick_fits, node_snapshot, Moves, asked_moves, segment_moves, tick_moves, on_segment_keeps, asked_keeps, on_tick_keeps, same_is, serves_dead, serves_yes, stepped_tells, IsDue, StepReports, OutReports, due, alike_trans, alike_sym, alike_refl, segment_tells, tick_tells, IsWithoutReset, sequence_length, Exchange, TraceEntry, sent_at, exchange, received_from, exchanges_onto, trace_of, calls_of, IsOutstanding, IsRetried, IsRetriedIn, RetransmitsOrResets, sent_again, given_up, IsOfLine}
+use Rattle.node_laws.proofs.Prelude.{All, option_map_or, option_map, ◌≡◌, ℕ, zero, suc, ◌+◌, ◌<◌, ◌≤◌, ◌==◌, Bool, true, false, not, ◌&&◌, inl, inr, List, [], ◌∷◌, ◌++◌, length, set, take, refl, sym, ap, ◌∙◌, subst, arith, Option, Some, None, slice_get, ltb, if◌then◌else◌, cases_lt, All-head, All-tail, wrap, Addr, PlainSegment, has_rst, has_ack, AppSpec, IsNow, is_time_wait, beat_at, Beat, Now, State, Closed, SynRcvd, Established, CloseWait, FinWait1, FinWait2, Closing, TimeWait, LastAck, Sockets, Connection, closed, is_live, serves, same_sockets, snd_una, occupies_sequence_space, segment_of, is_again, reset_for_no_connection, reset_of, syn_ack, Outcome, leaves, closes, asked, accepted, is_acked, on_segment, by_beat, grows_older, limit_of, on_tick, outstanding, Step, Event, called_by, IpRefused, IcmpRefused, TcpRefused, EchoAsked, Arrived, Overlong, Periodic, TcpReply, AbstractNode, NodeStep, snapshot, initial_node, step, serving, IsEvent, Alike, IsSteady, both_ways, and_true, eqb-eq, only_some, Single, get_set, get_set_same, is_served, serving_free, none_serves, here, there, served, free, FitConn, on_segment_fits, on_tick_fits, node_snapshot, Moves, asked_moves, segment_moves, tick_moves, on_segment_keeps, asked_keeps, on_tick_keeps, same_is, serves_dead, serves_yes, stepped_reports, IsDue, StepReports, OutReports, due, alike_trans, alike_sym, alike_refl, segment_reports, tick_reports, IsWithoutReset, sequence_length, Exchange, TraceEntry, sent_at, exchange, received_from, exchanges_onto, trace_of, calls_of, IsOutstanding, IsRetried, IsRetriedIn, RetransmitsOrResets, sent_again, given_up, IsOfLine}
 use Rattle.node_laws.proofs.HonestPeers.{calls_one}
 use Rattle.node_laws.proofs.Beating.{Young, asked_young, segment_young, tick_young, due_size, asked_lives, segment_lives, tick_lives, mss_some, no_wait, ticks_are, due_again, next_beat, SafeAt}
 use Rattle.node_laws.proofs.GoodNodes.{AnyLength, Good, SafeConn, first_is, good_on, good_start, low_text}
@@ -12,14 +12,14 @@ use Rattle.node_laws.proofs.Slots.Acts.{is_called, is_met, is_apart, makes_room}
 
 -- what is outstanding was sent just now, or was so before
 pub data Outstands (x : Exchange) (session : List Exchange) (s : PlainSegment) : Type 0 where
-  just_said : x.output ≡ Some s → occupies_sequence_space s ≡ true → Outstands x session s
-  said_before : IsOutstanding session s → IsWithoutReset x → ((t : PlainSegment) → x.received ≡ Some t → has_ack t.flags ≡ true → t.ack ≡ wrap (s.seq + sequence_length s) → ⊥) → Outstands x session s
+  just_sent : x.output ≡ Some s → occupies_sequence_space s ≡ true → Outstands x session s
+  sent_before : IsOutstanding session s → IsWithoutReset x → ((t : PlainSegment) → x.received ≡ Some t → has_ack t.flags ≡ true → t.ack ≡ wrap (s.seq + sequence_length s) → ⊥) → Outstands x session s
 
 outstands_at : (x : Exchange) (session : List Exchange) (s : PlainSegment) (h : IsOutstanding (x ∷ session) s) (k : ℕ) → h.place ≡ k → Outstands x session s
-outstands_at x session s h zero e = just_said (subst (λ k. sent_at (x ∷ session) k ≡ Some s) e h.output) h.placed
+outstands_at x session s h zero e = just_sent (subst (λ k. sent_at (x ∷ session) k ≡ Some s) e h.output) h.placed
 outstands_at x session s h (suc k) e =
     let clean : All IsWithoutReset (x ∷ take k session) = subst (λ j. All IsWithoutReset (take j (x ∷ session))) e h.unreset in
-    said_before record {
+    sent_before record {
       place = k;
       output = subst (λ j. sent_at (x ∷ session) j ≡ Some s) e h.output;
       placed = h.placed;
@@ -60,9 +60,9 @@ module _ (m : AppSpec) (steady : IsSteady m) (ports : ℕ → Bool) (p : Sockets
     young : Young c
     out : (s : PlainSegment) → IsOutstanding session s → Due c s
 
-  data Standing (n : AbstractNode) (session : List Exchange) : Type 0 where
-    incarnations : Living n session → Standing n session
-    gone : is_live (serving p n.connections).state ≡ false → ((s : PlainSegment) → IsOutstanding session s → ⊥) → Standing n session
+  data Representing (n : AbstractNode) (session : List Exchange) : Type 0 where
+    incarnations : Living n session → Representing n session
+    gone : is_live (serving p n.connections).state ≡ false → ((s : PlainSegment) → IsOutstanding session s → ⊥) → Representing n session
 
   -- a live connection of the peer
   live_own : (c : Connection) → serves p c ≡ true → is_live c.state ≡ true
@@ -93,14 +93,14 @@ module _ (m : AppSpec) (steady : IsSteady m) (ports : ℕ → Bool) (p : Sockets
 
     -- what a step must be like
     record Stepped (c : Connection) (received : Option PlainSegment) (o : Outcome) (acked : Bool) : Type 0 where
-      tells : StepReports m steady AnyLength (low_text m) c o.connection (segment_of m o.connection o.step) (is_again o.step)
+      reported_as : StepReports m steady AnyLength (low_text m) c o.connection (segment_of m o.connection o.step) (is_again o.step)
       moves : Moves acked c o.connection
       acks : acked ≡ true → Acknowledged received c
       young : Young o.connection
       peer : o.connection.sockets ≡ c.sockets
       dies : is_live o.connection.state ≡ false → 0 < c.len → IsWithoutReset (met received (segment_of m o.connection o.step)) → acked ≡ true
 
-    acted : (v : Living n session) (received : Option PlainSegment) (o : Outcome) (acked : Bool) → Acted m ports n p v.i v.c event r received o → Stepped v.c received o acked → Standing r.node (x ∷ session)
+    acted : (v : Living n session) (received : Option PlainSegment) (o : Outcome) (acked : Bool) → Acted m ports n p v.i v.c event r received o → Stepped v.c received o acked → Representing r.node (x ∷ session)
     acted v received o acked g h =
         let c : Connection = v.c in
         let d : Connection = o.connection in
@@ -113,61 +113,61 @@ module _ (m : AppSpec) (steady : IsSteady m) (ports : ℕ → Bool) (p : Sockets
         none a.0 a.1 a.2 (a.3 ∙ ap (λ k. wrap (k + c.len)) (sym q.seq) ∙ ap (λ k. wrap (s.seq + k)) (sym size))) in
         let still : is_live d.state ≡ true → (s : PlainSegment) → IsOutstanding (met received sent ∷ session) s → Due d s =
         λ l s q. elim (outstands (met received sent) session s q) [
-          | just_said e placed ↦ (h.tells.output s e placed).due_now
-          | said_before before clean none ↦
+          | just_sent e placed ↦ (h.reported_as.output s e placed).due_now
+          | sent_before before clean none ↦
               (let due_c = v.out s before in
               let same : d.acked ≡ c.acked = elim h.moves.place [ inl e ↦ e | inr e ↦ absurd (unmoved s due_c none e.0) ] in
-              let onto = h.tells.onto l in
+              let onto = h.reported_as.onto l in
               let k = onto.kept due_c.len same in
               let iss : d.iss ≡ c.iss = onto.iss in
               record { len = k.0; seq = due_c.seq ∙ ap wrap (let z : c.iss + c.acked ≡ d.iss + d.acked = omega (arith, same, iss) in z); alike = alike_trans s _ _ due_c.alike (alike_sym _ _ k.1) })
         ] in
         let over : is_live d.state ≡ false → (s : PlainSegment) → IsOutstanding (met received sent ∷ session) s → ⊥ =
         λ l s q. elim (outstands (met received sent) session s q) [
-          | just_said e placed ↦ absurd (let z = (h.tells.output s e placed).live in cc)
-          | said_before before clean none ↦ (let due_c = v.out s before in unmoved s due_c none (h.dies l due_c.len clean))
+          | just_sent e placed ↦ absurd (let z = (h.reported_as.output s e placed).live in cc)
+          | sent_before before clean none ↦ (let due_c = v.out s before in unmoved s due_c none (h.dies l due_c.len clean))
         ] in
-        subst (λ z. Standing r.node (z ∷ session)) (sym g.exchanged)
+        subst (λ z. Representing r.node (z ∷ session)) (sym g.exchanged)
         (both_ways (is_live d.state)
-        (λ l. incarnations record { i = v.i; c = d; there = there; own = serves_yes p d l (h.peer ∙ peer_own c v.own); safe = h.tells.safe l; young = h.young; out = still l })
+        (λ l. incarnations record { i = v.i; c = d; there = there; own = serves_yes p d l (h.peer ∙ peer_own c v.own); safe = h.reported_as.safe l; young = h.young; out = still l })
         (λ l. gone (subst (λ t. is_live (serving p t).state ≡ false) (sym g.table) (none_left n.connections v.i c d good.single v.there v.own l)) (over l)))
 
     -- a RST is sent if a step is one
-    resets_say : (c : Connection) (received : Option PlainSegment) (st : Step) → st ≡ Step.Reset → IsWithoutReset (met received (segment_of m c st)) → ⊥
-    resets_say c received st e clean = absurd (let z : has_rst (reset_of c).flags ≡ false = clean.output (reset_of c) (ap (segment_of m c) e) in cc)
+    resets_send : (c : Connection) (received : Option PlainSegment) (st : Step) → st ≡ Step.Reset → IsWithoutReset (met received (segment_of m c st)) → ⊥
+    resets_send c received st e clean = absurd (let z : has_rst (reset_of c).flags ≡ false = clean.output (reset_of c) (ap (segment_of m c) e) in cc)
 
     fit_of : (v : Living n session) → FitConn v.c
     fit_of v = good.fit.conns v.i v.c v.there
 
-    called : (v : Living n session) → Acted m ports n p v.i v.c event r None (asked m (snapshot n event v.i) (on_tick m v.c n.numbers)) → Standing r.node (x ∷ session)
+    called : (v : Living n session) → Acted m ports n p v.i v.c event r None (asked m (snapshot n event v.i) (on_tick m v.c n.numbers)) → Representing r.node (x ∷ session)
     called v g =
         let at : Connection → Now = snapshot n event v.i in
         let c : Connection = v.c in
         let o : Outcome = on_tick m c n.numbers in
         let is : (z : Connection) → FitConn z → IsNow (at z) = node_snapshot m steady n event v.i good.fit in
-        let t = tick_tells m steady AnyLength (low_text m) c n.numbers v.safe in
+        let t = tick_reports m steady AnyLength (low_text m) c n.numbers v.safe in
         acted v None (asked m at o) false g record {
-          tells = stepped_tells m steady AnyLength (low_text m) at c o is (on_tick_fits m steady c n.numbers (fit_of v) good.fit.numbers) t;
+          reported_as = stepped_reports m steady AnyLength (low_text m) at c o is (on_tick_fits m steady c n.numbers (fit_of v) good.fit.numbers) t;
           moves = asked_moves m false c at o (tick_moves m c n.numbers);
           acks = λ e. absurd (cc);
           young = asked_young m at o (tick_young m steady AnyLength (low_text m) c n.numbers v.safe.state v.young);
           peer = asked_keeps m at c o (on_tick_keeps m c n.numbers);
           dies = λ l some clean. elim (asked_lives m steady AnyLength (low_text m) at c o t (tick_lives m steady AnyLength (low_text m) c n.numbers v.safe.state some (live_own c v.own))) [
             | inl e ↦ absurd (cc)
-            | inr e ↦ absurd (resets_say (asked m at o).connection None (asked m at o).step e clean)
+            | inr e ↦ absurd (resets_send (asked m at o).connection None (asked m at o).step e clean)
           ];
         }
 
-    met_by : (v : Living n session) (s : PlainSegment) → Acted m ports n p v.i v.c event r (Some s) (asked m (snapshot n event v.i) (on_segment m v.c n.numbers s)) → Standing r.node (x ∷ session)
+    met_by : (v : Living n session) (s : PlainSegment) → Acted m ports n p v.i v.c event r (Some s) (asked m (snapshot n event v.i) (on_segment m v.c n.numbers s)) → Representing r.node (x ∷ session)
     met_by v s g =
         let at : Connection → Now = snapshot n event v.i in
         let c : Connection = v.c in
         let o : Outcome = on_segment m c n.numbers s in
         let acked : Bool = not (has_rst s.flags) && is_acked c s in
         let is : (z : Connection) → FitConn z → IsNow (at z) = node_snapshot m steady n event v.i good.fit in
-        let t = segment_tells m steady AnyLength (low_text m) c n.numbers s v.safe in
+        let t = segment_reports m steady AnyLength (low_text m) c n.numbers s v.safe in
         acted v (Some s) (asked m at o) acked g record {
-          tells = stepped_tells m steady AnyLength (low_text m) at c o is (on_segment_fits m steady c n.numbers s (fit_of v) good.fit.numbers) t;
+          reported_as = stepped_reports m steady AnyLength (low_text m) at c o is (on_segment_fits m steady c n.numbers s (fit_of v) good.fit.numbers) t;
           moves = asked_moves m acked c at o (segment_moves m c n.numbers s);
           acks = λ e. (let a = and_true (not (has_rst s.flags)) (is_acked c s) e in
               let b = and_true (has_ack s.flags) (ltb 0 c.len && (s.ack == wrap (snd_una c + c.len))) a.1 in
@@ -180,26 +180,26 @@ module _ (m : AppSpec) (steady : IsSteady m) (ports : ℕ → Bool) (p : Sockets
               (λ a. ap (λ b. not b && is_acked c s) unreset ∙ a)
               (λ a. elim (asked_lives m steady AnyLength (low_text m) at c o t (segment_lives m steady AnyLength (low_text m) c n.numbers s (live_own c v.own) unreset a)) [
                 | inl e ↦ absurd (cc)
-                | inr e ↦ absurd (resets_say (asked m at o).connection (Some s) (asked m at o).step e clean)
+                | inr e ↦ absurd (resets_send (asked m at o).connection (Some s) (asked m at o).step e clean)
               ]));
         }
 
     -- nothing passes
     quiet_out : (s : PlainSegment) → IsOutstanding (quiet ∷ session) s → IsOutstanding session s
-    quiet_out s q = elim (outstands quiet session s q) [ just_said e placed ↦ absurd (cc) | said_before before clean none ↦ before ]
+    quiet_out s q = elim (outstands quiet session s q) [ just_sent e placed ↦ absurd (cc) | sent_before before clean none ↦ before ]
 
     -- a connection in TIME-WAIT has nothing outstanding
     rested : (v : Living n session) → is_time_wait v.c.state ≡ true → (s : PlainSegment) → IsOutstanding session s → ⊥
     rested v e s q = no_wait m steady AnyLength (low_text m) v.c v.c.state v.safe.state (v.out s q).len e
 
-    living_on : (v : Living n session) → Standing r.node (x ∷ session)
+    living_on : (v : Living n session) → Representing r.node (x ∷ session)
     living_on v =
         elim (acts m ports n p v.i v.c good.single v.there v.own event) [
           | is_called e g ↦ called v g
           | is_met s e g ↦ met_by v s g
-          | is_apart far e at ↦ subst (λ z. Standing r.node (z ∷ session)) (sym e)
+          | is_apart far e at ↦ subst (λ z. Representing r.node (z ∷ session)) (sym e)
               (incarnations record { i = v.i; c = v.c; there = at; own = v.own; safe = v.safe; young = v.young; out = λ s q. v.out s (quiet_out s q) })
-          | makes_room e t none ↦ subst (λ z. Standing r.node (z ∷ session)) (sym e)
+          | makes_room e t none ↦ subst (λ z. Representing r.node (z ∷ session)) (sym e)
               (gone (ap (λ z. is_live z.state) (serving_free r.node.connections p none)) (λ s q. rested v t s (quiet_out s q)))
         ]
 
@@ -207,18 +207,18 @@ module _ (m : AppSpec) (steady : IsSteady m) (ports : ℕ → Bool) (p : Sockets
 
     module _ (is : IsEvent event) (dead : is_live (serving p n.connections).state ≡ false) (out : (s : PlainSegment) → IsOutstanding session s → ⊥) where
       -- nothing is sent that occupies sequence space
-      nothing_said : (y : Exchange) → ((s : PlainSegment) → y.output ≡ Some s → occupies_sequence_space s ≡ false) → (s : PlainSegment) → IsOutstanding (y ∷ session) s → ⊥
-      nothing_said y none s q = elim (outstands y session s q) [ just_said e placed ↦ absurd (let z = none s e in cc) | said_before before clean not_acked ↦ out s before ]
+      nothing_sent : (y : Exchange) → ((s : PlainSegment) → y.output ≡ Some s → occupies_sequence_space s ≡ false) → (s : PlainSegment) → IsOutstanding (y ∷ session) s → ⊥
+      nothing_sent y none s q = elim (outstands y session s q) [ just_sent e placed ↦ absurd (let z = none s e in cc) | sent_before before clean not_acked ↦ out s before ]
 
-      silent_said : (y : Exchange) → y.output ≡ None → (s : PlainSegment) → IsOutstanding (y ∷ session) s → ⊥
-      silent_said y e = nothing_said y (λ s f. absurd (let z : None ≡ Some s = sym e ∙ f in cc))
+      silent_sent : (y : Exchange) → y.output ≡ None → (s : PlainSegment) → IsOutstanding (y ∷ session) s → ⊥
+      silent_sent y e = nothing_sent y (λ s f. absurd (let z : None ≡ Some s = sym e ∙ f in cc))
 
-      new_born : (iss : ℕ) (s : PlainSegment) → FitConn (accepted iss p s) → x ≡ met (Some s) (Some (syn_ack (accepted iss p s))) → serving p r.node.connections ≡ accepted iss p s → Standing r.node (x ∷ session)
+      new_born : (iss : ℕ) (s : PlainSegment) → FitConn (accepted iss p s) → x ≡ met (Some s) (Some (syn_ack (accepted iss p s))) → serving p r.node.connections ≡ accepted iss p s → Representing r.node (x ∷ session)
       new_born iss s fit e f =
           let d : Connection = accepted iss p s in
           let due_now : Due d (syn_ack d) = record { len = omega arith; seq = refl; alike = alike_refl (syn_ack d) } in
           elim (is_served p r.node.connections) [
-            | served i at own ↦ subst (λ z. Standing r.node (z ∷ session)) (sym e) (incarnations record {
+            | served i at own ↦ subst (λ z. Representing r.node (z ∷ session)) (sym e) (incarnations record {
               i = i;
               c = d;
               there = at ∙ ap Some f;
@@ -226,28 +226,28 @@ module _ (m : AppSpec) (steady : IsSteady m) (ports : ℕ → Bool) (p : Sockets
               safe = record { mss = mss_some s.mss; initial = mss_some s.mss; state = record { len = refl; acked = refl } };
               young = λ l k. omega arith;
               out = λ t q. elim (outstands (met (Some s) (Some (syn_ack d))) session t q) [
-                | just_said g placed ↦ only_some (λ z. Due d z) (syn_ack d) t g due_now
-                | said_before before clean none ↦ absurd (out t before)
+                | just_sent g placed ↦ only_some (λ z. Due d z) (syn_ack d) t g due_now
+                | sent_before before clean none ↦ absurd (out t before)
               ];
             })
             | free none ↦ absurd (let z : closed ≡ d = sym (serving_free r.node.connections p none) ∙ f in let y : false ≡ true = ap (λ c. is_live c.state) z in cc)
           ]
 
-      dead_on : Standing r.node (x ∷ session)
+      dead_on : Representing r.node (x ∷ session)
       dead_on =
           elim ((comes m ports steady n event is good.single good.fit).each p) [
-            | passes_by e f ↦ gone (ap (λ z. is_live z.state) f ∙ dead) (silent_said x (ap (λ z. z.output) e))
-            | evicted e f ↦ gone (ap (λ z. is_live z.state) f) (silent_said x (ap (λ z. z.output) e))
-            | unanswered s l e f ↦ gone (ap (λ z. is_live z.state) f ∙ dead) (silent_said x (ap (λ z. z.output) e))
+            | passes_by e f ↦ gone (ap (λ z. is_live z.state) f ∙ dead) (silent_sent x (ap (λ z. z.output) e))
+            | evicted e f ↦ gone (ap (λ z. is_live z.state) f) (silent_sent x (ap (λ z. z.output) e))
+            | unanswered s l e f ↦ gone (ap (λ z. is_live z.state) f ∙ dead) (silent_sent x (ap (λ z. z.output) e))
             | refused s q l e f ↦ gone (ap (λ z. is_live z.state) f ∙ dead)
-                (nothing_said x (λ t g. (let z : Some (reset_for_no_connection s) ≡ Some t = sym (ap (λ y. y.output) e) ∙ g in only_some (λ y. occupies_sequence_space y ≡ false) (reset_for_no_connection s) t z refl)))
+                (nothing_sent x (λ t g. (let z : Some (reset_for_no_connection s) ≡ Some t = sym (ap (λ y. y.output) e) ∙ g in only_some (λ y. occupies_sequence_space y ≡ false) (reset_for_no_connection s) t z refl)))
             | born iss s plain port fit e f ↦ new_born iss s fit e f
             | delivers_text s numbers at alive fit words snapshots h ↦ absurd (cc)
             | ticks numbers at alive fit words snapshots h ↦ absurd (cc)
           ]
 
-    stands_on : IsEvent event → Standing n session → Standing r.node (x ∷ session)
-    stands_on is s = elim s [ incarnations v ↦ living_on v | gone dead out ↦ dead_on is dead out ]
+    represents_on : IsEvent event → Representing n session → Representing r.node (x ∷ session)
+    represents_on is s = elim s [ incarnations v ↦ living_on v | gone dead out ↦ dead_on is dead out ]
 
   -- ---- the timer runs out
 
@@ -350,7 +350,7 @@ module _ (m : AppSpec) (steady : IsSteady m) (ports : ℕ → Bool) (p : Sockets
               let by : on_tick m c n.numbers ≡ by_beat m b c n.numbers = ticks_are m steady AnyLength (low_text m) c n.numbers w.safe.state w.due_now.len in
               let o : Outcome = asked m at_call (on_tick m c n.numbers) in
               let did : Beats c s b o = subst (λ (z : Outcome). Beats c s b (asked m at_call z)) (sym by)
-              (beat_does at_call b c s n.numbers (live_own c w.own) w.safe w.due_now (subst (λ (z : Outcome). OutReports m steady AnyLength (low_text m) c z.connection z.step) by (tick_tells m steady AnyLength (low_text m) c n.numbers w.safe))) in
+              (beat_does at_call b c s n.numbers (live_own c w.own) w.safe w.due_now (subst (λ (z : Outcome). OutReports m steady AnyLength (low_text m) c z.connection z.step) by (tick_reports m steady AnyLength (low_text m) c n.numbers w.safe))) in
               elim did [
                 | older waits_on same safe due_now ↦
                     (let not_yet : c.age + 1 ≡ at → ⊥ = λ z. w.beats (ap (beat_at (limit_of c.state)) (sym z) ∙ waits_on) in
@@ -376,7 +376,7 @@ module _ (m : AppSpec) (steady : IsSteady m) (ports : ℕ → Bool) (p : Sockets
           | makes_room x rested_so free_now ↦ absurd (no_wait m steady AnyLength (low_text m) c c.state w.safe.state w.due_now.len rested_so)
         ]
 
-    at_end : (n : AbstractNode) (es : List Event) (session : List Exchange) → All (IsOfLine own) es → Good n → Standing n session → IsOutstanding session s → NoneComes (trace_of m ports es n) → ((slot : ℕ) → slot < 10 → 49 ≤ calls_of slot (trace_of m ports es n)) → IsRetriedIn p s (trace_of m ports es n)
+    at_end : (n : AbstractNode) (es : List Event) (session : List Exchange) → All (IsOfLine own) es → Good n → Representing n session → IsOutstanding session s → NoneComes (trace_of m ports es n) → ((slot : ℕ) → slot < 10 → 49 ≤ calls_of slot (trace_of m ports es n)) → IsRetriedIn p s (trace_of m ports es n)
     at_end n es session l g st out none calls = elim st [
       | gone dead over ↦ absurd (over s out)
       | incarnations v ↦
@@ -388,7 +388,7 @@ module _ (m : AppSpec) (steady : IsSteady m) (ports : ℕ → Bool) (p : Sockets
           retries es n v.i next.at v.c l g record { there = v.there; own = v.own; safe = v.safe; due_now = due_now; later = next.later; beats = next.beats } (omega (arith, enough, soon)) none)
     ]
 
-    from_before : (before waiting : List TraceEntry) (es : List Event) (n : AbstractNode) (session : List Exchange) → trace_of m ports es n ≡ before ++ waiting → All (IsOfLine own) es → Good n → Standing n session → IsOutstanding (exchanges_onto p before session) s → NoneComes waiting → ((slot : ℕ) → slot < 10 → 49 ≤ calls_of slot waiting) → IsRetriedIn p s waiting
+    from_before : (before waiting : List TraceEntry) (es : List Event) (n : AbstractNode) (session : List Exchange) → trace_of m ports es n ≡ before ++ waiting → All (IsOfLine own) es → Good n → Representing n session → IsOutstanding (exchanges_onto p before session) s → NoneComes waiting → ((slot : ℕ) → slot < 10 → 49 ≤ calls_of slot waiting) → IsRetriedIn p s waiting
     from_before [] waiting es n session q l g st out none calls =
         subst (λ ts. IsRetriedIn p s ts) q (at_end n es session l g st out (subst NoneComes (sym q) none) (subst (λ ts. (slot : ℕ) → slot < 10 → 49 ≤ calls_of slot ts) (sym q) calls))
     from_before (t ∷ before) waiting [] n session q l g st out none calls = absurd (cc)
@@ -398,7 +398,7 @@ module _ (m : AppSpec) (steady : IsSteady m) (ports : ℕ → Bool) (p : Sockets
         let head : turn ≡ t = cc in
         let tail : trace_of m ports es r.node ≡ before ++ waiting = cc in
         let is : IsEvent e = first_is own e es l in
-        from_before before waiting es r.node (exchange p e r.sent ∷ session) tail (All-tail (IsOfLine own) e es l) (good_on m steady ports n e is g) (stands_on n e g session is st)
+        from_before before waiting es r.node (exchange p e r.sent ∷ session) tail (All-tail (IsOfLine own) e es l) (good_on m steady ports n e is g) (represents_on n e g session is st)
         (subst (λ z. IsOutstanding (exchanges_onto p before (z ∷ session)) s) (ap (λ z. exchange p z.event z.sent) (sym head)) out) none calls
 
 pub retransmits_or_resets : RetransmitsOrResets

@@ -1,5 +1,5 @@
 -- Every new text fits the window of the newest segment that was not out of order.
-use Rattle.node_laws.proofs.Prelude.{All, option_map_or, ◌≡◌, ℕ, zero, suc, ◌+◌, ◌<◌, ◌≤◌, ◌==◌, Bool, true, false, not, ◌&&◌, ◌||◌, inl, inr, List, [], ◌∷◌, ◌++◌, length, take, drop, refl, sym, ap, ◌∙◌, subst, arith, Option, Some, None, slice_get, eqb, ltb, length-take, if◌then◌else◌, eq-eqb, All-tail, wrap, Addr, SYN, PlainSegment, has_syn, has_fin, has_ack, AppSpec, IsU32, IsNow, Now, State, SynRcvd, Established, CloseWait, Sockets, Connection, closed, is_live, snd_una, rcv_nxt, occupies_sequence_space, segment_of, is_again, is_plain_syn, reset_for_no_connection, bare_ack, fin_of, reset_of, syn_ack, text_segment, Outcome, leaves, asked, accepted, is_out_of_order, is_acked, on_segment, on_tick, Step, Event, serving, IsEvent, Alike, AbstractNode, initial_node, step, IsSteady, both_ways, and_true, eqb-eq, ltb-yes, not-true, only_some, is_open, FitConn, on_segment_fits, on_tick_fits, stepped_tells, SafeState, StepReports, OutReports, due, segment_tells, tick_tells, Exchange, sent_at, exchange, is_opening, is_incarnation, is_empty, IsIncarnationIn, exchanges_onto, trace_of, IsPassedOver, FitsNewest, IsNewText, FitsWindows, WindowsAreRespected, IsOfLine}
+use Rattle.node_laws.proofs.Prelude.{All, option_map_or, ◌≡◌, ℕ, zero, suc, ◌+◌, ◌<◌, ◌≤◌, ◌==◌, Bool, true, false, not, ◌&&◌, ◌||◌, inl, inr, List, [], ◌∷◌, ◌++◌, length, take, drop, refl, sym, ap, ◌∙◌, subst, arith, Option, Some, None, slice_get, eqb, ltb, length-take, if◌then◌else◌, eq-eqb, All-tail, wrap, Addr, SYN, PlainSegment, has_syn, has_fin, has_ack, AppSpec, IsU32, IsNow, Now, State, SynRcvd, Established, CloseWait, Sockets, Connection, closed, is_live, snd_una, rcv_nxt, occupies_sequence_space, segment_of, is_again, is_plain_syn, reset_for_no_connection, bare_ack, fin_of, reset_of, syn_ack, text_segment, Outcome, leaves, asked, accepted, is_out_of_order, is_acked, on_segment, on_tick, Step, Event, serving, IsEvent, Alike, AbstractNode, initial_node, step, IsSteady, both_ways, and_true, eqb-eq, ltb-yes, not-true, only_some, is_open, FitConn, on_segment_fits, on_tick_fits, stepped_reports, SafeState, StepReports, OutReports, due, segment_reports, tick_reports, Exchange, sent_at, exchange, is_opening, is_incarnation, is_empty, IsIncarnationIn, exchanges_onto, trace_of, IsPassedOver, FitsNewest, IsNewText, FitsWindows, WindowsAreRespected, IsOfLine}
 use Rattle.node_laws.proofs.Beating.{ask_open, mss_some}
 use Rattle.node_laws.proofs.GoodNodes.{AnyLength, Good, SafeConn, first_is, good_on, good_start, low_text}
 use Rattle.node_laws.proofs.Lines.{OfMedium, Comes, comes, quiet, met, left_of}
@@ -98,7 +98,7 @@ module _ (m : AppSpec) (steady : IsSteady m) (ports : ℕ → Bool) (p : Sockets
 
   -- a step of a live connection
   module _ (c : Connection) (incarnation : List Exchange) (w : Windowed c incarnation) (alive : is_live c.state ≡ true) (received : Option PlainSegment) (r : Outcome)
-      (tells : StepReports m steady AnyLength (low_text m) c r.connection (segment_of m r.connection r.step) (is_again r.step)) (short : NewIsShort r)
+      (reported_as : StepReports m steady AnyLength (low_text m) c r.connection (segment_of m r.connection r.step) (is_again r.step)) (short : NewIsShort r)
       (within : (let x : Exchange = met received (segment_of m r.connection r.step) in is_open r.connection.state ≡ true → (size : ℕ) → size ≤ r.connection.mss → FitsNewest (x ∷ incarnation) size))
       (syn : (let x : Exchange = met received (segment_of m r.connection r.step) in r.connection.state ≡ SynRcvd → AtSyn (x ∷ incarnation) (wrap (snd_una r.connection + 1)))) where
     abbrev d : Connection
@@ -112,21 +112,21 @@ module _ (m : AppSpec) (steady : IsSteady m) (ports : ℕ → Bool) (p : Sockets
 
     new_fits : (s : PlainSegment) → IsNewText (x ∷ incarnation) 0 s → FitsNewest (x ∷ incarnation) (length s.text)
     new_fits s n =
-        let reported = tells.output s n.output (placed_text s n.some) in
+        let reported = reported_as.output s n.output (placed_text s n.some) in
         both_ways (is_again r.step)
         (λ e. absurd (let k = reported.repeated e in let q = v.output k.0 in
-        let iss : d.iss ≡ c.iss = (tells.onto reported.live).iss in
+        let iss : d.iss ≡ c.iss = (reported_as.onto reported.live).iss in
         n.new (suc q.place) q.segment (omega arith) q.output q.placed
         (q.seq ∙ ap wrap (let same = k.1 in let z : c.iss + c.acked ≡ d.iss + d.acked = omega (arith, same, iss) in z) ∙ sym reported.due_now.seq)))
         (λ e. (let t = text_new m d r.step s n.output n.some e in
         let fits = short t.0 in
         within (text_open m d.state d s reported.due_now.alike n.some) (length s.text) (let l = t.1 in omega (arith, l, fits))))
 
-    said_on : is_live d.state ≡ true → 0 < d.len → SentDue (x ∷ incarnation) (wrap (d.iss + d.acked))
-    said_on l some = elim (tells.still l some) [
-      | inl still ↦ (let q = v.output still.some in let iss : d.iss ≡ c.iss = (tells.onto l).iss in let same = still.same in
+    sent_on : is_live d.state ≡ true → 0 < d.len → SentDue (x ∷ incarnation) (wrap (d.iss + d.acked))
+    sent_on l some = elim (reported_as.still l some) [
+      | inl still ↦ (let q = v.output still.some in let iss : d.iss ≡ c.iss = (reported_as.onto l).iss in let same = still.same in
           record { place = suc q.place; segment = q.segment; output = q.output; placed = q.placed; seq = q.seq ∙ ap wrap (let z : c.iss + c.acked ≡ d.iss + d.acked = omega (arith, same, iss) in z) })
-      | inr anew ↦ record { place = 0; segment = anew.output; output = anew.is; placed = anew.placed; seq = (tells.output anew.output anew.is anew.placed).due_now.seq }
+      | inr anew ↦ record { place = 0; segment = anew.output; output = anew.is; placed = anew.placed; seq = (reported_as.output anew.output anew.is anew.placed).due_now.seq }
     ]
 
     left_live : (e : Connection) → is_live (left_of e).state ≡ true → (is_live e.state ≡ true) × (left_of e ≡ e)
@@ -137,7 +137,7 @@ module _ (m : AppSpec) (steady : IsSteady m) (ports : ℕ → Bool) (p : Sockets
     windowed_step : Windowed (left_of d) (x ∷ incarnation)
     windowed_step = record {
       fits = fits_on x incarnation new_fits w.fits;
-      live = λ l. (let q = left_live d l in subst (λ z. LiveWindowed z (x ∷ incarnation)) (sym q.1) record { safe = tells.safe q.0; within = within; syn = syn; output = said_on q.0 });
+      live = λ l. (let q = left_live d l in subst (λ z. LiveWindowed z (x ∷ incarnation)) (sym q.1) record { safe = reported_as.safe q.0; within = within; syn = syn; output = sent_on q.0 });
     }
 
   module _ (c : Connection) (incarnation : List Exchange) (w : Windowed c incarnation) (alive : is_live c.state ≡ true) (fit : FitConn c) (numbers : List ℕ) (words : All IsU32 numbers) (at : Connection → Now) (is : (z : Connection) → FitConn z → IsNow (at z)) where
@@ -156,7 +156,7 @@ module _ (m : AppSpec) (steady : IsSteady m) (ports : ℕ → Bool) (p : Sockets
       y = met (Some s) (segment_of m r.connection r.step)
 
       reported : OutReports m steady AnyLength (low_text m) c o.connection o.step
-      reported = segment_tells m steady AnyLength (low_text m) c numbers s now.safe
+      reported = segment_reports m steady AnyLength (low_text m) c numbers s now.safe
 
       is_passed : is_out_of_order c s ≡ true → o ≡ leaves c numbers Step.Ack → IsPassedOver y s
       is_passed h e =
@@ -194,8 +194,8 @@ module _ (m : AppSpec) (steady : IsSteady m) (ports : ℕ → Bool) (p : Sockets
         | speaks_no_more e ↦ absurd (cc)
       ]
 
-      heard_within : is_open r.connection.state ≡ true → (size : ℕ) → size ≤ r.connection.mss → FitsNewest (y ∷ incarnation) size
-      heard_within open_then size l = elim (asked_so m at o (ask_open m steady AnyLength (low_text m) c o.connection o.step reported)) [
+      received_within : is_open r.connection.state ≡ true → (size : ℕ) → size ≤ r.connection.mss → FitsNewest (y ∷ incarnation) size
+      received_within open_then size l = elim (asked_so m at o (ask_open m steady AnyLength (low_text m) c o.connection o.step reported)) [
         | unasked e ↦ bounded (ap (λ z. is_open z.connection.state) (sym e) ∙ open_then) size (let q : r.connection.mss ≡ o.connection.mss = ap (λ z. z.connection.mss) e in omega (arith, l, q))
         | spoke open_there same none ↦ bounded open_there size (let q = same open_then in omega (arith, l, q))
       ]
@@ -213,14 +213,14 @@ module _ (m : AppSpec) (steady : IsSteady m) (ports : ℕ → Bool) (p : Sockets
                 (λ t q f k. absurd (let same : s ≡ t = cc in not_acked h.before g.0 (ap (λ z. has_ack z.flags) same ∙ f) (ap (λ z. z.ack) same ∙ k))) (now.syn h.before)
           ])
 
-      heard_syn : r.connection.state ≡ SynRcvd → AtSyn (y ∷ incarnation) (wrap (snd_una r.connection + 1))
-      heard_syn h = elim (asked_so m at o (ask_open m steady AnyLength (low_text m) c o.connection o.step reported)) [
+      received_syn : r.connection.state ≡ SynRcvd → AtSyn (y ∷ incarnation) (wrap (snd_una r.connection + 1))
+      received_syn h = elim (asked_so m at o (ask_open m steady AnyLength (low_text m) c o.connection o.step reported)) [
         | unasked e ↦ still_syn e (segment_syn m c numbers s (ap (λ z. z.connection.state) (sym e) ∙ h))
         | spoke open_there same none ↦ absurd (none h)
       ]
 
       delivered : Windowed (left_of r.connection) (y ∷ incarnation)
-      delivered = windowed_step c incarnation w alive (Some s) r (stepped_tells m steady AnyLength (low_text m) at c o is (on_segment_fits m steady c numbers s fit words) reported) (asked_short m at o (segment_new m c numbers s)) heard_within heard_syn
+      delivered = windowed_step c incarnation w alive (Some s) r (stepped_reports m steady AnyLength (low_text m) at c o is (on_segment_fits m steady c numbers s fit words) reported) (asked_short m at o (segment_new m c numbers s)) received_within received_syn
 
     -- the slot is called
     abbrev oo : Outcome
@@ -233,7 +233,7 @@ module _ (m : AppSpec) (steady : IsSteady m) (ports : ℕ → Bool) (p : Sockets
     z = met None (segment_of m rr.connection rr.step)
 
     tick_reported : OutReports m steady AnyLength (low_text m) c oo.connection oo.step
-    tick_reported = tick_tells m steady AnyLength (low_text m) c numbers now.safe
+    tick_reported = tick_reports m steady AnyLength (low_text m) c numbers now.safe
 
     ticked_within : is_open rr.connection.state ≡ true → (size : ℕ) → size ≤ rr.connection.mss → FitsNewest (z ∷ incarnation) size
     ticked_within open_then size l =
@@ -268,7 +268,7 @@ module _ (m : AppSpec) (steady : IsSteady m) (ports : ℕ → Bool) (p : Sockets
     ]
 
     ticked : Windowed (left_of rr.connection) (z ∷ incarnation)
-    ticked = windowed_step c incarnation w alive None rr (stepped_tells m steady AnyLength (low_text m) at c oo is (on_tick_fits m steady c numbers fit words) tick_reported) (asked_short m at oo (tick_on m c numbers).new) ticked_within ticked_syn
+    ticked = windowed_step c incarnation w alive None rr (stepped_reports m steady AnyLength (low_text m) at c oo is (on_tick_fits m steady c numbers fit words) tick_reported) (asked_short m at oo (tick_on m c numbers).new) ticked_within ticked_syn
 
   -- ---- what an event does
 

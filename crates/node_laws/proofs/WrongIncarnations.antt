@@ -1,5 +1,5 @@
 -- The guarantee alone excludes wrong incarnations.
-use Rattle.node_laws.proofs.Prelude.{◌≡◌, ◌+◌, ◌<◌, ◌≤◌, ◌⊎◌, ℕ, zero, suc, Bool, true, false, List, [], ◌∷◌, ◌++◌, length, take, refl, sym, ap, ◌∙◌, subst, arith, inl, inr, Some, if◌then◌else◌, wrap, PlainSegment, hello, fixed_text, some_received, EchoAsked, only_some, prefix_length, prefix_refl, IsPrefixOf, OutputModel, Paged, Interactive, Free, CarriesByte, IsReceived, received_at, sent_at, IsEchoed, Account, Opening, IsSelection, AccountHolds, IncarnationConforms, NumbersGiveOffsets, IsAcknowledged, Pages, Exchange, IsPrefixOfPage, TextConforms, SpeaksBy, hello_pages, mirror_pages, opened, segment, cut_again, ends_early, repeats_byte, acknowledges_refused, two_under_way, tells_another, echoes_before, WrongIncarnationsFall}
+use Rattle.node_laws.proofs.Prelude.{◌≡◌, ◌+◌, ◌<◌, ◌≤◌, ◌⊎◌, ℕ, zero, suc, Bool, true, false, List, [], ◌∷◌, ◌++◌, length, take, refl, sym, ap, ◌∙◌, subst, arith, inl, inr, Some, if◌then◌else◌, wrap, PlainSegment, hello, fixed_text, some_received, EchoAsked, only_some, prefix_length, prefix_refl, IsPrefixOf, OutputModel, Paged, Interactive, Free, CarriesByte, IsReceived, received_at, sent_at, IsEchoed, Account, Opening, IsSelection, AccountHolds, IncarnationConforms, NumbersGiveOffsets, IsAcknowledged, Pages, Exchange, IsPrefixOfPage, TextConforms, SpeaksBy, hello_pages, mirror_pages, opened, segment, cut_again, ends_early, repeats_byte, acknowledges_refused, two_under_way, reports_another, echoes_before, WrongIncarnationsFall}
 use Rattle.node_laws.proofs.Texts.{element, get_inside, most_or_more}
 
 -- where the life begins
@@ -22,16 +22,16 @@ whole_length [] h = absurd (cc)
 whole_length (x ∷ xs) h = refl
 
 -- what is sent there is at most the six bytes at one number
-said_short : (place : ℕ) (s : PlainSegment) → sent_at cut_again place ≡ Some s → ((s.seq ≡ 1) × (length s.text ≤ 6)) ⊎ (s.text ≡ [])
-said_short zero s h = inl (only_some (λ z. (z.seq ≡ 1) × (length z.text ≤ 6)) (segment 1 1002 24 (take 5 hello)) s h (refl, omega arith))
-said_short (suc zero) s h = inl (only_some (λ z. (z.seq ≡ 1) × (length z.text ≤ 6)) (segment 1 1002 24 hello) s h (refl, omega arith))
-said_short (suc (suc zero)) s h = inr (only_some (λ z. z.text ≡ []) (segment 0 1001 18 []) s h refl)
-said_short (suc (suc (suc place))) s h = absurd (cc)
+sent_text_short : (place : ℕ) (s : PlainSegment) → sent_at cut_again place ≡ Some s → ((s.seq ≡ 1) × (length s.text ≤ 6)) ⊎ (s.text ≡ [])
+sent_text_short zero s h = inl (only_some (λ z. (z.seq ≡ 1) × (length z.text ≤ 6)) (segment 1 1002 24 (take 5 hello)) s h (refl, omega arith))
+sent_text_short (suc zero) s h = inl (only_some (λ z. (z.seq ≡ 1) × (length z.text ≤ 6)) (segment 1 1002 24 hello) s h (refl, omega arith))
+sent_text_short (suc (suc zero)) s h = inr (only_some (λ z. z.text ≡ []) (segment 0 1001 18 []) s h refl)
+sent_text_short (suc (suc (suc place))) s h = absurd (cc)
 
 none_there : (iss byte : ℕ) → wrap iss ≡ 0 → CarriesByte iss cut_again 1073741823 byte → ⊥
 none_there iss byte z c =
     let inside : c.within < length c.segment.text = get_inside c.segment.text byte c.within c.is in
-    elim (said_short c.place c.segment c.output) [
+    elim (sent_text_short c.place c.segment c.output) [
       | inl q ↦ (let seq : 1 ≡ wrap (iss + 1 + c.from) = sym q.0 ∙ c.seq in let sum = c.sum in omega (arith, q.1, inside, z, seq, sum))
       | inr q ↦ (let none : length c.segment.text ≡ 0 = ap length q in omega (arith, none, inside))
     ]
@@ -47,14 +47,14 @@ few_sent model k =
     let g : AccountHolds cut_again (k.account 0) = k.holds 0 (omega arith) in
     sent_short (k.account 0).iss (k.account 0).stream (numbers_of (k.account 0) g.begins).iss g.carried
 
-numbers_tell : (model : OutputModel) (k : IncarnationConforms model cut_again) → NumbersGiveOffsets cut_again (k.account 0)
-numbers_tell Free k = k.conforms 0 (omega arith) (few_sent Free k)
-numbers_tell (Interactive sessions) k = (k.conforms 0 (omega arith)).1 (few_sent (Interactive sessions) k)
-numbers_tell (Paged pages) k = (k.conforms 0 (omega arith)).1
+numbers_report : (model : OutputModel) (k : IncarnationConforms model cut_again) → NumbersGiveOffsets cut_again (k.account 0)
+numbers_report Free k = k.conforms 0 (omega arith) (few_sent Free k)
+numbers_report (Interactive sessions) k = (k.conforms 0 (omega arith)).1 (few_sent (Interactive sessions) k)
+numbers_report (Paged pages) k = (k.conforms 0 (omega arith)).1
 
 cut_resend : (model : OutputModel) → IncarnationConforms model cut_again → ⊥
 cut_resend model k =
-    let z = (numbers_tell model k).same 0 1 _ _ (omega arith) refl refl refl refl refl in
+    let z = (numbers_report model k).same 0 1 _ _ (omega arith) refl refl refl refl refl in
     let y : 6 ≡ 5 = ap length z.text in
     omega (arith, y)
 
@@ -126,18 +126,18 @@ refused model k =
     omega (arith, l, p, q)
 
 -- a segment without text adds none
-nothing_taken : (n : ℕ) (text : List ℕ) (ended : Bool) → n ≡ 1000 → IsSelection n tells_another text ended → text ≡ []
+nothing_taken : (n : ℕ) (text : List ℕ) (ended : Bool) → n ≡ 1000 → IsSelection n reports_another text ended → text ≡ []
 nothing_taken n text ended e h = elim h [
   | inl g ↦ (opening_taken n text ended e g).0
   | inr t ↦ t.joined ∙ ap (λ l. l ++ t.segment.text) (opening_taken n t.earlier false e t.before).0 ∙ only_some (λ s. s.text ≡ []) (segment 1001 1 16 []) t.segment t.received refl
 ]
 
-other_page : (model : OutputModel) → SpeaksBy mirror_pages model → IncarnationConforms model tells_another → ⊥
+other_page : (model : OutputModel) → SpeaksBy mirror_pages model → IncarnationConforms model reports_another → ⊥
 other_page model by k =
-    let g : AccountHolds tells_another (k.account 0) = k.holds 0 (omega arith) in
+    let g : AccountHolds reports_another (k.account 0) = k.holds 0 (omega arith) in
     let n = numbers_of (k.account 0) g.begins in
     let t = (g.slices 0 _ refl).bytes (omega arith) in
-    let h = of_some_page mirror_pages model tells_another (k.account 0) by (k.conforms 0 (omega arith)) in
+    let h = of_some_page mirror_pages model reports_another (k.account 0) by (k.conforms 0 (omega arith)) in
     let m = prefix_length (k.account 0).stream h.0 h.2.prefix in
     let o = prefix_length h.0 (k.account 0).input h.1 in
     let l : length (k.account 0).input ≡ 0 = ap length (nothing_taken (k.account 0).irs (k.account 0).input false n.irs g.selection) in

@@ -20,4 +20,4 @@ pub use Rattle.node_laws.specs.Wire.{IsOfLine, IsDecoded, IsDecodedAt, seen_from
 pub use Rattle.node_laws.specs.Wire.IsOfLine.{of_bytes, of_call, of_overlong}
 pub use Rattle.node_laws.specs.WrongIncarnations.{SpeaksBy, WrongIncarnationsFall, acknowledges_refused, cut_again}
 pub use Rattle.node_laws.specs.WrongIncarnations.{echoes_before, ends_early, exchanged}
-pub use Rattle.node_laws.specs.WrongIncarnations.{hello_pages, mirror_pages, opened, repeats_byte, segment, tells_another, two_under_way}
+pub use Rattle.node_laws.specs.WrongIncarnations.{hello_pages, mirror_pages, opened, repeats_byte, segment, reports_another, two_under_way}

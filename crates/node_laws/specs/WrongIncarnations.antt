@@ -51,8 +51,8 @@ abbrev pub two_under_way : List Exchange
 two_under_way = exchanged None (Some (segment 4 1002 (ACK + PSH) (drop 3 hello))) ∷ reported_text (take 3 hello) ∷ opened ∷ []
 
 -- this peer sent nothing, and it receives a byte that another peer sent
-abbrev pub tells_another : List Exchange
-tells_another = exchanged (Some (segment 1001 1 ACK [])) (Some (segment 1 1001 (ACK + PSH) (120 ∷ []))) ∷ opened ∷ []
+abbrev pub reports_another : List Exchange
+reports_another = exchanged (Some (segment 1001 1 ACK [])) (Some (segment 1 1001 (ACK + PSH) (120 ∷ []))) ∷ opened ∷ []
 
 -- the reply to the echo request before
 abbrev pub echoes_before : TraceEntry
@@ -69,5 +69,5 @@ pub record WrongIncarnationsFall : Type 0 where
   pub second_segment : (model : OutputModel) → IncarnationConforms model two_under_way → ⊥
   pub early_fin : (model : OutputModel) → SpeaksBy hello_pages model → IncarnationConforms model ends_early → ⊥
   pub repeated_byte : (model : OutputModel) → SpeaksBy hello_pages model → IncarnationConforms model repeats_byte → ⊥
-  pub other_page : (model : OutputModel) → SpeaksBy mirror_pages model → IncarnationConforms model tells_another → ⊥
+  pub other_page : (model : OutputModel) → SpeaksBy mirror_pages model → IncarnationConforms model reports_another → ⊥
   pub echo_before : IsEchoed echoes_before → ⊥

@@ -1,5 +1,5 @@
 -- What the calls of a connection do to the states that its value represents.
-use Rattle.own_app.proofs.Prelude.{All, All-head, All-tail, AppState, Bool, CanSay, IsByte, IsRepresented, List, Now, OwnApp, OwnRepresents, OwnState, PlainMessage, Snapshot, StateRepresents, after_capture, after_input, ap, arith, bytes_taken, drop, drop-append-le, drop-drop, eq-eqb, eqb-true, false, false≢true, has_last, if◌then◌else◌, is_due, is_next_message, is_overrun, le-ltb, le_prop, leb-false, leb-true, left_of_value, len_left, length, length-append, length-drop, lt-ltb, ltb-false, ltb-true, map, message_in, messages_text, messages_text_more, nat_le, ne_eqb, not, numbers_of, own_spec, pending, refl, state_of, sym, true, with_message, ∥∥₁_elim, ◌%◌, ◌&&◌, ◌++◌, ◌+◌, ◌-◌, ◌<◌, ◌==◌, ◌||◌, ◌∙◌, ◌∷◌, ◌≡◌, ◌≤◌, ℕ, []}
+use Rattle.own_app.proofs.Prelude.{All, All-head, All-tail, AppState, Bool, CanSupply, IsByte, IsRepresented, List, Now, OwnApp, OwnRepresents, OwnState, PlainMessage, Snapshot, StateRepresents, after_capture, after_input, ap, arith, bytes_taken, drop, drop-append-le, drop-drop, eq-eqb, eqb-true, false, false≢true, has_last, if◌then◌else◌, is_due, is_next_message, is_overrun, le-ltb, le_prop, leb-false, leb-true, left_of_value, len_left, length, length-append, length-drop, lt-ltb, ltb-false, ltb-true, map, message_in, messages_text, messages_text_more, nat_le, ne_eqb, not, numbers_of, own_spec, pending, refl, state_of, sym, true, with_message, ∥∥₁_elim, ◌%◌, ◌&&◌, ◌++◌, ◌+◌, ◌-◌, ◌<◌, ◌==◌, ◌||◌, ◌∙◌, ◌∷◌, ◌≡◌, ◌≤◌, ℕ, []}
 use Rattle.std.proofs.lemmas.Bool.Decides.{nat_tests}
 use Rattle.own_app.specs.declared.TheConstants.{RECEIVED_ROOM}
 
@@ -184,7 +184,7 @@ input_represents a p piece represents =
 pub place : (a : OwnApp) → IsRepresented {A = OwnApp} {K = Unit {0}} (λ b k p. OwnRepresents b p) a tt → a.at ≤ length a.sending.items
 place a has = ∥∥₁_elim has le_prop (λ c. c.1.within)
 
-pub room : (a : OwnApp) (n : ℕ) → CanSay {A = OwnApp} {K = Unit {0}} (λ k. own_spec) (λ b k p. OwnRepresents b p) a tt n → a.at + n ≤ length a.sending.items
+pub room : (a : OwnApp) (n : ℕ) → CanSupply {A = OwnApp} {K = Unit {0}} (λ k. own_spec) (λ b k p. OwnRepresents b p) a tt n → a.at + n ≤ length a.sending.items
 room a n can =
     ∥∥₁_elim can le_prop (λ c.
     omega (arith, c.2, ap (λ (l : List ℕ). length l) (left_of_value (state_of a) c.0 c.1), length-drop a.at a.sending.items, c.1.within))

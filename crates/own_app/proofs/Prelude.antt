@@ -1,5 +1,5 @@
 -- The names that the proofs of this crate cite: of std, of the crates below, and of its own definitions. Declares nothing.
-pub use Rattle.app_events.specs.Prelude.{AppState, CanSay, IsByte, IsPrefixOf, IsRepresented, IsU32, MayWant, Snapshot}
+pub use Rattle.app_events.specs.Prelude.{AppState, CanSupply, IsByte, IsPrefixOf, IsRepresented, IsU32, MayWant, Snapshot}
 pub use Rattle.app_events.specs.declared.now.Now.{Now}
 pub use Rattle.app_events.specs.declared.want.Want.TheVariants.{Abort, Close, Nothing, Send}
 pub use Rattle.node_laws.specs.Prelude.{FollowsPagesAt, IsDecoded, TraceConforms, TraceEntry}

@@ -1,2 +1,2 @@
 -- Proofs about the definitions of this crate. They need not be read.
-pub mod Hearing
+pub mod Reception

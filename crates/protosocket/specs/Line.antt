@@ -69,5 +69,5 @@ delivered stops bytes = record {
 }
 
 -- in whatever pieces they are received
-abbrev pub HearsInPieces : Type 0
-HearsInPieces = (stops : Stops) (pieces : List (List ℕ)) → fold after (fresh stops) pieces ≡ delivered stops (concat pieces)
+abbrev pub ReceivesInPieces : Type 0
+ReceivesInPieces = (stops : Stops) (pieces : List (List ℕ)) → fold after (fresh stops) pieces ≡ delivered stops (concat pieces)

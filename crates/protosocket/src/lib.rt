@@ -12,7 +12,7 @@ mod stops;
 
 pub use close_out::CloseOut;
 pub use gen_out::GenOut;
-pub use laws::hears_in_pieces;
+pub use laws::receives_in_pieces;
 pub use line_in::LineIn;
 pub use send_out::SendOut;
 pub use stops::Stops;

@@ -3,7 +3,7 @@
 ghost use Rattle.std.specs.Prelude.{◌≡◌, ◌+◌, ◌++◌, ◌||◌, length, nat_lt, position, take};
 ghost use Rattle.std.specs.List.{before_first, list_any};
 ghost use Rattle.protosocket.specs.Line.{after, part_taken, fresh, is_query_mark, is_stop, longest_name, with_word, word_of};
-ghost use Rattle.protosocket.specs.Lemmas.Hearing.{takes_prefix, takes_all, takes_nothing, hears_joined};
+ghost use Rattle.protosocket.specs.Lemmas.Reception.{takes_prefix, takes_all, takes_nothing, receives_joined};
 
 use crate::stops::Stops;
 use arrayvec::ArrayVec;
@@ -132,5 +132,5 @@ impl Hears for LineIn {
 
     ghost done_takes_nothing = { takes_nothing };
 
-    ghost joined = { hears_joined };
+    ghost joined = { receives_joined };
 }

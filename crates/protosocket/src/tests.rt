@@ -4,7 +4,7 @@ use crate::{LineIn, Stops};
 use protothread::Hears;
 
 #[test]
-fn a_request_line_is_heard_in_pieces(rt: HostRuntime) {
+fn a_request_line_is_received_in_pieces(rt: HostRuntime) {
     let mut method = LineIn::new(Stops::Space);
     assert_eq!(rt; method.feed(b"GE"), 2);
     assert!(rt; !method.done());

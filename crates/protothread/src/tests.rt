@@ -3,7 +3,7 @@
 use crate::{Child, Run, Says, Then};
 
 #[test]
-fn a_page_is_said_and_goes_on(rt: HostRuntime) {
+fn a_page_is_sent_and_continues(rt: HostRuntime) {
     let world: &[u8] = b"headchildta";
     let parent = Run { at: 9, end: 11 };
     let child = Some(Run { at: 4, end: 9 });

@@ -1,5 +1,5 @@
 -- One call of the node, for a station that represents it.
-use Rattle.serve_loop.proofs.Prelude.{◌≡◌, ℕ, ◌≤◌, ◌<◌, ◌+◌, ◌-◌, Bool, List, [], ◌∷◌, ◌++◌, Option, Result, OnErr, OnOk, suc, zero, map, refl, sym, ap, ◌∙◌, subst, add-one, add-suc, add-zero, append-nil, append_assoc, arith, Appends, on_err_weaker, on_ok_weaker, Addr, AppSpec, Ghosts, appends_by, Appends-none, Node, Event, Reply, tick, Periodic, AbstractNode, step, IsSent, Represents, Steps, BreaksOff, PrefixWritten, StationEvent, OfMedium, OfNode, Station, AllSaid, station_after_all, station_after, output, reply_text, MediumSpec, all_said, IsHere, IsNode}
+use Rattle.serve_loop.proofs.Prelude.{◌≡◌, ℕ, ◌≤◌, ◌<◌, ◌+◌, ◌-◌, Bool, List, [], ◌∷◌, ◌++◌, Option, Result, OnErr, OnOk, suc, zero, map, refl, sym, ap, ◌∙◌, subst, add-one, add-suc, add-zero, append-nil, append_assoc, arith, Appends, on_err_weaker, on_ok_weaker, Addr, AppSpec, Ghosts, appends_by, Appends-none, Node, Event, Reply, tick, Periodic, AbstractNode, step, IsSent, Represents, Steps, BreaksOff, PrefixWritten, StationEvent, OfMedium, OfNode, Station, AllWritten, station_after_all, station_after, output, reply_text, MediumSpec, all_written, IsHere, IsNode}
 use Rattle.serve_loop.proofs.AddrLaws.{step-addr}
 use Rattle.serve_loop.proofs.RunLaws.{broke_by, broke_more, broke_one, broke_then, wrote_one}
 
@@ -33,7 +33,7 @@ module _ {A S : Type 0} (g : Ghosts A S) where
         → ((n : AbstractNode) → At m own old n → Steps g new result (step (g.app_spec (g.config old.shared)) g.served n event))
         → ((acts : List C) → did acts → did' acts)
         → ((acts : List C) (own : Addr) (reply : Option Reply) → did acts → IsSent own reply result new.packet → Appends a b (reply_text w acts own reply))
-        → AllSaid m g.served w own (OfNode event ∷ []) (Here did m own old) (Here did' m own new) a b
+        → AllWritten m g.served w own (OfNode event ∷ []) (Here did m own old) (Here did' m own new) a b
     call_wrote m own old new result event a b same steps on wrote =
         wrote_one m g.served w own (OfNode event) (Here did m own old) (Here did' m own new) a b
         (λ s p. let both = node_step m own old new result event s.node same (steps s.node p.represented) p.represented in
@@ -58,7 +58,7 @@ module _ {A S : Type 0} (g : Ghosts A S) where
         → ((m : AppSpec) (own : Addr) (n : AbstractNode) → At m own old n → Steps g new result (step (g.app_spec (g.config old.shared)) g.served n (event own)))
         → ((k : Set) (acts : List C) → did k acts → did' k acts)
         → OnOk r (Writes (λ a b text. Appends a b text)) → OnErr r (Writes (λ a b text. BreaksOff [] text a b))
-        → OnOk r ((k : Set) (m : AppSpec) (own : Addr) → AllSaid m g.served (spec k) own (OfNode (event own) ∷ []) (λ s. IsHere g (did k) m own old s) (λ s. IsHere g (did' k) m own new s) a b)
+        → OnOk r ((k : Set) (m : AppSpec) (own : Addr) → AllWritten m g.served (spec k) own (OfNode (event own) ∷ []) (λ s. IsHere g (did k) m own old s) (λ s. IsHere g (did' k) m own new s) a b)
         × OnErr r ((k : Set) (m : AppSpec) (own : Addr) → PrefixWritten m g.served (spec k) own (OfNode (event own) ∷ []) (λ s. IsHere g (did k) m own old s) (λ s. IsHere g (did' k) m own new s) a b)
     call_reported same steps on ok err = (
       on_ok_weaker r (λ wrote k m own. call_wrote (spec k) (did k) (did' k) m own old new result (event own) a b same (steps m own) (on k) (wrote k)) ok,
@@ -72,18 +72,18 @@ module _ {C : Type 0} (m : AppSpec) (served : ℕ → Bool) (w : MediumSpec C) (
   acts_after (a ∷ acts) s =
       acts_after acts (station_after m served s (OfMedium a)) ∙ ap (λ (l : List C). record { acts = l; node = s.node }) (append_assoc s.acts (a ∷ []) acts)
 
-  acts_said : (acts : List C) (s : Station C) → output m served w own (map OfMedium acts) s ≡ all_said w acts
-  acts_said [] s = refl
-  acts_said (a ∷ acts) s = ap (λ l. w.says a ++ l) (acts_said acts (station_after m served s (OfMedium a)))
+  acts_sent : (acts : List C) (s : Station C) → output m served w own (map OfMedium acts) s ≡ all_written w acts
+  acts_sent [] s = refl
+  acts_sent (a ∷ acts) s = ap (λ l. w.output_at a ++ l) (acts_sent acts (station_after m served s (OfMedium a)))
 
   -- events of the medium without output
-  pub acts_wrote : (acts : List C) (P Q : Station C → Type 0) (a : Option (List ℕ)) → all_said w acts ≡ []
+  pub acts_wrote : (acts : List C) (P Q : Station C → Type 0) (a : Option (List ℕ)) → all_written w acts ≡ []
       → ((s : Station C) → P s → Q (record { acts = s.acts ++ acts; node = s.node }))
-      → AllSaid m served w own (map OfMedium acts) P Q a a
+      → AllWritten m served w own (map OfMedium acts) P Q a a
   acts_wrote acts P Q a hushed on = record {
     each = λ s p. (
       subst (λ (k : Station C). Q k) (sym (acts_after acts s)) (on s p),
-      appends_by a a [] _ (acts_said acts s ∙ hushed) (Appends-none a),
+      appends_by a a [] _ (acts_sent acts s ∙ hushed) (Appends-none a),
     );
   }
 
@@ -119,7 +119,7 @@ calls_after {C} prefix k = ap (λ l. prefix ++ l) (calls-next {C = C} k) ∙ sym
 
 -- a tick in which the call of a slot broke off, after others
 pub slots_broke : {Set C : Type 0} (served : ℕ → Bool) (spec : Set → MediumSpec C) (prefix : Set → List (StationEvent C)) (P Q R : Set → AppSpec → Addr → Station C → Type 0) (a b c : Option (List ℕ)) (slot : ℕ) → slot < 10
-    → ((k : Set) (m : AppSpec) (own : Addr) → AllSaid m served (spec k) own (prefix k ++ calls slot) (P k m own) (Q k m own) a b)
+    → ((k : Set) (m : AppSpec) (own : Addr) → AllWritten m served (spec k) own (prefix k ++ calls slot) (P k m own) (Q k m own) a b)
     → ((k : Set) (m : AppSpec) (own : Addr) → PrefixWritten m served (spec k) own (OfNode (Periodic slot) ∷ []) (Q k m own) (R k m own) b c)
     → (k : Set) (m : AppSpec) (own : Addr) → PrefixWritten m served (spec k) own (prefix k ++ map OfNode tick) (P k m own) (R k m own) a c
 slots_broke served spec prefix P Q R a b c slot within wrote broke k m own =

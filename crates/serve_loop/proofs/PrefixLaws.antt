@@ -1,5 +1,5 @@
 -- The events of a prefix of the bytes, of which only the last may complete a frame or make a tick.
-use Rattle.serve_loop.proofs.Prelude.{◌≡◌, ℕ, ◌+◌, ◌<◌, ◌≤◌, Bool, true, false, List, [], ◌∷◌, ◌++◌, Option, if◌then◌else◌, length, map, take, drop, sym, ap, ◌∙◌, append-nil, arith, length-append, subst, length-take-le, take-append-drop, take-take, Addr, AppSpec, Byte, Pacer, beat_on, station_event_by, station_events_after, tick_on, HasPassed, is_beat, PrefixWritten, Station, AllSaid, HasTaken, MediumSpec, all_decoded}
+use Rattle.serve_loop.proofs.Prelude.{◌≡◌, ℕ, ◌+◌, ◌<◌, ◌≤◌, Bool, true, false, List, [], ◌∷◌, ◌++◌, Option, if◌then◌else◌, length, map, take, drop, sym, ap, ◌∙◌, append-nil, arith, length-append, subst, length-take-le, take-append-drop, take-take, Addr, AppSpec, Byte, Pacer, beat_on, station_event_by, station_events_after, tick_on, HasPassed, is_beat, PrefixWritten, Station, AllWritten, HasTaken, MediumSpec, all_decoded}
 use Rattle.serve_loop.proofs.EventLaws.{IsSilent, events-bytes, events-run}
 use Rattle.serve_loop.proofs.PaceLaws.{rests}
 use Rattle.serve_loop.proofs.RunLaws.{broke_by, broke_more, broke_then, wrote_by, wrote_then}
@@ -52,18 +52,18 @@ module _ {Set C : Type 0} (spec : Set → MediumSpec C) (fed : Set → List ℕ 
   module _ (served : ℕ → Bool) (P Q : Set → AppSpec → Addr → Station C → Type 0) (a b : Option (List ℕ)) where
     abbrev pub FrameWrote : ℕ → Type 0
     FrameWrote n = (k : Set) (before : List ℕ) → fed k before → (m : AppSpec) (own : Addr)
-        → AllSaid m served (spec k) own (map (station_event_by own) (all_decoded (spec k) before (take n (take due bytes)))) (P k m own) (Q k m own) a b
+        → AllWritten m served (spec k) own (map (station_event_by own) (all_decoded (spec k) before (take n (take due bytes)))) (P k m own) (Q k m own) a b
 
     frame_wrote : (n : ℕ) → n ≤ due → FrameWrote n → (k : Set) (before : List ℕ) → fed k before → (m : AppSpec) (own : Addr)
-        → AllSaid m served (spec k) own (map (station_event_by own) (all_decoded (spec k) before (take n bytes))) (P k m own) (Q k m own) a b
+        → AllWritten m served (spec k) own (map (station_event_by own) (all_decoded (spec k) before (take n bytes))) (P k m own) (Q k m own) a b
     frame_wrote n least wrote k before took m own =
-        subst (λ (l : List ℕ). AllSaid m served (spec k) own (map (station_event_by own) (all_decoded (spec k) before l)) (P k m own) (Q k m own) a b)
+        subst (λ (l : List ℕ). AllWritten m served (spec k) own (map (station_event_by own) (all_decoded (spec k) before l)) (P k m own) (Q k m own) a b)
         (take-take n due bytes least) (wrote k before took m own)
 
     -- the last byte makes none
     pub rest_wrote : (n : ℕ) (pass : Bool) → 0 < n → n ≤ due → pass ≡ false → ((count : ℕ) → HasPassed count pacer → pass ≡ is_beat pacer.pace (count + n))
         → FrameWrote n
-        → (k : Set) (pace : ℕ) (before : List ℕ) → HasTaken pace before (fed k) pacer → (m : AppSpec) (own : Addr) → AllSaid m served (spec k) own (station_events_after (spec k) own pace before (map Byte (take n bytes))) (P k m own) (Q k m own) a b
+        → (k : Set) (pace : ℕ) (before : List ℕ) → HasTaken pace before (fed k) pacer → (m : AppSpec) (own : Addr) → AllWritten m served (spec k) own (station_events_after (spec k) own pace before (map Byte (take n bytes))) (P k m own) (Q k m own) a b
     rest_wrote n pass some least is reported wrote k pace before h m own =
         let off : beat_on (spec k) pace (length before + n) ≡ [] = ap (λ v. if v then tick_on (spec k) else []) (ticks k pace before n pass h reported ∙ is) in
         let frame = map (station_event_by own) (all_decoded (spec k) before (take n bytes)) in
@@ -83,8 +83,8 @@ module _ {Set C : Type 0} (spec : Set → MediumSpec C) (fed : Set → List ℕ 
         (broke_by m served (spec k) own _ _ _ _ _ _ on (broke k m own))))
 
     pub tick_wrote : (n : ℕ) (pass : Bool) → 0 < n → n ≤ due → pass ≡ true → ((count : ℕ) → HasPassed count pacer → pass ≡ is_beat pacer.pace (count + n))
-        → FrameWrote served P Q a b n → ((k : Set) (m : AppSpec) (own : Addr) → AllSaid m served (spec k) own (tick_on (spec k)) (Q k m own) (R k m own) b c)
-        → (k : Set) (pace : ℕ) (before : List ℕ) → HasTaken pace before (fed k) pacer → (m : AppSpec) (own : Addr) → AllSaid m served (spec k) own (station_events_after (spec k) own pace before (map Byte (take n bytes))) (P k m own) (R k m own) a c
+        → FrameWrote served P Q a b n → ((k : Set) (m : AppSpec) (own : Addr) → AllWritten m served (spec k) own (tick_on (spec k)) (Q k m own) (R k m own) b c)
+        → (k : Set) (pace : ℕ) (before : List ℕ) → HasTaken pace before (fed k) pacer → (m : AppSpec) (own : Addr) → AllWritten m served (spec k) own (station_events_after (spec k) own pace before (map Byte (take n bytes))) (P k m own) (R k m own) a c
     tick_wrote n pass some least is reported wrote more k pace before h m own =
         let on : beat_on (spec k) pace (length before + n) ≡ tick_on (spec k) = ap (λ v. if v then tick_on (spec k) else []) (ticks k pace before n pass h reported ∙ is) in
         wrote_by m served (spec k) own _ _ _ _ _ _ (prefix_events k own pace before n h some least)
@@ -112,7 +112,7 @@ all_in_prefix bytes prefix (x ∷ rest) pieces none = absurd (omega arith)
 -- bytes after others
 module _ {Set C : Type 0} (spec : Set → MediumSpec C) (served : ℕ → Bool) (fed fed' : Set → List ℕ → Type 0) (pacer pacer' : Pacer) (prefix : List ℕ)
     (taken : (k : Set) (pace : ℕ) (before : List ℕ) → HasTaken pace before (fed k) pacer → HasTaken pace (before ++ prefix) (fed' k) pacer') (P Q R : Set → AppSpec → Addr → Station C → Type 0) (a b c : Option (List ℕ))
-    (wrote : (k : Set) (pace : ℕ) (before : List ℕ) → HasTaken pace before (fed k) pacer → (m : AppSpec) (own : Addr) → AllSaid m served (spec k) own (station_events_after (spec k) own pace before (map Byte prefix)) (P k m own) (Q k m own) a b) where
+    (wrote : (k : Set) (pace : ℕ) (before : List ℕ) → HasTaken pace before (fed k) pacer → (m : AppSpec) (own : Addr) → AllWritten m served (spec k) own (station_events_after (spec k) own pace before (map Byte prefix)) (P k m own) (Q k m own) a b) where
   pub after_broke : (bytes rest : List ℕ) → bytes ≡ prefix ++ rest
       → ((k : Set) (pace : ℕ) (before : List ℕ) → HasTaken pace before (fed' k) pacer' → (m : AppSpec) (own : Addr) → PrefixWritten m served (spec k) own (station_events_after (spec k) own pace before (map Byte rest)) (Q k m own) (R k m own) b c)
       → (k : Set) (pace : ℕ) (before : List ℕ) → HasTaken pace before (fed k) pacer → (m : AppSpec) (own : Addr) → PrefixWritten m served (spec k) own (station_events_after (spec k) own pace before (map Byte bytes)) (P k m own) (R k m own) a c
@@ -121,8 +121,8 @@ module _ {Set C : Type 0} (spec : Set → MediumSpec C) (served : ℕ → Bool) 
       (broke_then m served (spec k) own _ _ _ (Q k m own) _ _ b _ (wrote k pace before h m own) (broke k pace (before ++ prefix) (taken k pace before h) m own))
 
   pub after_wrote : (more : List ℕ)
-      → ((k : Set) (pace : ℕ) (before : List ℕ) → HasTaken pace before (fed' k) pacer' → (m : AppSpec) (own : Addr) → AllSaid m served (spec k) own (station_events_after (spec k) own pace before (map Byte more)) (Q k m own) (R k m own) b c)
-      → (k : Set) (pace : ℕ) (before : List ℕ) → HasTaken pace before (fed k) pacer → (m : AppSpec) (own : Addr) → AllSaid m served (spec k) own (station_events_after (spec k) own pace before (map Byte (prefix ++ more))) (P k m own) (R k m own) a c
+      → ((k : Set) (pace : ℕ) (before : List ℕ) → HasTaken pace before (fed' k) pacer' → (m : AppSpec) (own : Addr) → AllWritten m served (spec k) own (station_events_after (spec k) own pace before (map Byte more)) (Q k m own) (R k m own) b c)
+      → (k : Set) (pace : ℕ) (before : List ℕ) → HasTaken pace before (fed k) pacer → (m : AppSpec) (own : Addr) → AllWritten m served (spec k) own (station_events_after (spec k) own pace before (map Byte (prefix ++ more))) (P k m own) (R k m own) a c
   after_wrote more on k pace before h m own =
       wrote_by m served (spec k) own _ _ _ _ _ _ (events-bytes (spec k) own pace before prefix more)
       (wrote_then m served (spec k) own _ _ _ (Q k m own) _ _ b _ (wrote k pace before h m own) (on k pace (before ++ prefix) (taken k pace before h) m own))

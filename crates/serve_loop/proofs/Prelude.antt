@@ -1,8 +1,8 @@
 -- The names that the proofs of this crate cite: of std, of the crates below, and of its own definitions. Declares nothing.
 pub use Rattle.app_events.specs.Prelude.{AppSpec, IsByte}
 pub use Rattle.app_events.specs.declared.app.App.{Ghosts}
-pub use Rattle.line_medium.specs.Prelude.{MediumInput, MediumSpec, Own, acts_among, all_decoded, all_said}
-pub use Rattle.serve_loop.specs.Prelude.{AllSaid, BringsBytes, CarriesBytes, HasPassed, HasTaken, IsHere, IsItem, IsNode, IsStationed, NoAct, OfMedium, OfNode, PrefixWritten, SaidBy, ServesOver, Station, StationEvent, StopsIn, Turns, beat, beat_on, came_by, event_by, events_after, is_beat, line_events, output, output_of_event, reply_text, slip_medium, station_after, station_after_all, station_event_by, station_events_after, station_events_of_line, text_for, text_of, tick_on}
+pub use Rattle.line_medium.specs.Prelude.{MediumInput, MediumSpec, Own, acts_among, all_decoded, all_written}
+pub use Rattle.serve_loop.specs.Prelude.{AllWritten, BringsBytes, CarriesBytes, HasPassed, HasTaken, IsHere, IsItem, IsNode, IsStationed, NoAct, OfMedium, OfNode, PrefixWritten, WrittenAtEnd, ServesOver, Station, StationEvent, StopsIn, Turns, beat, beat_on, came_by, event_by, events_after, is_beat, line_events, output, output_of_event, reply_text, slip_medium, station_after, station_after_all, station_event_by, station_events_after, station_events_of_line, text_for, text_of, tick_on}
 pub use Rattle.serve_loop.specs.declared.pacer.Pacer.{Pacer}
 pub use Rattle.std.proofs.Common.{Bool, List, None, OnErr, OnOk, Option, Result, Some, [], add-one, add-suc, add-zero, ap, append-nil, append_assoc, arith, drop, eq-eqb, eqb, false, if◌then◌else◌, length, length-append, length-take, map, nat_le, nat_lt, ne_eqb, position, refl, subst, suc, sym, take, true, zero, ℕ, ◌%◌, ◌&&◌, ◌++◌, ◌+◌, ◌-◌, ◌<◌, ◌∙◌, ◌∷◌, ◌≡◌, ◌≤◌}
 pub use Rattle.std.proofs.Math.Nat.{mod-add-mod, mod-eq_of_lt, mod_self}

@@ -1,5 +1,5 @@
 -- A run over events, put together from its parts.
-use Rattle.serve_loop.proofs.Prelude.{◌≡◌, ℕ, Bool, List, [], ◌∷◌, ◌++◌, Option, None, Some, refl, sym, ap, ◌∙◌, append-nil, append_assoc, subst, Appends, Addr, AppSpec, BreaksOff, breaks_by, breaks_then, Appends-then, appends_by, Appends-none, Event, Reply, AbstractNode, NodeStep, Ran, joined, run, step, text_for, text_of, PrefixWritten, StationEvent, Station, StopsIn, AllSaid, station_after_all, station_after, output, output_of_event, MediumSpec}
+use Rattle.serve_loop.proofs.Prelude.{◌≡◌, ℕ, Bool, List, [], ◌∷◌, ◌++◌, Option, None, Some, refl, sym, ap, ◌∙◌, append-nil, append_assoc, subst, Appends, Addr, AppSpec, BreaksOff, breaks_by, breaks_then, Appends-then, appends_by, Appends-none, Event, Reply, AbstractNode, NodeStep, Ran, joined, run, step, text_for, text_of, PrefixWritten, StationEvent, Station, StopsIn, AllWritten, station_after_all, station_after, output, output_of_event, MediumSpec}
 
 module _ {A : Type 0} (m : AppSpec) (served : ℕ → Bool) (w : MediumSpec A) (own : Addr) where
   after-append : (xs ys : List (StationEvent A)) (s : Station A) → station_after_all m served (xs ++ ys) s ≡ station_after_all m served ys (station_after_all m served xs s)
@@ -14,14 +14,14 @@ module _ {A : Type 0} (m : AppSpec) (served : ℕ → Bool) (w : MediumSpec A) (
       ap (λ l. output_of_event m served w own s x ++ l) (output-append xs ys next)
       ∙ sym (append_assoc (output_of_event m served w own s x) (output m served w own xs next) (output m served w own ys (station_after_all m served xs next)))
 
-  pub wrote_by : (xs ys : List (StationEvent A)) (P Q : Station A → Type 0) (a b : Option (List ℕ)) → xs ≡ ys → AllSaid m served w own ys P Q a b → AllSaid m served w own xs P Q a b
-  wrote_by xs ys P Q a b e v = subst (λ (l : List (StationEvent A)). AllSaid m served w own l P Q a b) (sym e) v
+  pub wrote_by : (xs ys : List (StationEvent A)) (P Q : Station A → Type 0) (a b : Option (List ℕ)) → xs ≡ ys → AllWritten m served w own ys P Q a b → AllWritten m served w own xs P Q a b
+  wrote_by xs ys P Q a b e v = subst (λ (l : List (StationEvent A)). AllWritten m served w own l P Q a b) (sym e) v
 
   pub broke_by : (xs ys : List (StationEvent A)) (P Q : Station A → Type 0) (a b : Option (List ℕ)) → xs ≡ ys → PrefixWritten m served w own ys P Q a b → PrefixWritten m served w own xs P Q a b
   broke_by xs ys P Q a b e v = subst (λ (l : List (StationEvent A)). PrefixWritten m served w own l P Q a b) (sym e) v
 
   -- nothing happened
-  pub wrote_none : (P Q : Station A → Type 0) (a : Option (List ℕ)) → ((s : Station A) → P s → Q s) → AllSaid m served w own [] P Q a a
+  pub wrote_none : (P Q : Station A → Type 0) (a : Option (List ℕ)) → ((s : Station A) → P s → Q s) → AllWritten m served w own [] P Q a a
   wrote_none P Q a on = record { each = λ s p. (on s p, Appends-none a) }
 
   -- one deed
@@ -30,7 +30,7 @@ module _ {A : Type 0} (m : AppSpec) (served : ℕ → Bool) (w : MediumSpec A) (
 
   pub wrote_one : (x : StationEvent A) (P Q : Station A → Type 0) (a b : Option (List ℕ))
       → ((s : Station A) → P s → Q (station_after m served s x) × Appends a b (output_of_event m served w own s x))
-      → AllSaid m served w own (x ∷ []) P Q a b
+      → AllWritten m served w own (x ∷ []) P Q a b
   wrote_one x P Q a b f = record { each = λ s p. ((f s p).0, appends_by a b _ _ (one_text x s) (f s p).1) }
 
   pub broke_one : (x : StationEvent A) (P Q : Station A → Type 0) (a b : Option (List ℕ))
@@ -40,8 +40,8 @@ module _ {A : Type 0} (m : AppSpec) (served : ℕ → Bool) (w : MediumSpec A) (
       record { each = λ s p. record { done = []; last = x; later = []; split = refl; after = (f s p).0; broke = (f s p).1 } }
 
   -- deeds, and then others
-  pub wrote_then : (xs ys : List (StationEvent A)) (P Q R : Station A → Type 0) (a b c : Option (List ℕ)) → AllSaid m served w own xs P Q a b → AllSaid m served w own ys Q R b c
-      → AllSaid m served w own (xs ++ ys) P R a c
+  pub wrote_then : (xs ys : List (StationEvent A)) (P Q R : Station A → Type 0) (a b c : Option (List ℕ)) → AllWritten m served w own xs P Q a b → AllWritten m served w own ys Q R b c
+      → AllWritten m served w own (xs ++ ys) P R a c
   wrote_then xs ys P Q R a b c u v = record {
     each = λ s p.
         let mid : Station A = station_after_all m served xs s in
@@ -67,7 +67,7 @@ module _ {A : Type 0} (m : AppSpec) (served : ℕ → Bool) (w : MediumSpec A) (
         (breaks_then (output m served w own xs s) _ _ a b c first more.broke);
   }
 
-  pub broke_then : (xs ys : List (StationEvent A)) (P Q R : Station A → Type 0) (a b c : Option (List ℕ)) → AllSaid m served w own xs P Q a b → PrefixWritten m served w own ys Q R b c
+  pub broke_then : (xs ys : List (StationEvent A)) (P Q R : Station A → Type 0) (a b c : Option (List ℕ)) → AllWritten m served w own xs P Q a b → PrefixWritten m served w own ys Q R b c
       → PrefixWritten m served w own (xs ++ ys) P R a c
   broke_then xs ys P Q R a b c u v = record {
     each = λ s p. let first = u.each s p in stops_then xs ys R a b c s first.1 (v.each (station_after_all m served xs s) first.0);
@@ -83,7 +83,7 @@ module _ {A : Type 0} (m : AppSpec) (served : ℕ → Bool) (w : MediumSpec A) (
   broke_more xs ys P Q a b v = record { each = λ s p. stops_more xs ys Q a b s (v.each s p) }
 
   -- a stronger property before
-  pub wrote_from : (xs : List (StationEvent A)) (O P Q : Station A → Type 0) (a b : Option (List ℕ)) → ((s : Station A) → O s → P s) → AllSaid m served w own xs P Q a b → AllSaid m served w own xs O Q a b
+  pub wrote_from : (xs : List (StationEvent A)) (O P Q : Station A → Type 0) (a b : Option (List ℕ)) → ((s : Station A) → O s → P s) → AllWritten m served w own xs P Q a b → AllWritten m served w own xs O Q a b
   wrote_from xs O P Q a b on v = record { each = λ s p. v.each s (on s p) }
 
   pub broke_from : (xs : List (StationEvent A)) (O P Q : Station A → Type 0) (a b : Option (List ℕ)) → ((s : Station A) → O s → P s) → PrefixWritten m served w own xs P Q a b → PrefixWritten m served w own xs O Q a b

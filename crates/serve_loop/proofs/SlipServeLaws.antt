@@ -41,14 +41,14 @@ module _ (m : AppSpec) (served : ℕ → Bool) (own : Addr) where
   text_joined acts (Some reply) rest = refl
 
   -- and their output is the texts of what the node sends
-  pub said_is : (events : List Event) (s : Station NoAct) → output m served slip_medium own (all_happen events) s ≡ text_of own (run m served events s.node).sent
-  said_is [] s = refl
-  said_is (e ∷ events) s =
-      ap (λ l. reply_text slip_medium s.acts own (step m served s.node e).sent ++ l) (said_is events (station_after m served s (OfNode e)))
+  pub sent_text_is : (events : List Event) (s : Station NoAct) → output m served slip_medium own (all_happen events) s ≡ text_of own (run m served events s.node).sent
+  sent_text_is [] s = refl
+  sent_text_is (e ∷ events) s =
+      ap (λ l. reply_text slip_medium s.acts own (step m served s.node e).sent ++ l) (sent_text_is events (station_after m served s (OfNode e)))
       ∙ text_joined s.acts (step m served s.node e).sent (run m served events (step m served s.node e).node).sent
 
 -- the output for the events of a serial line is the text of what the node sends over them
-pub said_on_line : (m : AppSpec) (served : ℕ → Bool) (own : Addr) (pace : ℕ) (items : List Item) (s : Station NoAct)
+pub sent_text_on_line : (m : AppSpec) (served : ℕ → Bool) (own : Addr) (pace : ℕ) (items : List Item) (s : Station NoAct)
     → output m served slip_medium own (station_events_of_line slip_medium own pace items) s ≡ text_of own (run m served (line_events own pace items) s.node).sent
-said_on_line m served own pace items s =
-    ap (λ (l : List (StationEvent NoAct)). output m served slip_medium own l s) (station_events_are own pace [] items) ∙ said_is m served own (line_events own pace items) s
+sent_text_on_line m served own pace items s =
+    ap (λ (l : List (StationEvent NoAct)). output m served slip_medium own l s) (station_events_are own pace [] items) ∙ sent_text_is m served own (line_events own pace items) s

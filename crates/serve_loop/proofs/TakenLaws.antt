@@ -1,5 +1,5 @@
 -- What was done for a run whose last byte completed a frame.
-use Rattle.serve_loop.proofs.Prelude.{◌≡◌, ℕ, ◌<◌, ◌≤◌, List, [], ◌∷◌, ◌++◌, Option, length, map, take, ap, ◌∙◌, append-nil, subst, refl, Appends, Addr, AppSpec, Ghosts, appends_by, Appends-none, Node, event_of, seen, AbstractNode, step, Represents, BreaksOff, station_event_by, PrefixWritten, OfMedium, OfNode, Station, AllSaid, IsHere, MediumInput, Own, MediumSpec, acts_among, all_decoded, breaks_by}
+use Rattle.serve_loop.proofs.Prelude.{◌≡◌, ℕ, ◌<◌, ◌≤◌, List, [], ◌∷◌, ◌++◌, Option, length, map, take, ap, ◌∙◌, append-nil, subst, refl, Appends, Addr, AppSpec, Ghosts, appends_by, Appends-none, Node, event_of, seen, AbstractNode, step, Represents, BreaksOff, station_event_by, PrefixWritten, OfMedium, OfNode, Station, AllWritten, IsHere, MediumInput, Own, MediumSpec, acts_among, all_decoded, breaks_by}
 use Rattle.uip_node.specs.Events.Event.{Overlong as OverlongFrame}
 use Rattle.line_medium.specs.Media.{Datagram, Overlong}
 use Rattle.serve_loop.proofs.NodeLaws.{node_on}
@@ -31,7 +31,7 @@ module _ {A S Set C : Type 0} (g : Ghosts A S)
   }
 
   pub nothing_wrote : ((k : Set) (before : List ℕ) → fed k before → Came_of k before ≡ []) → (a : Option (List ℕ))
-      → (k : Set) (before : List ℕ) → fed k before → (m : AppSpec) (own : Addr) → AllSaid m g.served (spec k) own (map (station_event_by own) (Came_of k before)) (Here did k m own) (Here did' k m own) a a
+      → (k : Set) (before : List ℕ) → fed k before → (m : AppSpec) (own : Addr) → AllWritten m g.served (spec k) own (map (station_event_by own) (Came_of k before)) (Here did k m own) (Here did' k m own) a a
   nothing_wrote reported a k before h m own =
       wrote_by m g.served (spec k) own _ [] _ _ _ _ (ap (λ l. map (station_event_by own) l) (reported k before h))
       (wrote_none m g.served (spec k) own _ _ a (moved k m own before [] h (reported k before h) refl))
@@ -40,7 +40,7 @@ module _ {A S Set C : Type 0} (g : Ghosts A S)
       → g.config after.shared ≡ g.config node.shared
       → ((n : AbstractNode) → Represents g node n n.history → Represents g after (step (g.app_spec (g.config node.shared)) g.served n OverlongFrame).node (seen OverlongFrame n.history))
       → (k : Set) (before : List ℕ) → fed k before
-      → (m : AppSpec) (own : Addr) → AllSaid m g.served (spec k) own (map (station_event_by own) (Came_of k before)) (Here did k m own) (λ s. IsHere g (did' k) m own after s) a a
+      → (m : AppSpec) (own : Addr) → AllWritten m g.served (spec k) own (map (station_event_by own) (Came_of k before)) (Here did k m own) (λ s. IsHere g (did' k) m own after s) a a
   overlong_wrote after a reported same steps k before h m own =
       wrote_by m g.served (spec k) own _ _ _ _ _ _ (ap (λ l. map (station_event_by own) l) (reported k before h))
       (wrote_one m g.served (spec k) own (OfNode OverlongFrame) (Here did k m own) (λ s. IsHere g (did' k) m own after s) a a
@@ -56,8 +56,8 @@ module _ {A S Set C : Type 0} (g : Ghosts A S)
 
   module _ (Q : Set → AppSpec → Addr → Station C → Type 0) (a b : Option (List ℕ)) where
     pub datagram_wrote : ((k : Set) (before : List ℕ) → fed k before → Came_of k before ≡ Datagram shown ∷ [])
-        → ((k : Set) (m : AppSpec) (own : Addr) → AllSaid m g.served (spec k) own (OfNode (event_of own shown) ∷ []) (Here did' k m own) (Q k m own) a b)
-        → (k : Set) (before : List ℕ) → fed k before → (m : AppSpec) (own : Addr) → AllSaid m g.served (spec k) own (map (station_event_by own) (Came_of k before)) (Here did k m own) (Q k m own) a b
+        → ((k : Set) (m : AppSpec) (own : Addr) → AllWritten m g.served (spec k) own (OfNode (event_of own shown) ∷ []) (Here did' k m own) (Q k m own) a b)
+        → (k : Set) (before : List ℕ) → fed k before → (m : AppSpec) (own : Addr) → AllWritten m g.served (spec k) own (map (station_event_by own) (Came_of k before)) (Here did k m own) (Q k m own) a b
     datagram_wrote reported wrote k before h m own =
         wrote_by m g.served (spec k) own _ _ _ _ _ _ (ap (λ l. map (station_event_by own) l) (reported k before h))
         (wrote_from m g.served (spec k) own _ _ _ _ a b (moved k m own before _ h (reported k before h) refl) (wrote k m own))
@@ -74,9 +74,9 @@ module _ {A S Set C : Type 0} (g : Ghosts A S)
           (broke_from m g.served (spec k) own _ _ _ _ a b (moved k m own before _ h (reported k before h) refl) (broke k m own)),
     )
 
-  module _ (a b : Option (List ℕ)) (reported : (k : Set) (before : List ℕ) → fed k before → (act : C) × (Came_of k before ≡ Own act ∷ []) × ((spec k).says act ≡ shown)) where
+  module _ (a b : Option (List ℕ)) (reported : (k : Set) (before : List ℕ) → fed k before → (act : C) × (Came_of k before ≡ Own act ∷ []) × ((spec k).output_at act ≡ shown)) where
     pub own_wrote : Appends a b shown
-        → (k : Set) (before : List ℕ) → fed k before → (m : AppSpec) (own : Addr) → AllSaid m g.served (spec k) own (map (station_event_by own) (Came_of k before)) (Here did k m own) (Here did' k m own) a b
+        → (k : Set) (before : List ℕ) → fed k before → (m : AppSpec) (own : Addr) → AllWritten m g.served (spec k) own (map (station_event_by own) (Came_of k before)) (Here did k m own) (Here did' k m own) a b
     own_wrote wrote k before h m own =
         let it = reported k before h in
         wrote_by m g.served (spec k) own _ _ _ _ _ _ (ap (λ l. map (station_event_by own) l) it.1)

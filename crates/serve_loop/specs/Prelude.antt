@@ -6,9 +6,9 @@ pub use Rattle.serve_loop.specs.LineStationEvents.{beat_on, station_event_by, st
 pub use Rattle.serve_loop.specs.Pace.{HasPassed, is_beat}
 pub use Rattle.serve_loop.specs.SerialMedium.{NoAct, any_acts, came_by, slip_medium}
 pub use Rattle.serve_loop.specs.ServeCalls.{BudgetIsReported, EndIsReported, ServesFresh, ServesPaced, TakesTurn}
-pub use Rattle.serve_loop.specs.StationRuns.{AllSaid, OfMedium, OfNode, PrefixWritten, Station, StationEvent, StopsIn}
+pub use Rattle.serve_loop.specs.StationRuns.{AllWritten, OfMedium, OfNode, PrefixWritten, Station, StationEvent, StopsIn}
 pub use Rattle.serve_loop.specs.StationRuns.{output, output_of_event, reply_text, station_after, station_after_all}
-pub use Rattle.serve_loop.specs.StationServing.{IsStationed, SaidBy, ServesOver}
+pub use Rattle.serve_loop.specs.StationServing.{IsStationed, WrittenAtEnd, ServesOver}
 pub use Rattle.serve_loop.specs.Texts.{text_for, text_of}
 pub use Rattle.serve_loop.specs.TurnCalls.{BreaksBrought, BreaksBytes, BreaksNodeEvent, BreaksSent, BreaksStationEvents, PlaysBrought}
 pub use Rattle.serve_loop.specs.TurnCalls.{PlaysBytes, PlaysNodeEvent, PlaysStationEvents, StaysFed, TakesBytes, WritesSent}

@@ -21,6 +21,6 @@ abbrev pub slip_medium : MediumSpec NoAct
 slip_medium = record {
   decodes = λ before b. map came_by (completed before b);
   at_tick = [];
-  says = λ a. [];
+  output_at = λ a. [];
   text = λ acts datagram. slip_text datagram;
 }

@@ -29,7 +29,7 @@ station_after m served s (OfNode e) = record { acts = s.acts; node = (step m ser
 
 -- the bytes written for an event
 abbrev pub output_of_event : {A : Type 0} → AppSpec → (ℕ → Bool) → MediumSpec A → Addr → Station A → StationEvent A → List ℕ
-output_of_event m served w own s (OfMedium a) = w.says a
+output_of_event m served w own s (OfMedium a) = w.output_at a
 output_of_event m served w own s (OfNode e) = reply_text w s.acts own (step m served s.node e).sent
 
 -- the station after a list of events
@@ -45,7 +45,7 @@ output m served w own (d ∷ station_events) s =
 
 -- Everything was written. From each station with the first property, the events lead to one with the second, and their output was
 -- appended.
-pub record AllSaid {A : Type 0} (m : AppSpec) (served : ℕ → Bool) (w : MediumSpec A) (own : Addr) (station_events : List (StationEvent A))
+pub record AllWritten {A : Type 0} (m : AppSpec) (served : ℕ → Bool) (w : MediumSpec A) (own : Addr) (station_events : List (StationEvent A))
     (Before After : Station A → Type 0) (old new : Option (List ℕ)) : Type 0 where
   pub each : (s : Station A) → Before s → After (station_after_all m served station_events s)
       × Appends old new (output m served w own station_events s)

@@ -9,15 +9,15 @@ use Rattle.uip_edge.specs.declared.serve_end.ServeEnd.TheVariants as ends
 use Rattle.uip_edge.specs.Prelude.{Consumes, LineView, EndsBy}
 use Rattle.uip_node.specs.Prelude.{Node, Represents}
 use Rattle.line_medium.specs.Prelude.{MediumSpec}
-use Rattle.serve_loop.specs.StationRuns.{AllSaid, StationEvent, PrefixWritten, Station}
+use Rattle.serve_loop.specs.StationRuns.{AllWritten, StationEvent, PrefixWritten, Station}
 use Rattle.serve_loop.specs.Items.{IsItem}
 use Rattle.serve_loop.specs.LineStationEvents.{station_events_of_line}
 
 -- The output of these events was written, or a prefix of it if a write failed.
-abbrev pub SaidBy : {C : Type 0} → ServeEnd → AppSpec → (ℕ → Bool) → MediumSpec C → Addr → List (StationEvent C)
+abbrev pub WrittenAtEnd : {C : Type 0} → ServeEnd → AppSpec → (ℕ → Bool) → MediumSpec C → Addr → List (StationEvent C)
     → (Station C → Type 0) → (Station C → Type 0) → Option (List ℕ) → Option (List ℕ) → Type 0
-SaidBy ends.WriteFault m served w own station_events Before After old new = PrefixWritten m served w own station_events Before After old new
-SaidBy _ m served w own station_events Before After old new = AllSaid m served w own station_events Before After old new
+WrittenAtEnd ends.WriteFault m served w own station_events Before After old new = PrefixWritten m served w own station_events Before After old new
+WrittenAtEnd _ m served w own station_events Before After old new = AllWritten m served w own station_events Before After old new
 
 -- The node represents the node of the station, and the medium did its acts.
 pub record IsStationed {A S C : Type 0} (g : Ghosts A S) (did : List C → Type 0) (node : Node A S) (s : Station C) : Type 0 where
@@ -33,5 +33,5 @@ pub record ServesOver {A S C : Type 0} (g : Ghosts A S) (w : MediumSpec C) (did 
   pub are : All IsItem taken
   pub consumed : Consumes old.link.coming new.link.coming taken
   pub ends : EndsBy n old new taken result
-  pub wrote : SaidBy result (g.app_spec (g.config before.shared)) g.served w before.addr (station_events_of_line w before.addr pace taken)
+  pub wrote : WrittenAtEnd result (g.app_spec (g.config before.shared)) g.served w before.addr (station_events_of_line w before.addr pace taken)
       (IsStationed g did before) (IsStationed g did' after) old.sink.written new.sink.written

@@ -13,8 +13,8 @@ use Rattle.uip_node.specs.Prelude.{Node, AbstractNode, Represents}
 use Rattle.line_medium.specs.Prelude.{MediumSpec}
 use Rattle.line_medium.specs.declared.medium.Medium.{Ghosts as MediumGhosts}
 use Rattle.serve_loop.specs.declared.pacer.Pacer.{Pacer}
-use Rattle.serve_loop.specs.StationRuns.{AllSaid, StationEvent, PrefixWritten, Station}
-use Rattle.serve_loop.specs.StationServing.{SaidBy}
+use Rattle.serve_loop.specs.StationRuns.{AllWritten, StationEvent, PrefixWritten, Station}
+use Rattle.serve_loop.specs.StationServing.{WrittenAtEnd}
 use Rattle.serve_loop.specs.Items.{IsItem}
 use Rattle.serve_loop.specs.LineStationEvents.{station_events_after}
 use Rattle.serve_loop.specs.Pace.{HasPassed}
@@ -45,7 +45,7 @@ place medium node text = record { medium = medium; node = node; text = text }
 abbrev pub Plays : {A S M : Type 0} (g : Ghosts A S) (h : MediumGhosts M) (k : h.Config)
     → (Addr → List (StationEvent h.Act)) → Place M A S → Place M A S → Type 0
 Plays g h k station_events old new = (m : AppSpec) (own : Addr)
-    → AllSaid m g.served (h.spec k) own (station_events own)
+    → AllWritten m g.served (h.spec k) own (station_events own)
     (IsHere g (h.did old.medium k) m own old.node) (IsHere g (h.did new.medium k) m own new.node) old.text new.text
 
 -- The writing failed, after a prefix of these events.
@@ -64,9 +64,9 @@ pub record HasTaken (pace : ℕ) (before : List ℕ) (fed : List ℕ → Type 0)
 -- what a turn wrote for these events
 abbrev pub WritesOn : {C : Type 0} → Turn ServeEnd → AppSpec → (ℕ → Bool) → MediumSpec C → Addr → List (StationEvent C)
     → (Station C → Type 0) → (Station C → Type 0) → Option (List ℕ) → Option (List ℕ) → Type 0
-WritesOn (turns.Took n) m served w own station_events Before After old new = AllSaid m served w own station_events Before After old new
+WritesOn (turns.Took n) m served w own station_events Before After old new = AllWritten m served w own station_events Before After old new
 WritesOn (turns.Ended end) m served w own station_events Before After old new =
-    SaidBy end m served w own station_events Before After old new
+    WrittenAtEnd end m served w own station_events Before After old new
 
 -- The property holds if the link ended a turn, by its end or by a failure.
 abbrev pub IfLinkEnded : Turn ServeEnd → Type 0 → Type 0

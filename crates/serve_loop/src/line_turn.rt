@@ -128,14 +128,14 @@ fn take_run<A: App, M: Medium, K: Sink>(
             Ok(run.count)
         }
         Decoded::Own(count) => {
-            say(medium.shown(count), sink)?;
+            write_out(medium.shown(count), sink)?;
             Ok(run.count)
         }
     }
 }
 
 /// Writes a text, if it is not empty.
-fn say<K: Sink>(text: &[u8], sink: &mut K) -> Result<(), Failed>
+fn write_out<K: Sink>(text: &[u8], sink: &mut K) -> Result<(), Failed>
     ensures whole { OnOk result (Appends (K.written sink.old) (K.written sink.new) text.now) }
     ensures prefix { OnErr result (BreaksOff [] text.now (K.written sink.old) (K.written sink.new)) }
     ensures cause { HasCause (K.faults sink.old) (K.faults sink.new) result }

@@ -1,5 +1,5 @@
 pub mod Unspoken
 pub mod Beats
-pub mod Saying
+pub mod Transmission
 pub mod States
 mod Prelude

@@ -1,6 +1,6 @@
 -- The names that the proofs of this crate cite: of std, of the crates below, and of its own definitions. Declares nothing.
-pub use Rattle.app_events.proofs.Says.{can_less, can_nothing, can_say_after, can_say_wanted, grows_by_nothing, has_part, has_part_after}
-pub use Rattle.app_events.specs.Prelude.{AppSpec, AppState, CanSay, CanSend, Grows, IsLawful, IsRepresented, text_left}
+pub use Rattle.app_events.proofs.Says.{can_less, can_nothing, can_supply_after, can_supply_wanted, grows_by_nothing, has_part, has_part_after}
+pub use Rattle.app_events.specs.Prelude.{AppSpec, AppState, CanSupply, CanSend, Grows, IsLawful, IsRepresented, text_left}
 pub use Rattle.app_events.specs.declared.app.App.{Ghosts}
 pub use Rattle.app_events.specs.declared.now.Now.{Now}
 pub use Rattle.app_events.specs.declared.state.State.{State}

@@ -2,7 +2,7 @@
 -- [add: state] What holds of a connection in it.
 use Rattle.std.specs.Prelude.{ℕ, ◌≡◌, ◌<◌, ◌≤◌, true}
 use Rattle.uip_wire.specs.declared.sizes.TheConstants.{OWN_MSS}
-use Rattle.app_events.specs.Prelude.{CanSay}
+use Rattle.app_events.specs.Prelude.{CanSupply}
 use Rattle.app_events.specs.declared.app.App.{Ghosts}
 use Rattle.app_events.specs.declared.state.State.{State}
 use Rattle.app_events.specs.declared.state.State.TheVariants.{Closed, SynRcvd, Established, CloseWait}
@@ -38,4 +38,4 @@ pub record HasSoundNumbers {A : Type 0} (c : Conn A) : Type 0 where
 -- While the application may send, what is outstanding is part of its output.
 pub record IsSound {A S : Type 0} (g : Ghosts A S) (k : g.Config) (c : Conn A) : Type 0 where
   pub numbers : is_live c.state ≡ true → HasSoundNumbers c
-  pub says : is_open c.state ≡ true → CanSay g.app_spec g.represents c.app k c.len
+  pub says : is_open c.state ≡ true → CanSupply g.app_spec g.represents c.app k c.len

@@ -12,8 +12,8 @@ module _ (site : SiteContent) (loaded : IsLoaded site) (image : All IsByte site.
   web_laws : IsPaged (web_spec files) (pages_of files)
   web_laws = keeps_page_laws site loaded
 
-  says_bytes : SendsBytes (desk_spec files)
-  says_bytes = desk_bytes files (page_bytes (web_spec files) (pages_of files) web_laws (λ delivered captures are c. made_of_bytes site image delivered captures c))
+  outputs_bytes : SendsBytes (desk_spec files)
+  outputs_bytes = desk_bytes files (page_bytes (web_spec files) (pages_of files) web_laws (λ delivered captures are c. made_of_bytes site image delivered captures c))
 
   -- ---- pages at port 80
 
@@ -92,8 +92,8 @@ module _ (site : SiteContent) (loaded : IsLoaded site) (image : All IsByte site.
   does_as_shell : (p : AppState) → is_session_part p ≡ true → DoesAs (desk_spec files) shell_spec p
   does_as_shell p h = two_applications.shell files p (eqb-true p.port 23 h)
 
-  session_heard : (numbers : List ℕ) (p : AppState) (piece : List ℕ) → is_session_part p ≡ true → AcceptsPrefix is_session_part is_lost p ((desk_spec files).newdata numbers p piece).part piece
-  session_heard numbers p piece h =
+  session_received : (numbers : List ℕ) (p : AppState) (piece : List ℕ) → is_session_part p ≡ true → AcceptsPrefix is_session_part is_lost p ((desk_spec files).newdata numbers p piece).part piece
+  session_received numbers p piece h =
       let q : AppState = ((desk_spec files).newdata numbers p piece).part in
       let r : AppState = (shell_spec.newdata numbers p piece).part in
       let same : q ≡ r = ap (λ a. a.part) ((does_as_shell p h).newdata numbers piece) in
@@ -129,7 +129,7 @@ module _ (site : SiteContent) (loaded : IsLoaded site) (image : All IsByte site.
     lost = is_lost;
     output = λ p h. (does_as_shell p h).output ∙ keeps_session.output p;
     connected = λ numbers. (ap (λ (n : ℕ). n == 23) (keeps_port.connected numbers 23), refl);
-    newdata = session_heard;
+    newdata = session_received;
     prepare = λ numbers p now h. session_left p ((desk_spec files).prepare numbers p now) (shell_spec.prepare numbers p now) ((does_as_shell p h).prepare numbers now) (keeps_port.prepare numbers p now) h (either_prepared p numbers now (is_stopped p));
     acked = λ numbers p n h. session_left p ((desk_spec files).acked numbers p n).part (shell_spec.acked numbers p n).part (ap (λ a. a.part) ((does_as_shell p h).acked numbers n)) (keeps_port.acked numbers p n) h (refl, refl);
     polled = λ numbers p h. session_left p ((desk_spec files).polled numbers p).part (shell_spec.polled numbers p).part (ap (λ a. a.part) ((does_as_shell p h).polled numbers)) (keeps_port.polled numbers p) h (refl, refl);
@@ -153,4 +153,4 @@ module _ (site : SiteContent) (loaded : IsLoaded site) (image : All IsByte site.
   desk_speaks port = by_port port (is_served port) refl
 
 pub speaks_on_lines : DeskSpeaksOnLines
-speaks_on_lines site loaded image = record { steady = desk_steady site loaded; bytes = says_bytes site loaded image; speaks = desk_speaks site loaded image }
+speaks_on_lines site loaded image = record { steady = desk_steady site loaded; bytes = outputs_bytes site loaded image; speaks = desk_speaks site loaded image }

@@ -1,5 +1,5 @@
 -- The value of a desk by cases: it represents what the application in it represents.
-use Rattle.telnet_shell.proofs.Prelude.{◌≡◌, ℕ, ◌≤◌, ◌==◌, List, length, sym, ap, ◌∙◌, subst, ∥∥₁_map, AppState, AppSpec, text_left, IsRepresented, CanSay, SiteContent, files_of, web_spec, Httpd, HttpdRepresents, Shell, TELNET_PORT, Desk, shell_spec, ShellRepresents, app_spec_at, desk_spec, DeskRepresents, IsWebPart, IsShellPart, at_web, at_shell, web_left, shell_left}
+use Rattle.telnet_shell.proofs.Prelude.{◌≡◌, ℕ, ◌≤◌, ◌==◌, List, length, sym, ap, ◌∙◌, subst, ∥∥₁_map, AppState, AppSpec, text_left, IsRepresented, CanSupply, SiteContent, files_of, web_spec, Httpd, HttpdRepresents, Shell, TELNET_PORT, Desk, shell_spec, ShellRepresents, app_spec_at, desk_spec, DeskRepresents, IsWebPart, IsShellPart, at_web, at_shell, web_left, shell_left}
 use Rattle.telnet_shell.specs.declared.desk.Desk.TheVariants as desk
 
 pub web_part : (d : Desk) (a : Httpd) (site : SiteContent) (p : AppState) → d ≡ desk.Web a → DeskRepresents d site p → IsWebPart a site p
@@ -17,14 +17,14 @@ shell_has d a site is has = ∥∥₁_map has (λ c. (c.0, (shell_part d a site 
 fits : (m n : AppSpec) (p : AppState) (count : ℕ) → text_left m p ≡ text_left n p → count ≤ length (text_left m p) → count ≤ length (text_left n p)
 fits m n p count e h = subst (λ (xs : List ℕ). count ≤ length xs) e h
 
-pub web_can : (d : Desk) (a : Httpd) (site : SiteContent) (count : ℕ) → d ≡ desk.Web a → CanSay (λ s. desk_spec (files_of s)) DeskRepresents d site count
-    → CanSay (λ s. web_spec (files_of s)) HttpdRepresents a site count
+pub web_can : (d : Desk) (a : Httpd) (site : SiteContent) (count : ℕ) → d ≡ desk.Web a → CanSupply (λ s. desk_spec (files_of s)) DeskRepresents d site count
+    → CanSupply (λ s. web_spec (files_of s)) HttpdRepresents a site count
 web_can d a site count is can = ∥∥₁_map can (λ c.
     let w = web_part d a site c.0 is c.1 in
     (c.0, w.represented, fits (desk_spec (files_of site)) (web_spec (files_of site)) c.0 count (web_left (files_of site) c.0 w.port) c.2))
 
-pub shell_can : (d : Desk) (a : Shell) (site : SiteContent) (count : ℕ) → d ≡ desk.Shell a → CanSay (λ s. desk_spec (files_of s)) DeskRepresents d site count
-    → CanSay {A = Shell} {K = SiteContent} (λ s. shell_spec) (λ b k p. ShellRepresents b p) a site count
+pub shell_can : (d : Desk) (a : Shell) (site : SiteContent) (count : ℕ) → d ≡ desk.Shell a → CanSupply (λ s. desk_spec (files_of s)) DeskRepresents d site count
+    → CanSupply {A = Shell} {K = SiteContent} (λ s. shell_spec) (λ b k p. ShellRepresents b p) a site count
 shell_can d a site count is can = ∥∥₁_map can (λ c.
     let w = shell_part d a site c.0 is c.1 in
     (c.0, w.represented, fits (desk_spec (files_of site)) shell_spec c.0 count (shell_left (files_of site) c.0 w.port) c.2))
@@ -50,10 +50,10 @@ shell_moves d a b site f is keeps moves p s =
     by_shell (λ (m : AppSpec). IsShellPart b (f m p)) d a site p is s (λ at. record { port = ap (λ (port : ℕ). port == TELNET_PORT) (keeps p) ∙ at.port; represented = moves p at.represented })
 
 -- what the connection in a desk answers is what the desk does
-pub web_tells : {X : Type 0} (d : Desk) (a : Httpd) (site : SiteContent) (x : X) (f : AppSpec → AppState → X) → d ≡ desk.Web a
+pub web_reports : {X : Type 0} (d : Desk) (a : Httpd) (site : SiteContent) (x : X) (f : AppSpec → AppState → X) → d ≡ desk.Web a
     → ((p : AppState) → HttpdRepresents a site p → x ≡ f (web_spec (files_of site)) p) → (p : AppState) → DeskRepresents d site p → x ≡ f (app_spec_at (files_of site) p.port) p
-web_tells d a site x f is tells p s = by_web (λ (m : AppSpec). x ≡ f m p) d a site p is s (λ at. tells p at.represented)
+web_reports d a site x f is reported_as p s = by_web (λ (m : AppSpec). x ≡ f m p) d a site p is s (λ at. reported_as p at.represented)
 
-pub shell_tells : {X : Type 0} (d : Desk) (a : Shell) (site : SiteContent) (x : X) (f : AppSpec → AppState → X) → d ≡ desk.Shell a
+pub shell_reports : {X : Type 0} (d : Desk) (a : Shell) (site : SiteContent) (x : X) (f : AppSpec → AppState → X) → d ≡ desk.Shell a
     → ((p : AppState) → ShellRepresents a p → x ≡ f shell_spec p) → (p : AppState) → DeskRepresents d site p → x ≡ f (app_spec_at (files_of site) p.port) p
-shell_tells d a site x f is tells p s = by_shell (λ (m : AppSpec). x ≡ f m p) d a site p is s (λ at. tells p at.represented)
+shell_reports d a site x f is reported_as p s = by_shell (λ (m : AppSpec). x ≡ f m p) d a site p is s (λ at. reported_as p at.represented)

@@ -1,6 +1,6 @@
 -- What a shell requests, when it takes a capture and when it is given up, by its session alone.
-use Rattle.telnet_shell.proofs.Prelude.{◌≡◌, ℕ, ◌+◌, ◌-◌, ◌≤◌, ◌<◌, ◌==◌, min, Bool, true, false, ◌&&◌, not, nat_le, nat_lt, List, [], ◌∷◌, ◌++◌, codes, length, refl, sym, ap, ◌∙◌, arith, append-nil, length-append, if◌then◌else◌, bytes_eq, leb-true, le-leb, lt-leb, lt-ltb, ltb-true, eqb-true, eq-eqb, and_parts, and_from, false_from_ne_true, bytes_eq-Decides, AppState, Snapshot, Now, Nothing, Send, Close, Abort, Command, Help, Stats, Conns, Ticks, Quit, Blank, Other, Awaits, Token, tokens, tokens_at, awaits_after, commands, command_of, line_after, all_commands, commands_in, has_quit, is_quit, until_quit, Text, Second, Choice, Byte, Answer, past_text, needs_capture, said_plainly, sent_at, transcript, unfinished, needed, commands_grow, further, past_said, said_some, shell_spec, session, waiting, with_byte, receive_byte, is_settled, is_stopped, session_has_ended, left_of_session, take_capture, sessions, IsExact, exact_want, all_acknowledged, is_given_up, capture_comes_next, completes}
-use Rattle.telnet_shell.proofs.SessionLaws.{IsSaid, settled, none_waits}
+use Rattle.telnet_shell.proofs.Prelude.{◌≡◌, ℕ, ◌+◌, ◌-◌, ◌≤◌, ◌<◌, ◌==◌, min, Bool, true, false, ◌&&◌, not, nat_le, nat_lt, List, [], ◌∷◌, ◌++◌, codes, length, refl, sym, ap, ◌∙◌, arith, append-nil, length-append, if◌then◌else◌, bytes_eq, leb-true, le-leb, lt-leb, lt-ltb, ltb-true, eqb-true, eq-eqb, and_parts, and_from, false_from_ne_true, bytes_eq-Decides, AppState, Snapshot, Now, Nothing, Send, Close, Abort, Command, Help, Stats, Conns, Ticks, Quit, Blank, Other, Awaits, Token, tokens, tokens_at, awaits_after, commands, command_of, line_after, all_commands, commands_in, has_quit, is_quit, until_quit, Text, Second, Choice, Byte, Answer, past_text, needs_capture, plain_reply, sent_at, transcript, unfinished, needed, commands_grow, further, past_reply, reply_is_not_empty, shell_spec, session, waiting, with_byte, receive_byte, is_settled, is_stopped, session_has_ended, left_of_session, take_capture, sessions, IsExact, exact_want, all_acknowledged, is_given_up, capture_comes_next, completes}
+use Rattle.telnet_shell.proofs.SessionLaws.{WasSentIn, settled, none_waits}
 
 -- two tests with the same result
 pub same_tests : (a b : Bool) → (a ≡ true → b ≡ true) → (b ≡ true → a ≡ true) → a ≡ b
@@ -14,40 +14,40 @@ plain_over : (b : Bool) (s x : List ℕ) (at n : ℕ) (go : ℕ → List Command
     → (n ≤ 0 → go (length x + at) ≡ [])
     → (if b then held else past_text s (length (if b then [] else s ++ x) + at) go stay) ≡ []
 plain_over true s x at n go held stay h f = absurd (omega (arith, h))
-plain_over false s x at n go held stay h f = past_said s x at go stay ∙ f h
+plain_over false s x at n go held stay h f = past_reply s x at go stay ∙ f h
 
 each_over : (b : Bool) (t x s z : List ℕ) (at l n : ℕ) (gone go : ℕ → List Command) (stay : List Command) → (if b then n + 1 else n) ≤ l + 1
     → (n ≤ l → gone (length x + at) ≡ []) → (n ≤ l + 1 → go (length z + at) ≡ [])
     → (if b then past_text t (length (if b then t ++ x else s ++ z) + at) gone stay
     else past_text s (length (if b then t ++ x else s ++ z) + at) go stay) ≡ []
-each_over true t x s z at l n gone go stay h f g = past_said t x at gone stay ∙ f (omega (arith, h))
-each_over false t x s z at l n gone go stay h f g = past_said s z at go stay ∙ g h
+each_over true t x s z at l n gone go stay h f g = past_reply t x at gone stay ∙ f (omega (arith, h))
+each_over false t x s z at l n gone go stay h f g = past_reply s z at go stay ∙ g h
 
 over : (cs : List Command) (ks : List Snapshot) (at : ℕ) → needed cs ≤ length ks → unfinished cs ks (length (transcript cs ks) + at) ≡ []
 over [] ks at h = refl
 over (c ∷ cs) [] at h =
-    plain_over (needs_capture c) (said_plainly c) (transcript cs []) at (needed cs) (λ n. unfinished cs [] n) (c ∷ cs) (c ∷ cs) h
+    plain_over (needs_capture c) (plain_reply c) (transcript cs []) at (needed cs) (λ n. unfinished cs [] n) (c ∷ cs) (c ∷ cs) h
     (λ g. over cs [] at g)
 over (c ∷ cs) (k ∷ ks) at h =
-    each_over (needs_capture c) (sent_at c k) (transcript cs ks) (said_plainly c) (transcript cs (k ∷ ks)) at (length ks) (needed cs)
+    each_over (needs_capture c) (sent_at c k) (transcript cs ks) (plain_reply c) (transcript cs (k ∷ ks)) at (length ks) (needed cs)
     (λ n. unfinished cs ks n) (λ n. unfinished cs (k ∷ ks) n) (c ∷ cs) (omega (arith, h))
     (λ g. over cs ks at g) (λ g. over cs (k ∷ ks) at (omega (arith, g)))
 
 -- all output is sent
-abbrev has_said : AppState → Bool
-has_said p = nat_le (needed (commands_in p.input)) (length p.snapshots)
+abbrev has_sent : AppState → Bool
+has_sent p = nat_le (needed (commands_in p.input)) (length p.snapshots)
 
-settles : (p : AppState) → p.acked ≡ length (session p) → has_said p ≡ true → is_settled p ≡ true
+settles : (p : AppState) → p.acked ≡ length (session p) → has_sent p ≡ true → is_settled p ≡ true
 settles p e h =
     ap (λ (cs : List Command). length cs == 0)
     (ap (λ (n : ℕ). unfinished (commands_in p.input) p.snapshots n) (let z : p.acked ≡ length (session p) + 0 = omega (arith, e) in z)
     ∙ over (commands_in p.input) p.snapshots 0 (leb-true (needed (commands_in p.input)) (length p.snapshots) h))
 
-said_of : (p : AppState) → is_settled p ≡ true → IsSaid (commands_in p.input) p.snapshots p.acked
-said_of p e = settled (commands_in p.input) p.snapshots p.acked (none_waits (waiting p) e)
+sent_of : (p : AppState) → is_settled p ≡ true → WasSentIn (commands_in p.input) p.snapshots p.acked
+sent_of p e = settled (commands_in p.input) p.snapshots p.acked (none_waits (waiting p) e)
 
-has_said_of : (p : AppState) → is_settled p ≡ true → has_said p ≡ true
-has_said_of p e = le-leb (needed (commands_in p.input)) (length p.snapshots) (said_of p e).reported
+has_sent_of : (p : AppState) → is_settled p ≡ true → has_sent p ≡ true
+has_sent_of p e = le-leb (needed (commands_in p.input)) (length p.snapshots) (sent_of p e).reported
 
 -- ---- what the shell requests
 
@@ -55,10 +55,10 @@ ends_exactly : (p : AppState) → p.acked ≤ length (session p) → session_has
 ends_exactly p h = same_tests (session_has_ended p) (sessions.complete p.input p.snapshots && all_acknowledged p)
     (λ e. let both = and_parts (has_quit (all_commands p.input)) (is_settled p) e in
     and_from (sessions.complete p.input p.snapshots) (all_acknowledged p)
-    (and_from (has_quit (all_commands p.input)) (has_said p) both.0 (has_said_of p both.1))
-    (let within = (said_of p both.1).within in eq-eqb p.acked (length (session p)) (omega (arith, h, within))))
+    (and_from (has_quit (all_commands p.input)) (has_sent p) both.0 (has_sent_of p both.1))
+    (let within = (sent_of p both.1).within in eq-eqb p.acked (length (session p)) (omega (arith, h, within))))
     (λ e. let both = and_parts (sessions.complete p.input p.snapshots) (all_acknowledged p) e in
-    let whole = and_parts (has_quit (all_commands p.input)) (has_said p) both.0 in
+    let whole = and_parts (has_quit (all_commands p.input)) (has_sent p) both.0 in
     and_from (has_quit (all_commands p.input)) (is_settled p) whole.0 (settles p (eqb-true p.acked (length (session p)) both.1) whole.1))
 
 left_exactly : (acked size : ℕ) → nat_lt 0 (size - acked) ≡ nat_lt acked size
@@ -104,7 +104,7 @@ stops_exactly p = same_tests (is_stopped p) (capture_comes_next p)
 
     waits_yet : (p : AppState) → nat_lt (length p.snapshots) (needed (commands_in p.input)) ≡ true → not (is_settled p) ≡ true
     waits_yet p l =
-        from_not (is_settled p) (λ s. let reported = (said_of p s).reported in let less = ltb-true (length p.snapshots) (needed (commands_in p.input)) l in omega (arith, reported, less))
+        from_not (is_settled p) (λ s. let reported = (sent_of p s).reported in let less = ltb-true (length p.snapshots) (needed (commands_in p.input)) l in omega (arith, reported, less))
 
 prepares_exactly : (numbers : List ℕ) (p : AppState) (now : Now)
     → shell_spec.prepare numbers p now ≡ (if capture_comes_next p then take_capture numbers p now else p)
@@ -122,13 +122,13 @@ either_waits false x y z e f = f
 all_wait : (ds : List Command) (ks : List Snapshot) → unfinished ds ks 0 ≡ ds
 all_wait [] ks = refl
 all_wait (d ∷ ds) [] =
-    either_waits (needs_capture d) (d ∷ ds) (past_text (said_plainly d) 0 (λ n. unfinished ds [] n) (d ∷ ds)) (d ∷ ds) refl
-    (none_past (said_plainly d) (λ n. unfinished ds [] n) (d ∷ ds) (said_some d _))
+    either_waits (needs_capture d) (d ∷ ds) (past_text (plain_reply d) 0 (λ n. unfinished ds [] n) (d ∷ ds)) (d ∷ ds) refl
+    (none_past (plain_reply d) (λ n. unfinished ds [] n) (d ∷ ds) (reply_is_not_empty d _))
 all_wait (d ∷ ds) (k ∷ ks) =
     either_waits (needs_capture d) (past_text (sent_at d k) 0 (λ n. unfinished ds ks n) (d ∷ ds))
-    (past_text (said_plainly d) 0 (λ n. unfinished ds (k ∷ ks) n) (d ∷ ds)) (d ∷ ds)
-    (none_past (sent_at d k) (λ n. unfinished ds ks n) (d ∷ ds) (said_some d _))
-    (none_past (said_plainly d) (λ n. unfinished ds (k ∷ ks) n) (d ∷ ds) (said_some d _))
+    (past_text (plain_reply d) 0 (λ n. unfinished ds (k ∷ ks) n) (d ∷ ds)) (d ∷ ds)
+    (none_past (sent_at d k) (λ n. unfinished ds ks n) (d ∷ ds) (reply_is_not_empty d _))
+    (none_past (plain_reply d) (λ n. unfinished ds (k ∷ ks) n) (d ∷ ds) (reply_is_not_empty d _))
 
 past_or_not : (s : List ℕ) (bytes : ℕ) (more less : ℕ → List Command) (c : Command) (cs ds : List Command)
     → (length s ≤ bytes → more (bytes - length s) ≡ less (bytes - length s) ++ ds)
@@ -163,13 +163,13 @@ unfinished_joins : (cs ds : List Command) (ks : List Snapshot) (bytes : ℕ) →
     → unfinished (cs ++ ds) ks bytes ≡ unfinished cs ks bytes ++ ds
 unfinished_joins [] ds ks bytes h = ap (λ (n : ℕ). unfinished ds ks n) (let z : bytes ≡ 0 = omega (arith, h) in z) ∙ all_wait ds ks
 unfinished_joins (c ∷ cs) ds [] bytes h =
-    plain_join (needs_capture c) (said_plainly c) (transcript cs []) bytes (λ n. unfinished (cs ++ ds) [] n) (λ n. unfinished cs [] n) c cs ds h
-    (λ f g. unfinished_joins cs ds [] (bytes - length (said_plainly c)) g)
+    plain_join (needs_capture c) (plain_reply c) (transcript cs []) bytes (λ n. unfinished (cs ++ ds) [] n) (λ n. unfinished cs [] n) c cs ds h
+    (λ f g. unfinished_joins cs ds [] (bytes - length (plain_reply c)) g)
 unfinished_joins (c ∷ cs) ds (k ∷ ks) bytes h =
-    each_join (needs_capture c) (sent_at c k) (transcript cs ks) (said_plainly c) (transcript cs (k ∷ ks)) bytes
+    each_join (needs_capture c) (sent_at c k) (transcript cs ks) (plain_reply c) (transcript cs (k ∷ ks)) bytes
     (λ n. unfinished (cs ++ ds) ks n) (λ n. unfinished cs ks n) (λ n. unfinished (cs ++ ds) (k ∷ ks) n) (λ n. unfinished cs (k ∷ ks) n) c cs ds h
     (λ f g. unfinished_joins cs ds ks (bytes - length (sent_at c k)) g)
-    (λ f g. unfinished_joins cs ds (k ∷ ks) (bytes - length (said_plainly c)) g)
+    (λ f g. unfinished_joins cs ds (k ∷ ks) (bytes - length (plain_reply c)) g)
 
 -- ---- a byte brings one command at most
 

@@ -1,7 +1,7 @@
 pub mod WorkedSessions
 pub mod Opening
 pub mod Advancing
-pub mod Standing
+pub mod Representing
 pub mod Opened
 pub mod Asking
 pub mod DeskParts

@@ -1,5 +1,5 @@
 -- The names that the proofs of this crate cite: of std, of the crates below, and of its own definitions. Declares nothing.
-pub use Rattle.app_events.specs.Prelude.{AppSpec, AppState, CanSay, IsByte, IsPaged, IsPrefixOf, IsRepresented, MayWant, Snapshot, text_left}
+pub use Rattle.app_events.specs.Prelude.{AppSpec, AppState, CanSupply, IsByte, IsPaged, IsPrefixOf, IsRepresented, MayWant, Snapshot, text_left}
 pub use Rattle.app_pair.specs.PairSpec.{StaysAtPort}
 pub use Rattle.file_tree.specs.Prelude.{IsLoaded, SiteContent, files_of}
 pub use Rattle.generators.specs.Prelude.{capture_bytes, capture_of, capture_text, either_bytes, literal_bytes}
@@ -19,26 +19,26 @@ pub use Rattle.std.specs.Coded.{le_prop}
 unfoldable pub use Rattle.std.specs.Fmt.{digits}
 pub use Rattle.std.specs.Str.{bytes_eq}
 pub use Rattle.telnet_shell.specs.DeskLines.{DeskSpeaksOnLines, desk_output_model}
-pub use Rattle.telnet_shell.specs.DeskMeaning.{app_spec_at, desk_spec}
+pub use Rattle.telnet_shell.specs.DeskSpec.{app_spec_at, desk_spec}
 pub use Rattle.telnet_shell.specs.DeskPorts.{DoesAs, IsAtShell, IsAtWeb, IsTwoApplications}
 pub use Rattle.telnet_shell.specs.DeskRepresents.{DeskRepresents, IsShellPart, IsWebPart, at_shell, at_web, shell_left, web_left}
 pub use Rattle.telnet_shell.specs.Exactly.{IsExact, all_acknowledged, capture_comes_next, completes, exact_want, is_given_up}
-pub use Rattle.telnet_shell.specs.Hearing.{IsLine, IsOpen, awaited}
+pub use Rattle.telnet_shell.specs.Reception.{IsLine, IsOpen, awaited}
 pub use Rattle.telnet_shell.specs.Lemmas.DeskLaws.{desk_lawful, port_at, shell_port, web_port}
 pub use Rattle.telnet_shell.specs.Lemmas.Growing.{commands_grow, commands_joined, further, tokens_joined, transcript_grows, until_quit_joined}
 pub use Rattle.telnet_shell.specs.Lemmas.SameLeft.{left_of_value}
 pub use Rattle.telnet_shell.specs.Lemmas.ShellLaws.{shell_lawful, shell_starts}
-pub use Rattle.telnet_shell.specs.Lemmas.Speaking.{empty_stops, held_goes, past_said, prefix_left, said_some, session_is, split, two_parts, waiting_is}
+pub use Rattle.telnet_shell.specs.Lemmas.Speaking.{empty_stops, held_goes, past_reply, prefix_left, reply_is_not_empty, session_is, split, two_parts, waiting_is}
 pub use Rattle.telnet_shell.specs.Reading.{Awaits, Token, all_commands, awaits_after, command_of, commands, commands_in, has_quit, is_quit, line_after, next_awaits, tokens, tokens_at, until_quit}
 pub use Rattle.telnet_shell.specs.Reading.Awaits.{Choice, Second, Text}
 pub use Rattle.telnet_shell.specs.Reading.Token.{Answer, Byte}
-pub use Rattle.telnet_shell.specs.Saying.{IsLeading, IsTrailing, Passes, Shows, due, is_captured, is_past, left_said, needed, prefix_size, stops_at}
+pub use Rattle.telnet_shell.specs.Transmission.{IsLeading, IsTrailing, Passes, Shows, due, is_captured, is_past, replies_left, needed, prefix_size, stops_at}
 pub use Rattle.telnet_shell.specs.Sequences.{ReadsSequences}
-pub use Rattle.telnet_shell.specs.ShellMeaning.{receive_all, receive_byte, is_settled, is_stopped, left_of_session, session, session_has_ended, shell_spec, shell_want, take_capture, waiting, with_byte}
+pub use Rattle.telnet_shell.specs.ShellSpec.{receive_all, receive_byte, is_settled, is_stopped, left_of_session, session, session_has_ended, shell_spec, shell_want, take_capture, waiting, with_byte}
 pub use Rattle.telnet_shell.specs.ShellRepresents.{ShellRepresents, fresh_part}
 pub use Rattle.telnet_shell.specs.State.{Shell}
 pub use Rattle.telnet_shell.specs.Traces.{DeliversPrefix, KeepsSession, sessions}
-pub use Rattle.telnet_shell.specs.Transcript.{past_text, function_of, needs_capture, said_plainly, said_with, sent_at, transcript, unfinished}
+pub use Rattle.telnet_shell.specs.Transcript.{past_text, function_of, needs_capture, plain_reply, reply_with, sent_at, transcript, unfinished}
 pub use Rattle.telnet_shell.specs.WorkedSessions.{AreWorkedSessions}
 pub use Rattle.telnet_shell.specs.declared.TheConstants.{MOST_COMMANDS}
 pub use Rattle.telnet_shell.specs.declared.command.Command.{Command}

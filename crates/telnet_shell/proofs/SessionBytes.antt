@@ -1,5 +1,5 @@
 -- The shell sends bytes if it receives bytes.
-use Rattle.telnet_shell.proofs.Prelude.{All, codes, bytes_eq, ℕ, ◌==◌, List, [], ◌∷◌, ◌++◌, refl, sym, subst, lit<, All-append, All-cons, All-head, All-nil, All-tail, capture_of, capture_text, Capture, Empty, capture_bytes, either_bytes, literal_bytes, IsByte, AppState, Snapshot, choose, SendsBytes, IAC, WILL, DO, Command, Refuse, Help, Stats, Conns, Ticks, Quit, Blank, Other, Awaits, Token, all_commands, command_of, commands, commands_in, is_quit, next_awaits, tokens_at, tokens, until_quit, Text, Second, Choice, Byte, Answer, is_stopped, shell_spec, take_capture, DeliversPrefix, function_of, needs_capture, sent_at, said_plainly, said_with, transcript}
+use Rattle.telnet_shell.proofs.Prelude.{All, codes, bytes_eq, ℕ, ◌==◌, List, [], ◌∷◌, ◌++◌, refl, sym, subst, lit<, All-append, All-cons, All-head, All-nil, All-tail, capture_of, capture_text, Capture, Empty, capture_bytes, either_bytes, literal_bytes, IsByte, AppState, Snapshot, choose, SendsBytes, IAC, WILL, DO, Command, Refuse, Help, Stats, Conns, Ticks, Quit, Blank, Other, Awaits, Token, all_commands, command_of, commands, commands_in, is_quit, next_awaits, tokens_at, tokens, until_quit, Text, Second, Choice, Byte, Answer, is_stopped, shell_spec, take_capture, DeliversPrefix, function_of, needs_capture, sent_at, plain_reply, reply_with, transcript}
 use Rattle.telnet_shell.proofs.SessionLaws.{keeps_session}
 
 -- ---- what is received: an offer is refused with bytes
@@ -65,34 +65,34 @@ until_bytes (c ∷ cs) h = (h.0, choose AreOfBytes (is_quit c) _ _ (λ e. tt) (�
 text_of : (capture : Capture) (end : List ℕ) → All IsByte end → All IsByte (capture_text capture ++ end)
 text_of capture end h = All-append IsByte (capture_text capture) end (capture_bytes capture) h
 
-said_bytes : (c : Command) (capture : Capture) → IsOfBytes c → All IsByte (said_with c capture)
-said_bytes (Refuse verb option) capture h =
+sent_text_bytes : (c : Command) (capture : Capture) → IsOfBytes c → All IsByte (reply_with c capture)
+sent_text_bytes (Refuse verb option) capture h =
     All-cons IsByte IAC (verb ∷ option ∷ []) (lit< tt) (All-cons IsByte verb (option ∷ []) h.0 (All-cons IsByte option [] h.1 (All-nil IsByte)))
-said_bytes Help capture h = literal_bytes (codes "help stats conns ticks quit\r\n> ") refl
-said_bytes Stats capture h = text_of capture (codes "> ") (literal_bytes (codes "> ") refl)
-said_bytes Conns capture h = text_of capture (codes "> ") (literal_bytes (codes "> ") refl)
-said_bytes Ticks capture h = text_of capture (codes "\r\n> ") (literal_bytes (codes "\r\n> ") refl)
-said_bytes Quit capture h = literal_bytes (codes "bye\r\n") refl
-said_bytes Blank capture h = literal_bytes (codes "> ") refl
-said_bytes Other capture h = literal_bytes (codes "?\r\n> ") refl
+sent_text_bytes Help capture h = literal_bytes (codes "help stats conns ticks quit\r\n> ") refl
+sent_text_bytes Stats capture h = text_of capture (codes "> ") (literal_bytes (codes "> ") refl)
+sent_text_bytes Conns capture h = text_of capture (codes "> ") (literal_bytes (codes "> ") refl)
+sent_text_bytes Ticks capture h = text_of capture (codes "\r\n> ") (literal_bytes (codes "\r\n> ") refl)
+sent_text_bytes Quit capture h = literal_bytes (codes "bye\r\n") refl
+sent_text_bytes Blank capture h = literal_bytes (codes "> ") refl
+sent_text_bytes Other capture h = literal_bytes (codes "?\r\n> ") refl
 
 transcript_bytes : (cs : List Command) (ks : List Snapshot) → AreOfBytes cs → All IsByte (transcript cs ks)
 transcript_bytes [] ks h = All-nil IsByte
 transcript_bytes (c ∷ cs) [] h =
-    either_bytes (needs_capture c) [] (said_plainly c ++ transcript cs []) (All-nil IsByte)
-    (All-append IsByte (said_plainly c) (transcript cs []) (said_bytes c Empty h.0) (transcript_bytes cs [] h.1))
+    either_bytes (needs_capture c) [] (plain_reply c ++ transcript cs []) (All-nil IsByte)
+    (All-append IsByte (plain_reply c) (transcript cs []) (sent_text_bytes c Empty h.0) (transcript_bytes cs [] h.1))
 transcript_bytes (c ∷ cs) (k ∷ ks) h =
-    either_bytes (needs_capture c) (sent_at c k ++ transcript cs ks) (said_plainly c ++ transcript cs (k ∷ ks))
-    (All-append IsByte (sent_at c k) (transcript cs ks) (said_bytes c (capture_of (function_of c) 0 k.now) h.0) (transcript_bytes cs ks h.1))
-    (All-append IsByte (said_plainly c) (transcript cs (k ∷ ks)) (said_bytes c Empty h.0) (transcript_bytes cs (k ∷ ks) h.1))
+    either_bytes (needs_capture c) (sent_at c k ++ transcript cs ks) (plain_reply c ++ transcript cs (k ∷ ks))
+    (All-append IsByte (sent_at c k) (transcript cs ks) (sent_text_bytes c (capture_of (function_of c) 0 k.now) h.0) (transcript_bytes cs ks h.1))
+    (All-append IsByte (plain_reply c) (transcript cs (k ∷ ks)) (sent_text_bytes c Empty h.0) (transcript_bytes cs (k ∷ ks) h.1))
 
 prefix_bytes : (prefix rest : List ℕ) → All IsByte (prefix ++ rest) → All IsByte prefix
 prefix_bytes [] rest h = All-nil IsByte
 prefix_bytes (x ∷ prefix) rest h =
     All-cons IsByte x prefix (All-head IsByte x (prefix ++ rest) h) (prefix_bytes prefix rest (All-tail IsByte x (prefix ++ rest) h))
 
-heard_bytes : (p q : AppState) (piece : List ℕ) → DeliversPrefix p q piece → All IsByte p.input → All IsByte piece → All IsByte q.input
-heard_bytes p q piece f h are =
+received_bytes : (p q : AppState) (piece : List ℕ) → DeliversPrefix p q piece → All IsByte p.input → All IsByte piece → All IsByte q.input
+received_bytes p q piece f h are =
     subst (λ (l : List ℕ). All IsByte l) (sym f.input)
     (All-append IsByte p.input f.prefix h (prefix_bytes f.prefix f.rest (subst (λ (l : List ℕ). All IsByte l) (sym f.joined) are)))
 
@@ -100,7 +100,7 @@ pub shell_bytes : SendsBytes shell_spec
 shell_bytes = record {
   output = λ p h k. transcript_bytes (commands_in p.input) p.snapshots (until_bytes (all_commands p.input) (commands_bytes [] (tokens Text p.input) (tokens_bytes Text p.input h)));
   connected = λ numbers port. All-nil IsByte;
-  newdata = λ numbers p piece h are. heard_bytes p (shell_spec.newdata numbers p piece).part piece (keeps_session.delivers_text numbers p piece) h are;
+  newdata = λ numbers p piece h are. received_bytes p (shell_spec.newdata numbers p piece).part piece (keeps_session.delivers_text numbers p piece) h are;
   prepare = λ numbers p now h. choose (λ (q : AppState). All IsByte q.input) (is_stopped p) (take_capture numbers p now) p (λ e. h) (λ e. h);
   acked = λ numbers p n h. h;
   polled = λ numbers p h. h;

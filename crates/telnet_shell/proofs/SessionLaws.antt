@@ -1,6 +1,6 @@
 -- The invariants of a shell's session.
-use Rattle.telnet_shell.proofs.Prelude.{◌≡◌, ℕ, ◌+◌, ◌-◌, ◌≤◌, ◌==◌, min, Bool, true, false, ◌&&◌, ◌||◌, ◌⊎◌, inl, inr, nat_le, nat_lt, List, [], ◌∷◌, ◌++◌, length, refl, sym, ap, subst, ◌∙◌, arith, append-nil, append_assoc, length-append, if◌then◌else◌, leb-true, le-leb, ltb-true, eqb-true, and_parts, AppState, Snapshot, IsPrefixOf, MayWant, Nothing, Send, Close, Abort, Command, MOST_COMMANDS, Token, tokens, awaits_after, commands, line_after, all_commands, commands_in, has_quit, Text, needs_capture, said_plainly, sent_at, transcript, unfinished, needed, tokens_joined, commands_joined, commands_grow, further, transcript_grows, session, waiting, with_byte, receive_all, session_has_ended, is_settled, left_of_session, sessions, DeliversPrefix, KeepsSession}
-use Rattle.telnet_shell.proofs.Standing.{quit_joins}
+use Rattle.telnet_shell.proofs.Prelude.{◌≡◌, ℕ, ◌+◌, ◌-◌, ◌≤◌, ◌==◌, min, Bool, true, false, ◌&&◌, ◌||◌, ◌⊎◌, inl, inr, nat_le, nat_lt, List, [], ◌∷◌, ◌++◌, length, refl, sym, ap, subst, ◌∙◌, arith, append-nil, append_assoc, length-append, if◌then◌else◌, leb-true, le-leb, ltb-true, eqb-true, and_parts, AppState, Snapshot, IsPrefixOf, MayWant, Nothing, Send, Close, Abort, Command, MOST_COMMANDS, Token, tokens, awaits_after, commands, line_after, all_commands, commands_in, has_quit, Text, needs_capture, plain_reply, sent_at, transcript, unfinished, needed, tokens_joined, commands_joined, commands_grow, further, transcript_grows, session, waiting, with_byte, receive_all, session_has_ended, is_settled, left_of_session, sessions, DeliversPrefix, KeepsSession}
+use Rattle.telnet_shell.proofs.Representing.{quit_joins}
 
 pub session_grows : (q more : List ℕ) (k later : List Snapshot) → IsPrefixOf (sessions.page q k) (sessions.page (q ++ more) (k ++ later))
 session_grows q more k later =
@@ -16,22 +16,22 @@ none_further q more e =
     ∙ ap (λ (b : Bool). commands_in q ++ (if b then [] else Rattle.telnet_shell.specs.Reading.until_quit (commands (line_after [] (tokens Text q)) (tokens (awaits_after Text q) more)))) e
     ∙ append-nil (commands_in q)
 
-plain_said : (b : Bool) (s x w y : List ℕ) (n : ℕ) → (if b then n + 1 else n) ≤ 0 → (n ≤ 0 → y ≡ x) → (if b then w else s ++ y) ≡ (if b then [] else s ++ x)
-plain_said true s x w y n h e = absurd (omega (arith, h))
-plain_said false s x w y n h e = ap (λ (z : List ℕ). s ++ z) (e h)
+plain_sent : (b : Bool) (s x w y : List ℕ) (n : ℕ) → (if b then n + 1 else n) ≤ 0 → (n ≤ 0 → y ≡ x) → (if b then w else s ++ y) ≡ (if b then [] else s ++ x)
+plain_sent true s x w y n h e = absurd (omega (arith, h))
+plain_sent false s x w y n h e = ap (λ (z : List ℕ). s ++ z) (e h)
 
-each_said : (b : Bool) (s t x y u v : List ℕ) (n l : ℕ) → (if b then n + 1 else n) ≤ l + 1 → (n ≤ l → x ≡ y) → (n ≤ l + 1 → u ≡ v) → (if b then s ++ x else t ++ u) ≡ (if b then s ++ y else t ++ v)
-each_said true s t x y u v n l h e f = ap (λ (z : List ℕ). s ++ z) (e (omega (arith, h)))
-each_said false s t x y u v n l h e f = ap (λ (z : List ℕ). t ++ z) (f h)
+each_sent : (b : Bool) (s t x y u v : List ℕ) (n l : ℕ) → (if b then n + 1 else n) ≤ l + 1 → (n ≤ l → x ≡ y) → (n ≤ l + 1 → u ≡ v) → (if b then s ++ x else t ++ u) ≡ (if b then s ++ y else t ++ v)
+each_sent true s t x y u v n l h e f = ap (λ (z : List ℕ). s ++ z) (e (omega (arith, h)))
+each_sent false s t x y u v n l h e f = ap (λ (z : List ℕ). t ++ z) (f h)
 
 -- if no command waits for a capture, further ones change nothing
 enough : (cs : List Command) (k later : List Snapshot) → needed cs ≤ length k → transcript cs (k ++ later) ≡ transcript cs k
 enough [] k later h = refl
 enough (c ∷ cs) [] [] h = refl
 enough (c ∷ cs) [] (l ∷ ls) h =
-    plain_said (needs_capture c) (said_plainly c) (transcript cs []) (sent_at c l ++ transcript cs ls) (transcript cs (l ∷ ls)) (needed cs) h (λ g. enough cs [] (l ∷ ls) g)
+    plain_sent (needs_capture c) (plain_reply c) (transcript cs []) (sent_at c l ++ transcript cs ls) (transcript cs (l ∷ ls)) (needed cs) h (λ g. enough cs [] (l ∷ ls) g)
 enough (c ∷ cs) (k ∷ ks) later h =
-    each_said (needs_capture c) (sent_at c k) (said_plainly c) (transcript cs (ks ++ later)) (transcript cs ks) (transcript cs (k ∷ (ks ++ later))) (transcript cs (k ∷ ks)) (needed cs) (length ks)
+    each_sent (needs_capture c) (sent_at c k) (plain_reply c) (transcript cs (ks ++ later)) (transcript cs ks) (transcript cs (k ∷ (ks ++ later))) (transcript cs (k ∷ ks)) (needed cs) (length ks)
     (omega (arith, h)) (λ g. enough cs ks later g) (λ g. enough cs (k ∷ ks) later (omega (arith, g)))
 
 whole_stays : (q more : List ℕ) (k later : List Snapshot) → sessions.complete q k ≡ true → sessions.page (q ++ more) (k ++ later) ≡ sessions.page q k
@@ -65,11 +65,11 @@ stays_complete q more k later e =
 equal_prefix : (p : AppState) → DeliversPrefix p p []
 equal_prefix p = record { prefix = []; rest = []; joined = refl; input = sym (append-nil p.input); snapshots = refl; acked = refl; all = inl refl }
 
-lost_hears : (p : AppState) (piece : List ℕ) → p.own ≡ 1 → receive_all p piece ≡ p
-lost_hears p [] e = refl
-lost_hears p (byte ∷ more) e =
+lost_receives : (p : AppState) (piece : List ℕ) → p.own ≡ 1 → receive_all p piece ≡ p
+lost_receives p [] e = refl
+lost_receives p (byte ∷ more) e =
     ap (λ (q : AppState). receive_all q more) (ap (λ (b : Bool). if b then p else if nat_lt MOST_COMMANDS (length (waiting (with_byte p byte))) then record p { own = 1 } else with_byte p byte) (ap (λ (n : ℕ). n == 1) e))
-    ∙ lost_hears p more e
+    ∙ lost_receives p more e
 
 lost_prefix : (p q : AppState) (piece : List ℕ) → q ≡ p → p.own ≡ 1 → DeliversPrefix p q piece
 lost_prefix p q piece e own = record {
@@ -87,9 +87,9 @@ byte_prefix : (p : AppState) (byte : ℕ) (more : List ℕ) (lost full : Bool) �
     → DeliversPrefix p (receive_all (if lost then p else if full then record p { own = 1 } else with_byte p byte) more) (byte ∷ more)
 byte_prefix p byte more true full e rest =
     let own : p.own ≡ 1 = eqb-true p.own 1 e in
-    lost_prefix p (receive_all p more) (byte ∷ more) (lost_hears p more own) own
+    lost_prefix p (receive_all p more) (byte ∷ more) (lost_receives p more own) own
 byte_prefix p byte more false true e rest =
-    let same : receive_all (record p { own = 1 }) more ≡ record p { own = 1 } = lost_hears (record p { own = 1 }) more refl in
+    let same : receive_all (record p { own = 1 }) more ≡ record p { own = 1 } = lost_receives (record p { own = 1 }) more refl in
     record {
       prefix = [];
       rest = byte ∷ more;
@@ -111,14 +111,14 @@ byte_prefix p byte more false false e rest =
       all = f.all;
     }
 
-hears_prefix : (p : AppState) (piece : List ℕ) → DeliversPrefix p (receive_all p piece) piece
-hears_prefix p [] = equal_prefix p
-hears_prefix p (byte ∷ more) =
-    byte_prefix p byte more (p.own == 1) (nat_lt MOST_COMMANDS (length (waiting (with_byte p byte)))) refl (λ q. hears_prefix q more)
+receives_prefix : (p : AppState) (piece : List ℕ) → DeliversPrefix p (receive_all p piece) piece
+receives_prefix p [] = equal_prefix p
+receives_prefix p (byte ∷ more) =
+    byte_prefix p byte more (p.own == 1) (nat_lt MOST_COMMANDS (length (waiting (with_byte p byte)))) refl (λ q. receives_prefix q more)
 
 unpolled : (p : AppState) (piece : List ℕ) → DeliversPrefix p (receive_all (record p { polls = 0 }) piece) piece
 unpolled p piece =
-    let f : DeliversPrefix (record p { polls = 0 }) (receive_all (record p { polls = 0 }) piece) piece = hears_prefix (record p { polls = 0 }) piece in
+    let f : DeliversPrefix (record p { polls = 0 }) (receive_all (record p { polls = 0 }) piece) piece = receives_prefix (record p { polls = 0 }) piece in
     record { prefix = f.prefix; rest = f.rest; joined = f.joined; input = f.input; snapshots = f.snapshots; acked = f.acked; all = f.all }
 
 -- ---- what the shell requests
@@ -136,37 +136,37 @@ either_settled false le true c cs go go' e = inr (refl, refl, e)
 either_settled false le false c cs go go' e = absurd (cc)
 
 -- Every command has its capture, and the text is among the first bytes.
-pub record IsSaid (cs : List Command) (ks : List Snapshot) (bytes : ℕ) : Type 0 where
+pub record WasSentIn (cs : List Command) (ks : List Snapshot) (bytes : ℕ) : Type 0 where
   pub reported : needed cs ≤ length ks
   pub within : length (transcript cs ks) ≤ bytes
 
-pub settled : (cs : List Command) (ks : List Snapshot) (bytes : ℕ) → unfinished cs ks bytes ≡ [] → IsSaid cs ks bytes
+pub settled : (cs : List Command) (ks : List Snapshot) (bytes : ℕ) → unfinished cs ks bytes ≡ [] → WasSentIn cs ks bytes
 settled [] ks bytes e = record { reported = omega arith; within = omega arith }
 settled (c ∷ cs) [] bytes e =
-    let size : ℕ = length (said_plainly c) in
-    let r = plain_settled (needs_capture c) (nat_le (length (said_plainly c)) bytes) c cs (unfinished cs [] (bytes - length (said_plainly c))) e in
-    let rest : IsSaid cs [] (bytes - length (said_plainly c)) = settled cs [] (bytes - length (said_plainly c)) r.2 in
-    let fits = leb-true (length (said_plainly c)) bytes r.1 in
+    let size : ℕ = length (plain_reply c) in
+    let r = plain_settled (needs_capture c) (nat_le (length (plain_reply c)) bytes) c cs (unfinished cs [] (bytes - length (plain_reply c))) e in
+    let rest : WasSentIn cs [] (bytes - length (plain_reply c)) = settled cs [] (bytes - length (plain_reply c)) r.2 in
+    let fits = leb-true (length (plain_reply c)) bytes r.1 in
     let count : needed (c ∷ cs) ≡ needed cs = ap (λ (b : Bool). if b then needed cs + 1 else needed cs) r.0 in
-    let text : length (transcript (c ∷ cs) []) ≡ length (said_plainly c) + length (transcript cs []) =
-    ap (λ (b : Bool). length (if b then [] else said_plainly c ++ transcript cs [])) r.0 ∙ length-append (said_plainly c) (transcript cs []) in
+    let text : length (transcript (c ∷ cs) []) ≡ length (plain_reply c) + length (transcript cs []) =
+    ap (λ (b : Bool). length (if b then [] else plain_reply c ++ transcript cs [])) r.0 ∙ length-append (plain_reply c) (transcript cs []) in
     record { reported = omega (arith, count, rest.reported); within = omega (arith, text, rest.within, fits) }
 settled (c ∷ cs) (k ∷ ks) bytes e =
-    elim (either_settled (needs_capture c) (nat_le (length (sent_at c k)) bytes) (nat_le (length (said_plainly c)) bytes) c cs
-    (unfinished cs ks (bytes - length (sent_at c k))) (unfinished cs (k ∷ ks) (bytes - length (said_plainly c))) e) [
+    elim (either_settled (needs_capture c) (nat_le (length (sent_at c k)) bytes) (nat_le (length (plain_reply c)) bytes) c cs
+    (unfinished cs ks (bytes - length (sent_at c k))) (unfinished cs (k ∷ ks) (bytes - length (plain_reply c))) e) [
       | inl r ↦ (
-          let rest : IsSaid cs ks (bytes - length (sent_at c k)) = settled cs ks (bytes - length (sent_at c k)) r.2 in
+          let rest : WasSentIn cs ks (bytes - length (sent_at c k)) = settled cs ks (bytes - length (sent_at c k)) r.2 in
           let fits = leb-true (length (sent_at c k)) bytes r.1 in
           let count : needed (c ∷ cs) ≡ needed cs + 1 = ap (λ (b : Bool). if b then needed cs + 1 else needed cs) r.0 in
           let text : length (transcript (c ∷ cs) (k ∷ ks)) ≡ length (sent_at c k) + length (transcript cs ks) =
-          ap (λ (b : Bool). length (if b then sent_at c k ++ transcript cs ks else said_plainly c ++ transcript cs (k ∷ ks))) r.0 ∙ length-append (sent_at c k) (transcript cs ks) in
+          ap (λ (b : Bool). length (if b then sent_at c k ++ transcript cs ks else plain_reply c ++ transcript cs (k ∷ ks))) r.0 ∙ length-append (sent_at c k) (transcript cs ks) in
           record { reported = omega (arith, count, rest.reported); within = omega (arith, text, rest.within, fits) })
       | inr r ↦ (
-          let rest : IsSaid cs (k ∷ ks) (bytes - length (said_plainly c)) = settled cs (k ∷ ks) (bytes - length (said_plainly c)) r.2 in
-          let fits = leb-true (length (said_plainly c)) bytes r.1 in
+          let rest : WasSentIn cs (k ∷ ks) (bytes - length (plain_reply c)) = settled cs (k ∷ ks) (bytes - length (plain_reply c)) r.2 in
+          let fits = leb-true (length (plain_reply c)) bytes r.1 in
           let count : needed (c ∷ cs) ≡ needed cs = ap (λ (b : Bool). if b then needed cs + 1 else needed cs) r.0 in
-          let text : length (transcript (c ∷ cs) (k ∷ ks)) ≡ length (said_plainly c) + length (transcript cs (k ∷ ks)) =
-          ap (λ (b : Bool). length (if b then sent_at c k ++ transcript cs ks else said_plainly c ++ transcript cs (k ∷ ks))) r.0 ∙ length-append (said_plainly c) (transcript cs (k ∷ ks)) in
+          let text : length (transcript (c ∷ cs) (k ∷ ks)) ≡ length (plain_reply c) + length (transcript cs (k ∷ ks)) =
+          ap (λ (b : Bool). length (if b then sent_at c k ++ transcript cs ks else plain_reply c ++ transcript cs (k ∷ ks))) r.0 ∙ length-append (plain_reply c) (transcript cs (k ∷ ks)) in
           record { reported = omega (arith, count, rest.reported); within = omega (arith, text, rest.within, fits) })
     ]
 
@@ -177,7 +177,7 @@ none_waits (c ∷ cs) e = absurd (let z = eqb-true (length (c ∷ cs)) 0 e in om
 may_close : (p : AppState) → p.acked ≤ length (session p) → session_has_ended p ≡ true → MayWant sessions p Close
 may_close p h e =
     let both = and_parts (has_quit (all_commands p.input)) (is_settled p) e in
-    let output : IsSaid (commands_in p.input) p.snapshots p.acked = settled (commands_in p.input) p.snapshots p.acked (none_waits (waiting p) both.1) in (
+    let output : WasSentIn (commands_in p.input) p.snapshots p.acked = settled (commands_in p.input) p.snapshots p.acked (none_waits (waiting p) both.1) in (
       both_true (has_quit (all_commands p.input)) (nat_le (needed (commands_in p.input)) (length p.snapshots)) both.0 (le-leb (needed (commands_in p.input)) (length p.snapshots) output.reported),
       omega (arith, h, output.within),
     )
@@ -201,6 +201,6 @@ keeps_session = record {
   delivers_text = λ numbers p piece. unpolled p piece;
   wants = λ numbers p h. may_want p ((p.own == 1) || (p.polls == 1200)) (session_has_ended p) h refl;
   aborts = λ numbers p e. ap (λ (n : ℕ). if (n == 1) || (p.polls == 1200) then Abort else if session_has_ended p then Close else if nat_lt 0 (left_of_session p) then Send (min 1460 (left_of_session p)) else Nothing) e;
-  delivers_no_more = λ numbers p piece e. ap (λ (r : AppState). r.input) (lost_hears (record p { polls = 0 }) piece e);
-  stays_lost = λ numbers p piece e. ap (λ (r : AppState). r.own) (lost_hears (record p { polls = 0 }) piece e) ∙ e;
+  delivers_no_more = λ numbers p piece e. ap (λ (r : AppState). r.input) (lost_receives (record p { polls = 0 }) piece e);
+  stays_lost = λ numbers p piece e. ap (λ (r : AppState). r.own) (lost_receives (record p { polls = 0 }) piece e) ∙ e;
 }

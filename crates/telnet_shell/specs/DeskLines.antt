@@ -9,7 +9,7 @@ use Rattle.node_laws.specs.Prelude.{OutputModel, Paged, Interactive, Free, HasOu
 use Rattle.web_pages.specs.Prelude.{pages_of, is_served}
 use Rattle.telnet_shell.specs.declared.shell.TheConstants.{TELNET_PORT}
 use Rattle.telnet_shell.specs.Traces.{sessions}
-use Rattle.telnet_shell.specs.DeskMeaning.{desk_spec}
+use Rattle.telnet_shell.specs.DeskSpec.{desk_spec}
 
 -- At port 80 the output is the pages of its files, and at port 23 the session of the shell.
 abbrev pub desk_output_model : List File → ℕ → OutputModel

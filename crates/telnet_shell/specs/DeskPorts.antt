@@ -13,9 +13,9 @@ use Rattle.telnet_shell.specs.State.{Shell}
 use Rattle.telnet_shell.specs.declared.shell.TheConstants.{TELNET_PORT}
 use Rattle.telnet_shell.specs.declared.desk.Desk.{Desk}
 use Rattle.telnet_shell.specs.declared.desk.Desk.TheVariants as desk
-use Rattle.telnet_shell.specs.ShellMeaning.{shell_spec}
+use Rattle.telnet_shell.specs.ShellSpec.{shell_spec}
 use Rattle.telnet_shell.specs.ShellRepresents.{ShellRepresents}
-use Rattle.telnet_shell.specs.DeskMeaning.{desk_spec}
+use Rattle.telnet_shell.specs.DeskSpec.{desk_spec}
 use Rattle.telnet_shell.specs.DeskRepresents.{DeskRepresents}
 use Rattle.app_pair.specs.PairSpec.{StaysAtPort}
 

@@ -11,10 +11,10 @@ use Rattle.telnet_shell.specs.State.{Shell}
 use Rattle.telnet_shell.specs.declared.shell.TheConstants.{TELNET_PORT}
 use Rattle.telnet_shell.specs.declared.desk.Desk.{Desk}
 use Rattle.telnet_shell.specs.declared.desk.Desk.TheVariants as desk
-use Rattle.telnet_shell.specs.ShellMeaning.{shell_spec}
+use Rattle.telnet_shell.specs.ShellSpec.{shell_spec}
 use Rattle.telnet_shell.specs.ShellRepresents.{ShellRepresents}
 use Rattle.telnet_shell.specs.Lemmas.SameLeft.{same_session_left as shell_same_left}
-use Rattle.telnet_shell.specs.DeskMeaning.{app_spec_at, desk_spec}
+use Rattle.telnet_shell.specs.DeskSpec.{app_spec_at, desk_spec}
 
 pub record IsWebPart (a : Httpd) (site : SiteContent) (part : AppState) : Type 0 where
   pub port : (part.port == TELNET_PORT) ≡ false

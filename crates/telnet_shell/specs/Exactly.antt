@@ -7,8 +7,8 @@ use Rattle.app_events.specs.declared.want.Want.{Want}
 use Rattle.app_events.specs.declared.want.Want.TheVariants.{Nothing, Send, Close, Abort}
 use Rattle.telnet_shell.specs.declared.command.Command.TheVariants.{Other}
 use Rattle.telnet_shell.specs.Reading.{command_of, commands_in}
-use Rattle.telnet_shell.specs.Saying.{needed}
-use Rattle.telnet_shell.specs.ShellMeaning.{shell_spec, session, waiting, with_byte, receive_byte, take_capture}
+use Rattle.telnet_shell.specs.Transmission.{needed}
+use Rattle.telnet_shell.specs.ShellSpec.{shell_spec, session, waiting, with_byte, receive_byte, take_capture}
 use Rattle.telnet_shell.specs.Traces.{sessions}
 
 -- The whole output is acknowledged.

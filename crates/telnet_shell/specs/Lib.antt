@@ -1,11 +1,11 @@
 pub mod Reading
 pub mod Transcript
-pub mod ShellMeaning
+pub mod ShellSpec
 pub mod WorkedSessions
-pub mod Hearing
-pub mod Saying
+pub mod Reception
+pub mod Transmission
 pub mod ShellRepresents
-pub mod DeskMeaning
+pub mod DeskSpec
 pub mod DeskRepresents
 pub mod DeskPorts
 pub mod DeskLines

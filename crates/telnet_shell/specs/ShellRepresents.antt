@@ -3,8 +3,8 @@ use Rattle.std.specs.Prelude.{◌≡◌, ℕ, ◌||◌, false, [], if◌then◌e
 use Rattle.app_events.specs.Prelude.{AppState}
 use Rattle.telnet_shell.specs.State.{Shell}
 use Rattle.telnet_shell.specs.Reading.{all_commands, has_quit}
-use Rattle.telnet_shell.specs.Hearing.{IsOpen}
-use Rattle.telnet_shell.specs.Saying.{IsTrailing, IsLeading}
+use Rattle.telnet_shell.specs.Reception.{IsOpen}
+use Rattle.telnet_shell.specs.Transmission.{IsTrailing, IsLeading}
 
 abbrev pub fresh_part : ℕ → AppState
 fresh_part port = record { port = port; input = []; snapshots = []; acked = 0; polls = 0; own = 0 }

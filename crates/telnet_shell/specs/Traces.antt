@@ -6,8 +6,8 @@ use Rattle.app_events.specs.Prelude.{AppState, Snapshot, IsPrefixOf, Pages, MayW
 use Rattle.app_events.specs.declared.want.Want.TheVariants.{Abort}
 use Rattle.telnet_shell.specs.Reading.{all_commands, commands_in, has_quit}
 use Rattle.telnet_shell.specs.Transcript.{transcript}
-use Rattle.telnet_shell.specs.Saying.{needed}
-use Rattle.telnet_shell.specs.ShellMeaning.{shell_spec, session}
+use Rattle.telnet_shell.specs.Transmission.{needed}
+use Rattle.telnet_shell.specs.ShellSpec.{shell_spec, session}
 
 -- A session is complete if it includes the output of `quit`: that command was received, and no command before it lacks its snapshot.
 abbrev pub sessions : Pages

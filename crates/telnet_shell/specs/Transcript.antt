@@ -23,30 +23,30 @@ abbrev pub needs_capture : Command → Bool
 needs_capture command = takes_capture (function_of command)
 
 -- the text of a command with its record
-abbrev pub said_with : Command → Capture → List ℕ
-said_with (Refuse verb option) capture = IAC ∷ verb ∷ option ∷ []
-said_with Help capture = codes "help stats conns ticks quit\r\n> "
-said_with Stats capture = capture_text capture ++ codes "> "
-said_with Conns capture = capture_text capture ++ codes "> "
-said_with Ticks capture = capture_text capture ++ codes "\r\n> "
-said_with Quit capture = codes "bye\r\n"
-said_with Blank capture = codes "> "
-said_with Other capture = codes "?\r\n> "
+abbrev pub reply_with : Command → Capture → List ℕ
+reply_with (Refuse verb option) capture = IAC ∷ verb ∷ option ∷ []
+reply_with Help capture = codes "help stats conns ticks quit\r\n> "
+reply_with Stats capture = capture_text capture ++ codes "> "
+reply_with Conns capture = capture_text capture ++ codes "> "
+reply_with Ticks capture = capture_text capture ++ codes "\r\n> "
+reply_with Quit capture = codes "bye\r\n"
+reply_with Blank capture = codes "> "
+reply_with Other capture = codes "?\r\n> "
 
 -- the text of a command that needs no snapshot
-abbrev pub said_plainly : Command → List ℕ
-said_plainly command = said_with command Empty
+abbrev pub plain_reply : Command → List ℕ
+plain_reply command = reply_with command Empty
 
 -- the text of a command with a snapshot
 abbrev pub sent_at : Command → Snapshot → List ℕ
-sent_at command snapshot = said_with command (capture_of (function_of command) 0 snapshot.now)
+sent_at command snapshot = reply_with command (capture_of (function_of command) 0 snapshot.now)
 
 abbrev pub transcript : List Command → List Snapshot → List ℕ
 transcript [] captures = []
-transcript (command ∷ more) [] = if needs_capture command then [] else said_plainly command ++ transcript more []
+transcript (command ∷ more) [] = if needs_capture command then [] else plain_reply command ++ transcript more []
 transcript (command ∷ more) (capture ∷ later) =
     if needs_capture command then sent_at command capture ++ transcript more later
-    else said_plainly command ++ transcript more (capture ∷ later)
+    else plain_reply command ++ transcript more (capture ∷ later)
 
 -- continues with the bytes after a text, if the text is within them
 abbrev pub past_text : List ℕ → ℕ → (ℕ → List Command) → List Command → List Command
@@ -57,7 +57,7 @@ abbrev pub unfinished : List Command → List Snapshot → ℕ → List Command
 unfinished [] captures bytes = []
 unfinished (command ∷ more) [] bytes =
     if needs_capture command then command ∷ more
-    else past_text (said_plainly command) bytes (λ n. unfinished more [] n) (command ∷ more)
+    else past_text (plain_reply command) bytes (λ n. unfinished more [] n) (command ∷ more)
 unfinished (command ∷ more) (capture ∷ later) bytes =
     if needs_capture command then past_text (sent_at command capture) bytes (λ n. unfinished more later n) (command ∷ more)
-    else past_text (said_plainly command) bytes (λ n. unfinished more (capture ∷ later) n) (command ∷ more)
+    else past_text (plain_reply command) bytes (λ n. unfinished more (capture ∷ later) n) (command ∷ more)

@@ -10,8 +10,8 @@ use Rattle.telnet_shell.specs.declared.telnet_input.TheConstants.{IAC, WILL, WON
 use Rattle.telnet_shell.specs.declared.command.Command.TheVariants.{Refuse, Help, Stats, Conns, Ticks, Quit, Blank, Other}
 use Rattle.telnet_shell.specs.Reading.{commands_in}
 use Rattle.telnet_shell.specs.Transcript.{transcript}
-use Rattle.telnet_shell.specs.ShellMeaning.{shell_spec, session}
-use Rattle.telnet_shell.specs.DeskMeaning.{is_served_at}
+use Rattle.telnet_shell.specs.ShellSpec.{shell_spec, session}
+use Rattle.telnet_shell.specs.DeskSpec.{is_served_at}
 
 -- a snapshot in which nothing has happened except these ticks
 abbrev pub at_tick : ℕ → Snapshot

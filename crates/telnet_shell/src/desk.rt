@@ -14,7 +14,7 @@ pub enum Desk {
 
 impl App for Desk {
     ghost use Rattle.file_tree.specs.Site.{SiteContent, files_of};
-    ghost use Rattle.telnet_shell.specs.DeskMeaning.{desk_spec, is_served_at};
+    ghost use Rattle.telnet_shell.specs.DeskSpec.{desk_spec, is_served_at};
     ghost use Rattle.telnet_shell.specs.Lemmas.DeskLaws.{desk_lawful, desk_starts};
     ghost use Rattle.telnet_shell.specs.DeskRepresents.{DeskRepresents, desk_same_left};
 

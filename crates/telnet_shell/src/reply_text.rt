@@ -3,8 +3,8 @@
 ghost use Rattle.std.specs.Prelude.{◌≡◌, true, ◌+◌, ◌*◌, ◌≤◌, ◌++◌, [], length, take, drop};
 ghost use Rattle.generators.specs.Prelude.{capture_text};
 ghost use Rattle.generators.specs.declared.capture.Capture.TheVariants.{Empty};
-ghost use Rattle.telnet_shell.specs.Transcript.{function_of, said_with, transcript};
-ghost use Rattle.telnet_shell.specs.Saying.{IsTrailing, IsLeading, Passes, due, prefix_size, is_past, left_said, stops_at};
+ghost use Rattle.telnet_shell.specs.Transcript.{function_of, reply_with, transcript};
+ghost use Rattle.telnet_shell.specs.Transmission.{IsTrailing, IsLeading, Passes, due, prefix_size, is_past, replies_left, stops_at};
 ghost use Rattle.app_events.specs.Prelude.{AppState};
 ghost use Rattle.telnet_shell.specs.declared.TheConstants.{MOST_COMMANDS};
 ghost use Rattle.telnet_shell.specs.declared.reply_text.TheConstants.{LONGEST_SAID};
@@ -55,8 +55,8 @@ pub(crate) fn is_stopped(command: Command, capture: &Capture) -> bool
 }
 
 /// Returns the length of a command's text, in bytes.
-pub(crate) fn said_len(command: Command, capture: &Capture) -> usize
-    ensures length { result ≡ length (said_with command capture.now) }
+pub(crate) fn reply_len(command: Command, capture: &Capture) -> usize
+    ensures length { result ≡ length (reply_with command capture.now) }
     ensures some { 1 ≤ result }
     ensures short { result ≤ LONGEST_SAID }
 {
@@ -97,9 +97,9 @@ fn fill_made(capture: &Capture, tail: &[u8], at: usize, out: &mut [u8])
 }
 
 /// Writes a command's text from an offset on.
-fn fill_said(command: Command, capture: &Capture, at: usize, out: &mut [u8])
-    requires { at + length out.old ≤ length (said_with command capture.now) }
-    ensures { out.new ≡ take (length out.old) (drop at (said_with command capture.now)) }
+fn fill_reply_text(command: Command, capture: &Capture, at: usize, out: &mut [u8])
+    requires { at + length out.old ≤ length (reply_with command capture.now) }
+    ensures { out.new ≡ take (length out.old) (drop at (reply_with command capture.now)) }
 {
     match command {
         Command::Refuse(verb, choice) => copy_from(&[IAC, verb, choice], at, out),
@@ -125,7 +125,7 @@ fn rest_len(queue: &[Command]) -> usize
             if is_stopped(*command, &Capture::Empty) {
                 0
             } else {
-                said_len(*command, &Capture::Empty) + rest_len(rest)
+                reply_len(*command, &Capture::Empty) + rest_len(rest)
             }
         }
     }
@@ -139,8 +139,8 @@ fn fill_rest(queue: &[Command], out: &mut [u8])
     match queue {
         [] => {}
         [command, rest @ ..] => {
-            let count = out.len().min(said_len(*command, &Capture::Empty));
-            fill_said(*command, &Capture::Empty, 0, &mut out[..count]);
+            let count = out.len().min(reply_len(*command, &Capture::Empty));
+            fill_reply_text(*command, &Capture::Empty, 0, &mut out[..count]);
             fill_rest(rest, &mut out[count..]);
         }
     }
@@ -149,7 +149,7 @@ fn fill_rest(queue: &[Command], out: &mut [u8])
 /// Returns the length of a queue's text.
 pub(crate) fn left_len(queue: &[Command], capture: &Capture) -> usize
     requires { length queue.now ≤ MOST_COMMANDS }
-    ensures length { result ≡ length (left_said queue.now capture.now) }
+    ensures length { result ≡ length (replies_left queue.now capture.now) }
     ensures short { result ≤ LONGEST_SAID * MOST_COMMANDS }
 {
     match queue {
@@ -158,7 +158,7 @@ pub(crate) fn left_len(queue: &[Command], capture: &Capture) -> usize
             if is_stopped(*command, capture) {
                 0
             } else {
-                said_len(*command, capture) + rest_len(rest)
+                reply_len(*command, capture) + rest_len(rest)
             }
         }
     }
@@ -166,13 +166,13 @@ pub(crate) fn left_len(queue: &[Command], capture: &Capture) -> usize
 
 /// Writes the first command's text from an offset on, and then the texts of commands that need no capture.
 fn fill_prefix(prefix: Command, capture: &Capture, rest: &[Command], at: usize, out: &mut [u8])
-    requires place { at ≤ length (said_with prefix capture.now) }
-    requires enough { length out.old ≤ length (drop at (said_with prefix capture.now) ++ transcript rest.now []) }
-    ensures { out.new ≡ take (length out.old) (drop at (said_with prefix capture.now) ++ transcript rest.now []) }
+    requires place { at ≤ length (reply_with prefix capture.now) }
+    requires enough { length out.old ≤ length (drop at (reply_with prefix capture.now) ++ transcript rest.now []) }
+    ensures { out.new ≡ take (length out.old) (drop at (reply_with prefix capture.now) ++ transcript rest.now []) }
 {
-    let middle = (said_len(prefix, capture) - at).min(out.len());
+    let middle = (reply_len(prefix, capture) - at).min(out.len());
     let (begun, further) = out.split_at_mut(middle);
-    fill_said(prefix, capture, at, begun);
+    fill_reply_text(prefix, capture, at, begun);
     fill_rest(rest, further);
 }
 
@@ -180,8 +180,8 @@ fn fill_prefix(prefix: Command, capture: &Capture, rest: &[Command], at: usize, 
 #[tactic(auto, using(crate::specs::Lemmas::Speaking::from_prefix))]
 pub(crate) fn fill_left(queue: &[Command], capture: &Capture, at: usize, out: &mut [u8])
     requires place { at ≤ prefix_size queue.now capture.now }
-    requires enough { at + length out.old ≤ length (left_said queue.now capture.now) }
-    ensures { out.new ≡ take (length out.old) (drop at (left_said queue.now capture.now)) }
+    requires enough { at + length out.old ≤ length (replies_left queue.now capture.now) }
+    ensures { out.new ≡ take (length out.old) (drop at (replies_left queue.now capture.now)) }
 {
     match queue {
         [] => {}
@@ -199,7 +199,7 @@ fn is_past(queue: &[Command], capture: &Capture, at: usize) -> bool
 {
     match queue {
         [] => false,
-        [command, ..] => !is_stopped(*command, capture) && said_len(*command, capture) <= at,
+        [command, ..] => !is_stopped(*command, capture) && reply_len(*command, capture) <= at,
     }
 }
 
@@ -213,7 +213,7 @@ fn pass_prefix(
     ensures { Passes queue.old.items capture.old at queue.new.items capture.new result }
 {
     let prefix = queue.remove(0);
-    let count = said_len(prefix, capture);
+    let count = reply_len(prefix, capture);
     *capture = Capture::Empty;
     at - count
 }
@@ -225,7 +225,7 @@ pub(crate) fn advance(
     at: u32,
     count: usize,
 ) -> u32
-    requires { at + count ≤ length (left_said queue.old.items capture.old) }
+    requires { at + count ≤ length (replies_left queue.old.items capture.old) }
     ensures trailing { (p : AppState) → IsTrailing queue.old.items capture.old (at + count) p
         → IsTrailing queue.new.items capture.new result p }
     ensures place { IsLeading queue.new.items capture.new result }

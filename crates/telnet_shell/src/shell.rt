@@ -3,7 +3,7 @@
 ghost use Rattle.std.specs.Prelude.{◌≡◌, ◌==◌, ◌&&◌, ℕ, length};
 ghost use Rattle.app_events.specs.Prelude.{AppState};
 ghost use Rattle.telnet_shell.specs.Reading.{is_quit};
-ghost use Rattle.telnet_shell.specs.ShellMeaning.{receive_all, receive_byte};
+ghost use Rattle.telnet_shell.specs.ShellSpec.{receive_all, receive_byte};
 
 use crate::command::Command;
 use crate::reply_text::{advance, due, fill_left, left_len};
@@ -134,7 +134,7 @@ impl Shell {
 impl App for Shell {
     ghost use Rattle.file_tree.specs.Site.{SiteContent};
     ghost use Rattle.telnet_shell.specs.declared.shell.TheConstants.{TELNET_PORT};
-    ghost use Rattle.telnet_shell.specs.ShellMeaning.{shell_spec};
+    ghost use Rattle.telnet_shell.specs.ShellSpec.{shell_spec};
     ghost use Rattle.telnet_shell.specs.Lemmas.ShellLaws.{shell_lawful, shell_starts};
     ghost use Rattle.telnet_shell.specs.ShellRepresents.{ShellRepresents};
     ghost use Rattle.telnet_shell.specs.Lemmas.SameLeft.{same_session_left};

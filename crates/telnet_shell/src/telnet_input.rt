@@ -4,7 +4,7 @@ ghost use Rattle.std.specs.Prelude.{◌≡◌, ◌++◌, ◌∷◌, [], ℕ, Lis
 ghost use Rattle.telnet_shell.specs.Reading.{command_of, commands, line_after, next_awaits, refusal, tokens_at, tokens, awaits_after};
 ghost use Rattle.telnet_shell.specs.Reading.Awaits.{Text};
 ghost use Rattle.telnet_shell.specs.Reading.Token.{Byte};
-ghost use Rattle.telnet_shell.specs.Hearing.{IsLine, IsOpen, awaited, command_in, tokens_of};
+ghost use Rattle.telnet_shell.specs.Reception.{IsLine, IsOpen, awaited, command_in, tokens_of};
 
 use crate::LONGEST_LINE;
 use crate::command::Command;

@@ -7,6 +7,6 @@ mod ReadLaws
 mod RoundTrip
 mod Rows
 mod SeenLaws
-mod TellLaws
+mod ReportingLaws
 mod TextLaws
 mod Prelude

@@ -34,13 +34,13 @@ none_in_nothing order captured more is e = let size = prefix_size order [] captu
 none_in_part : (order : ByteOrder) (rest : List ℕ) → IsCutRecord order rest → HasNone order rest
 none_in_part order rest part captured more is e =
     let size = prefix_size order rest captured more is e in
-    let tells = prefix_long order rest captured more is e in
+    let reported_as = prefix_long order rest captured more is e in
     let short = part.short (omega arith) in
     absurd (omega arith)
 
 none_in_long : (order : ByteOrder) (rest : List ℕ) → HasLongRecord order rest → HasNone order rest
 none_in_long order rest long captured more is e =
-    let tells = prefix_long order rest captured more is e in
+    let reported_as = prefix_long order rest captured more is e in
     let fits = is.fits in
     let more_than = long.long in
     absurd (omega arith)
@@ -74,7 +74,7 @@ kind_of order records (b ∷ rest) =
     if leb 16 (length (b ∷ rest)) && ltb LARGEST_DATAGRAM (length_in order (b ∷ rest)) then BadLength records else InRecord records
 
 -- bytes with a good header
-pub record Standing (bytes : List ℕ) (reading : Reading) : Type 0 where
+pub record Representing (bytes : List ℕ) (reading : Reading) : Type 0 where
   pub order : ByteOrder
   pub records : List Captured
   pub rest : List ℕ
@@ -93,8 +93,8 @@ module _ (bytes : List ℕ) where
         ap (λ l. order_of (take 24 l)) same ∙ ap (λ l. order_of l) (prefix_of 24 b.header all b.size) ∙ b.good,
       )
 
-  one_standing : (one other : Reading) → Standing bytes one → Standing bytes other → one ≡ other
-  one_standing one other s t =
+  one_representing : (one other : Reading) → Representing bytes one → Representing bytes other → one ≡ other
+  one_representing one other s t =
       let a = s.begins in
       let b = t.begins in
       let orders : s.order ≡ t.order = (let p = (header_in s.order s.records s.rest a).1 in let q = (header_in t.order t.records t.rest b).1 in cc) in
@@ -137,7 +137,7 @@ bad_length order records (b ∷ rest) long =
 data Case (bytes : List ℕ) (reading : Reading) : Type 0 where
   Short : length bytes < 24 → reading ≡ InHeader → Case bytes reading
   Bad : 24 ≤ length bytes → order_of (take 24 bytes) ≡ None → reading ≡ BadHeader → Case bytes reading
-  Good : Standing bytes reading → Case bytes reading
+  Good : Representing bytes reading → Case bytes reading
 
 good : (bytes : List ℕ) (reading : Reading) (order : ByteOrder) (records : List Captured) (rest : List ℕ) → BeginsWith order records rest bytes → HasNone order rest
     → reading ≡ kind_of order records rest → Case bytes reading
@@ -162,7 +162,7 @@ same_case bytes one other (Bad s none e) (Bad t never f) = e ∙ sym f
 same_case bytes one other (Bad s never e) (Good t) = let good = (header_in bytes t.order t.records t.rest t.begins).1 in absurd cc
 same_case bytes one other (Good s) (Short t f) = let size = (header_in bytes s.order s.records s.rest s.begins).0 in absurd (omega arith)
 same_case bytes one other (Good s) (Bad t never f) = let good = (header_in bytes s.order s.records s.rest s.begins).1 in absurd cc
-same_case bytes one other (Good s) (Good t) = one_standing bytes one other s t
+same_case bytes one other (Good s) (Good t) = one_representing bytes one other s t
 
 pub one_reading : (bytes : List ℕ) (one other : Reading) → IsReadAs bytes one → IsReadAs bytes other → one ≡ other
 one_reading bytes one other p q = same_case bytes one other (case_of bytes one p) (case_of bytes other q)

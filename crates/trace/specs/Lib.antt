@@ -5,7 +5,7 @@ pub mod DumpText
 pub mod Gathering
 pub mod LineReading
 pub mod Seen
-pub mod Telling
+pub mod Reporting
 pub mod Watching
 pub mod ConstantValues
 pub mod Prelude

@@ -10,5 +10,5 @@ pub use Rattle.trace.specs.DumpText.{numbers_text, payload_words, segment_words,
 pub use Rattle.trace.specs.Gathering.{BrokeOff, IsAtFault, IsOpen, IsReadSound, IsReadTo, StopBy, Stopped, StopsAt, end_at}
 pub use Rattle.trace.specs.LineReading.{EndsRead, StopsAmong, StopsRead}
 pub use Rattle.trace.specs.Seen.{Seen, seen_after, seen_at, seen_on, silences_of}
-pub use Rattle.trace.specs.Telling.{ReportsLine}
+pub use Rattle.trace.specs.Reporting.{ReportsLine}
 pub use Rattle.trace.specs.Watching.{BrokeWatch, HasSeen, IsWatched, Saw, frame_text, text_after, texts_from}

@@ -1,5 +1,5 @@
 -- Each end is reported if its cause holds and nothing failed.
-use Rattle.udp_resolver.proofs.Prelude.{◌≡◌, ℕ, ◌<◌, ◌⊎◌, inl, inr, true, false, List, Option, Some, length, refl, sym, ◌∙◌, arith, Consumes, Item, ServeEnd, Question, ResolvesBy, IsDone, IsOpen, IsSettled, LinkFailed, OutFailed, TellFailed, Streams, StreamsUnfailed, taken_within}
+use Rattle.udp_resolver.proofs.Prelude.{◌≡◌, ℕ, ◌<◌, ◌⊎◌, inl, inr, true, false, List, Option, Some, length, refl, sym, ◌∙◌, arith, Consumes, Item, ServeEnd, Question, ResolvesBy, IsDone, IsOpen, IsSettled, LinkFailed, OutFailed, ReportFailed, Streams, StreamsUnfailed, taken_within}
 use Rattle.uip_edge.specs.declared.serve_end.ServeEnd.TheVariants as ends
 
 clash : true ≡ false → ⊥
@@ -8,7 +8,7 @@ clash e = cc e
 no_link : (asked : List Question) (n : ℕ) (old new : Streams) (taken : List Item) → LinkFailed asked n old new taken → StreamsUnfailed old new → ⊥
 no_link asked n old new taken f calm = omega (arith, f.rose, calm.line.link.same, calm.line.link.below)
 
-no_write : (asked : List Question) (n : ℕ) (old new : Streams) (taken : List Item) → OutFailed asked old new taken ⊎ TellFailed asked n old new taken → StreamsUnfailed old new → ⊥
+no_write : (asked : List Question) (n : ℕ) (old new : Streams) (taken : List Item) → OutFailed asked old new taken ⊎ ReportFailed asked n old new taken → StreamsUnfailed old new → ⊥
 no_write asked n old new taken (inl f) calm = omega (arith, f.out.rose, calm.line.sink.same, calm.line.sink.below)
 no_write asked n old new taken (inr f) calm = omega (arith, f.reported.rose, calm.tell.same, calm.tell.below)
 

@@ -80,12 +80,12 @@ answer_silence happened q e =
           ∙ first_answer-append q happened (Silence ∷ []) ∙ option_or-none (first_answer q happened)
     ] refl))
 
-pub heard_map : (datagram : List ℕ) (happened : List LineEvent) (asked : List Question) → is_given_up happened ≡ false
+pub received_map : (datagram : List ℕ) (happened : List LineEvent) (asked : List Question) → is_given_up happened ≡ false
     → received_now datagram asked (map (answer_among happened) asked) ≡ map (answer_among (happened ++ MediumInput datagram ∷ [])) asked
-heard_map datagram happened [] e = refl
-heard_map datagram happened (q ∷ asked) e =
+received_map datagram happened [] e = refl
+received_map datagram happened (q ∷ asked) e =
     ap (λ a. a ∷ received_now datagram asked (map (answer_among happened) asked)) (sym (answer_came happened datagram q e))
-    ∙ ap (λ l. answer_among (happened ++ MediumInput datagram ∷ []) q ∷ l) (heard_map datagram happened asked e)
+    ∙ ap (λ l. answer_among (happened ++ MediumInput datagram ∷ []) q ∷ l) (received_map datagram happened asked e)
 
 pub map_silence : (happened : List LineEvent) (asked : List Question) → is_given_up happened ≡ false
     → map (answer_among happened) asked ≡ map (answer_among (happened ++ Silence ∷ [])) asked

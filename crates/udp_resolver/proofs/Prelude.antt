@@ -23,7 +23,7 @@ pub use Rattle.std.specs.List.{find, flat_map, list_all, list_any, refill}
 pub use Rattle.std.specs.Option.{is_none, option_or}
 pub use Rattle.std.specs.Prelude.{codes}
 unfoldable pub use Rattle.udp_datagram.specs.Prelude.{udp_data}
-pub use Rattle.udp_resolver.specs.Prelude.{AddressesAreFromReplies, Adds, Asks, AsksOn, Done, EventsAreOfLine, IsClockAt, IsDone, IsOpen, IsSettled, LastAsked, LineEvent, LinkFailed, MediumInput, OutFailed, Question, Resolves, ResolvesBy, RunRepresents, Silence, Streams, StreamsUnfailed, TellFailed, WritesSome, WroteAll, all_settled, answer_among, asked_at, asked_next, before_silence, by_frame, came_in, carried_by, events, fate_by, fate_of, fate_text, first_answer, received_now, is_due, is_given_up, is_settled, last_ident, last_silence, line_of, line_text, lines, lines_by, next_asking, next_ident, open_ones, queries, query_texts, questions, received_after, silences, silent_items, streams, unanswered, unless_answered}
+pub use Rattle.udp_resolver.specs.Prelude.{AddressesAreFromReplies, Adds, Asks, AsksOn, Done, EventsAreOfLine, IsClockAt, IsDone, IsOpen, IsSettled, LastAsked, LineEvent, LinkFailed, MediumInput, OutFailed, Question, Resolves, ResolvesBy, RunRepresents, Silence, Streams, StreamsUnfailed, ReportFailed, WritesSome, WroteAll, all_settled, answer_among, asked_at, asked_next, before_silence, by_frame, came_in, carried_by, events, fate_by, fate_of, fate_text, first_answer, received_now, is_due, is_given_up, is_settled, last_ident, last_silence, line_of, line_text, lines, lines_by, next_asking, next_ident, open_ones, queries, query_texts, questions, received_after, silences, silent_items, streams, unanswered, unless_answered}
 pub use Rattle.udp_resolver.specs.declared.clock.Clock.{Clock}
 pub use Rattle.udp_resolver.specs.declared.fate.Fate.{Fate}
 pub use Rattle.udp_resolver.specs.declared.fate.Fate.TheVariants.{Answered, Open, Timeout}

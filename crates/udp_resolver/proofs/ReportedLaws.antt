@@ -54,7 +54,7 @@ found : (r : Record) (list : List Record) → find is_address list ≡ Some r �
 found r [] e = absurd (cc e)
 found r (first ∷ rest) e = found_by r first rest (is_address first) refl (found r rest) e
 
-record Said (id : ℕ) (text message : List ℕ) (address : Addr) : Type 0 where
+record SentText (id : ℕ) (text message : List ℕ) (address : Addr) : Type 0 where
   matching : is_reply id text message ≡ true
   sound : code_of message ≡ 0
   r : Record
@@ -76,13 +76,13 @@ picked address (Some r) is_whole e =
 picked address None true e = absurd (cc e)
 picked address None false e = absurd (cc e)
 
-said_by : (id : ℕ) (text message : List ℕ) (address : Addr) (short reply sound : Bool) → is_reply id text message ≡ reply → eqb (code_of message) 0 ≡ sound
+sent_text_by : (id : ℕ) (text message : List ℕ) (address : Addr) (short reply sound : Bool) → is_reply id text message ≡ reply → eqb (code_of message) 0 ≡ sound
     → (if short then None else if reply then (if sound then answer_of_records (word_at message 6) (drop (question_end text) message) else Some (Code (code_of message))) else None) ≡ Some (Address address)
-    → Said id text message address
-said_by id text message address true reply sound is ok e = absurd (cc e)
-said_by id text message address false false sound is ok e = absurd (cc e)
-said_by id text message address false true false is ok e = absurd (cc e)
-said_by id text message address false true true is ok e =
+    → SentText id text message address
+sent_text_by id text message address true reply sound is ok e = absurd (cc e)
+sent_text_by id text message address false false sound is ok e = absurd (cc e)
+sent_text_by id text message address false true false is ok e = absurd (cc e)
+sent_text_by id text message address false true true is ok e =
     let n = word_at message 6 in
     let list = records n (drop (question_end text) message) in
     let p = picked address (find is_address list) (eqb (length list) n) e in
@@ -91,7 +91,7 @@ said_by id text message address false true true is ok e =
 record Carried (q : Question) (datagram : List ℕ) (address : Addr) : Type 0 where
   message : List ℕ
   carried : udp_data (way_back q.asking) datagram ≡ Some message
-  output : Said q.asking.id q.text message address
+  output : SentText q.asking.id q.text message address
 
 carried_by : (q : Question) (datagram : List ℕ) (address : Addr) (o : Option (List ℕ)) → udp_data (way_back q.asking) datagram ≡ o
     → option_and_then (answer_by_message q.asking.id q.text) o ≡ Some (Address address) → Carried q datagram address
@@ -99,7 +99,7 @@ carried_by q datagram address None is e = absurd (cc e)
 carried_by q datagram address (Some message) is e = record {
   message = message;
   carried = is;
-  output = said_by q.asking.id q.text message address (ltb (length message) 12) (is_reply q.asking.id q.text message) (eqb (code_of message) 0) refl refl e;
+  output = sent_text_by q.asking.id q.text message address (ltb (length message) 12) (is_reply q.asking.id q.text message) (eqb (code_of message) 0) refl refl e;
 }
 
 carried : (q : Question) (datagram : List ℕ) (address : Addr) → answer_to q.asking q.text datagram ≡ Some (Address address) → Carried q datagram address

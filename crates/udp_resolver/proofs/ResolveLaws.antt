@@ -1,5 +1,5 @@
 -- The queries and the report, put together.
-use Rattle.udp_resolver.proofs.Prelude.{◌≡◌, ◌<◌, ℕ, length, List, Option, map, refl, sym, ap, ◌∙◌, inr, subst, Appends, Answer, Asking, Item, ServeEnd, Rose, AppendsPrefix, appends_by, prefix_by, Question, answer_among, questions, events, lines, Resolves, ResolvesBy, TellFailed, WroteAll, Asks, Done, RunRepresents, lines_by, Streams, Run}
+use Rattle.udp_resolver.proofs.Prelude.{◌≡◌, ◌<◌, ℕ, length, List, Option, map, refl, sym, ap, ◌∙◌, inr, subst, Appends, Answer, Asking, Item, ServeEnd, Rose, AppendsPrefix, appends_by, prefix_by, Question, answer_among, questions, events, lines, Resolves, ResolvesBy, ReportFailed, WroteAll, Asks, Done, RunRepresents, lines_by, Streams, Run}
 use Rattle.uip_edge.specs.declared.serve_end.ServeEnd.TheVariants as ends
 use Rattle.udp_resolver.proofs.RunLaws.{lines_reported}
 
@@ -38,7 +38,7 @@ module _ (asked : List Question) (n : ℕ) (run : Run) (old new : Streams) where
   -- the report failed
   part : (end : ServeEnd) (taken : List Item) → Done asked n taken run old.line new.line end → Rose old.tell.faults new.tell.faults
       → ((taken : List Item) → RunRepresents asked taken run → AppendsPrefix old.tell.written new.tell.written (lines asked (events taken)))
-      → ((taken : List Item) → RunRepresents asked taken run → 0 < length (lines asked (events taken))) → TellFailed asked n old new taken
+      → ((taken : List Item) → RunRepresents asked taken run → 0 < length (lines asked (events taken))) → ReportFailed asked n old new taken
   part end taken d rose reported some = record {
     end = end;
     done = d.done;

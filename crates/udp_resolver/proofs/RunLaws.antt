@@ -2,7 +2,7 @@
 use Rattle.udp_resolver.proofs.Prelude.{◌≡◌, ℕ, zero, suc, ◌+◌, ◌<◌, Bool, true, false, not, ◌&&◌, leb, if◌then◌else◌, List, [], ◌∷◌, ◌++◌, length, map, take, replicate, get_or, refl, sym, ap, ◌∙◌, arith, append-nil, append_assoc, subst, None, Option, Result, drop_all, map-append, take_more, take-length, flat_map, list_any, refill, is_none, IsAtAge, Answer, Asking, Item, Byte, Quiet, State, WasFed, reported_by, completed, Fed, last_ident, line_text, open_ones, queries, query_texts, Question, all_settled, answer_among, fate_of, is_given_up, next_asking, questions, silences, LineEvent, MediumInput, Silence, by_frame, events, received_after, line_of, lines, Adds, RunRepresents, WritesSome, IsClockAt, asked_next, received_now, is_due, lines_by, unanswered, Clock, Run, bytes_among, SinkView, bytes_among-append}
 use Rattle.uip_slip.specs.declared.fed.Fed.TheVariants as fed
 use Rattle.udp_resolver.proofs.EventLaws.{silences-append}
-use Rattle.udp_resolver.proofs.FateLaws.{heard_map, map_silence, open_reported, opens}
+use Rattle.udp_resolver.proofs.FateLaws.{received_map, map_silence, open_reported, opens}
 use Rattle.udp_resolver.proofs.ItemLaws.{calm_bytes, events-append, events_byte}
 use Rattle.udp_resolver.proofs.QueryLaws.{queries_calm, queries_first, queries_silence}
 use Rattle.udp_resolver.proofs.StepLaws.{last_ident-append, query_texts-append}
@@ -64,7 +64,7 @@ knows_came asked items b datagram old new e k fed brings clock sender answers =
     knows_events asked (items ++ Byte b ∷ []) (es ++ MediumInput datagram ∷ []) (bytes_among items ++ b ∷ []) new
     (events_byte items b ∙ ap (λ l. es ++ l) brings) (bytes_among-append items (Byte b ∷ []))
     fed (subst (λ (c : Clock). IsClockAt (es ++ MediumInput datagram ∷ []) c) (sym clock) (at_calm es (MediumInput datagram ∷ []) old.clock refl k.at))
-    (answers ∙ ap (λ l. received_now datagram asked l) k.heard ∙ heard_map datagram es asked e)
+    (answers ∙ ap (λ l. received_now datagram asked l) k.heard ∙ received_map datagram es asked e)
     (ap (λ s. s.ident) sender ∙ k.sent ∙ ap (λ l. last_ident 0 l) (sym (queries_calm asked es (MediumInput datagram ∷ []) refl)))
 
 -- a silence

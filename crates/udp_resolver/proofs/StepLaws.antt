@@ -35,11 +35,11 @@ module _ {X : Type 0} where
   set_seam now prefix a b rest at size e =
       ap (λ l. set l at b) e ∙ ap (λ n. set (prefix ++ a ∷ rest) n b) (sym size) ∙ set-append_seam prefix a rest b ∙ sym (append_assoc prefix (b ∷ []) rest)
 
-pub heard_step : (datagram : List ℕ) (asking after : Asking) (names later : List (List ℕ)) (name : List ℕ) (olds rest : List (Option Answer)) (a b : Option Answer) (whole prefix : List (Option Answer))
+pub received_step : (datagram : List ℕ) (asking after : Asking) (names later : List (List ℕ)) (name : List ℕ) (olds rest : List (Option Answer)) (a b : Option Answer) (whole prefix : List (Option Answer))
     → names ≡ name ∷ later → olds ≡ a ∷ rest → after ≡ next_asking asking → b ≡ option_or a (answer_to asking name datagram)
     → whole ≡ prefix ++ received_now datagram (questions asking names) olds
     → whole ≡ (prefix ++ b ∷ []) ++ received_now datagram (questions after later) rest
-heard_step datagram asking after names later name olds rest a b whole prefix n o k is e =
+received_step datagram asking after names later name olds rest a b whole prefix n o k is e =
     e ∙ ap (λ l. prefix ++ received_now datagram (questions asking l) olds) n
     ∙ ap (λ l. prefix ++ received_now datagram (questions asking (name ∷ later)) l) o
     ∙ ap (λ x. prefix ++ x ∷ received_now datagram (questions (next_asking asking) later) rest) (sym is)
@@ -85,8 +85,8 @@ question_moves asking after names answers name at whole prefix size within is ne
     (here names at name within is) (drop_more answers at None (omega (arith, size, within))) next e
 
 -- nothing is left after the last name
-pub heard_none : (datagram : List ℕ) (asking : Asking) (names : List (List ℕ)) (olds : List (Option Answer)) → names ≡ [] → received_now datagram (questions asking names) olds ≡ []
-heard_none datagram asking names olds e = ap (λ l. received_now datagram (questions asking l) olds) e
+pub received_none : (datagram : List ℕ) (asking : Asking) (names : List (List ℕ)) (olds : List (Option Answer)) → names ≡ [] → received_now datagram (questions asking names) olds ≡ []
+received_none datagram asking names olds e = ap (λ l. received_now datagram (questions asking l) olds) e
 
 pub unanswered_none : (asking : Asking) (names : List (List ℕ)) (olds : List (Option Answer)) → names ≡ [] → unanswered (questions asking names) olds ≡ []
 unanswered_none asking names olds e = ap (λ l. unanswered (questions asking l) olds) e

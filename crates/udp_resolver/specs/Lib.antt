@@ -3,7 +3,7 @@ pub mod Fates
 pub mod LineEvents
 pub mod Lines
 pub mod Resolving
-pub mod Standing
+pub mod Representing
 pub mod Steps
 pub mod Streams
 pub mod Reported

@@ -7,8 +7,8 @@ pub use Rattle.udp_resolver.specs.FromLine.{EventsAreOfLine, came_in, carried_by
 pub use Rattle.udp_resolver.specs.LineEvents.{LineEvent, MediumInput, Silence, by_frame, events, received_after}
 pub use Rattle.udp_resolver.specs.Lines.{fate_text, line_of, lines}
 pub use Rattle.udp_resolver.specs.Resolving.{IsDone, IsOpen, IsSettled, LastAsked, LinkFailed}
-pub use Rattle.udp_resolver.specs.Resolving.{OutFailed, Resolves, ResolvesBy, TellFailed, WroteAll}
-pub use Rattle.udp_resolver.specs.Standing.{Adds, Asks, AsksOn, Done, RunRepresents, WritesSome}
+pub use Rattle.udp_resolver.specs.Resolving.{OutFailed, Resolves, ResolvesBy, ReportFailed, WroteAll}
+pub use Rattle.udp_resolver.specs.Representing.{Adds, Asks, AsksOn, Done, RunRepresents, WritesSome}
 pub use Rattle.udp_resolver.specs.Steps.{IsClockAt, asked_next, received_now, is_due, lines_by, unanswered, unless_answered}
 pub use Rattle.udp_resolver.specs.Streams.{Streams, StreamsUnfailed, streams}
 pub use Rattle.udp_resolver.specs.Reported.{AddressesAreFromReplies}

@@ -47,7 +47,7 @@ pub record OutFailed (asked : List Question) (old new : Streams) (taken : List I
   pub tell : new.tell ≡ old.tell
 
 -- All queries were written, and the report failed with something to write.
-pub record TellFailed (asked : List Question) (n : ℕ) (old new : Streams) (taken : List Item) : Type 0 where
+pub record ReportFailed (asked : List Question) (n : ℕ) (old new : Streams) (taken : List Item) : Type 0 where
   pub end : ServeEnd
   pub done : IsDone asked n old.line.link.coming taken end
   pub link_same : new.line.link.faults ≡ old.line.link.faults
@@ -57,7 +57,7 @@ pub record TellFailed (asked : List Question) (n : ℕ) (old new : Streams) (tak
 
 abbrev pub ResolvesBy : List Question → ℕ → Streams → Streams → List Item → ServeEnd → Type 0
 ResolvesBy asked n old new taken ends.LinkFault = LinkFailed asked n old new taken
-ResolvesBy asked n old new taken ends.WriteFault = OutFailed asked old new taken ⊎ TellFailed asked n old new taken
+ResolvesBy asked n old new taken ends.WriteFault = OutFailed asked old new taken ⊎ ReportFailed asked n old new taken
 ResolvesBy asked n old new taken end = WroteAll asked n old new taken end
 
 -- What one result of a link gives: bytes, or one silence.

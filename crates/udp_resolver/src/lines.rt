@@ -5,7 +5,7 @@ ghost use Rattle.udp_resolver.specs.declared.lines.TheConstants.{LONGEST_FATE, L
 ghost use Rattle.uip_edge.specs.Prelude.{sink_view};
 ghost use Rattle.udp_resolver.specs.Fates.{fate_by};
 ghost use Rattle.udp_resolver.specs.Lines.{fate_text, line_of};
-ghost use Rattle.udp_resolver.specs.Standing.{WritesSome};
+ghost use Rattle.udp_resolver.specs.Representing.{WritesSome};
 ghost use Rattle.udp_resolver.specs.Steps.{lines_by};
 
 use crate::fate::Fate;
@@ -64,7 +64,7 @@ fn line_of(name: &Name, fate: Fate) -> Line
 }
 
 /// Writes the line of each name, in order.
-pub(crate) fn tell_all<T: Sink>(
+pub(crate) fn report_all<T: Sink>(
     names: &[Name],
     answers: &[Option<Answer>],
     is_over: bool,

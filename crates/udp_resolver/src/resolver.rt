@@ -4,7 +4,7 @@ ghost use Rattle.std.specs.Prelude.{◌≡◌, length};
 ghost use Rattle.udp_resolver.specs.Prelude.{questions, Resolves, streams};
 
 use crate::MOST_NAMES;
-use crate::lines::tell_all;
+use crate::lines::report_all;
 use crate::run::{Run, ask};
 use arrayvec::ArrayVec;
 use dns_message::{Asking, Name};
@@ -40,7 +40,7 @@ pub fn resolve<L: Link, K: Sink, T: Sink>(
     match end {
         ServeEnd::LinkFault => ServeEnd::LinkFault,
         ServeEnd::WriteFault => ServeEnd::WriteFault,
-        done => match tell_all(names, run.answers.as_slice(), run.clock.given_up, tell) {
+        done => match report_all(names, run.answers.as_slice(), run.clock.given_up, tell) {
             Ok(()) => done,
             Err(Failed) => ServeEnd::WriteFault,
         },

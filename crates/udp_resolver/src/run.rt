@@ -9,7 +9,7 @@ ghost use Rattle.uip_slip.specs.Prelude.{WasFed};
 ghost use Rattle.udp_resolver.specs.Asked.{line_text};
 ghost use Rattle.udp_resolver.specs.Fates.{all_settled, questions};
 ghost use Rattle.udp_resolver.specs.LineEvents.{events};
-ghost use Rattle.udp_resolver.specs.Standing.{Asks, RunRepresents, Learns, TurnsAfter, WritesNext, WritesSome};
+ghost use Rattle.udp_resolver.specs.Representing.{Asks, RunRepresents, Learns, TurnsAfter, WritesNext, WritesSome};
 ghost use Rattle.udp_resolver.specs.Steps.{IsClockAt};
 
 use crate::MOST_NAMES;

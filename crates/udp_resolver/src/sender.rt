@@ -4,7 +4,7 @@ ghost use Rattle.uip_slip.specs.Prelude.{slip_text};
 ghost use Rattle.dns_message.specs.Replies.{query_datagram};
 ghost use Rattle.udp_resolver.specs.Asked.{last_ident, next_ident, query_texts};
 ghost use Rattle.udp_resolver.specs.Fates.{questions};
-ghost use Rattle.udp_resolver.specs.Standing.{WritesSome};
+ghost use Rattle.udp_resolver.specs.Representing.{WritesSome};
 ghost use Rattle.udp_resolver.specs.Steps.{unanswered, unless_answered};
 
 use crate::answers::next_asking;

@@ -35,7 +35,7 @@ struct Row<'a> {
     budget: u64,
     link_fails: &'a [u64],
     out_fails: &'a [u64],
-    tell_fails: &'a [u64],
+    report_fails: &'a [u64],
     end: ServeEnd,
     queries: usize,
     expected: &'a [u8],
@@ -49,7 +49,7 @@ fn row_of<'a>(items: &'a [Item], end: ServeEnd, queries: usize, expected: &'a [u
         budget: u64::MAX,
         link_fails: &[],
         out_fails: &[],
-        tell_fails: &[],
+        report_fails: &[],
         end,
         queries,
         expected,
@@ -96,7 +96,7 @@ fn reported_by(alloc: Global, row: &Row) -> Result<(ServeEnd, MemSink, MemSink),
         row.link_fails.to_vec(alloc)?,
     );
     let mut out = sink(alloc, row.out_fails)?;
-    let mut tell = sink(alloc, row.tell_fails)?;
+    let mut tell = sink(alloc, row.report_fails)?;
     let own = Addr([10, 0, 0, 1]);
     let server = Addr([10, 0, 0, 2]);
     let end = resolve(
@@ -144,7 +144,7 @@ fn silences(alloc: Global, count: usize) -> Result<Vec<Item>, AllocError> {
 }
 
 #[test]
-fn tells_the_address_for_every_cut(rt: HostRuntime) -> Result<(), Fail> {
+fn reports_the_address_for_every_cut(rt: HostRuntime) -> Result<(), Fail> {
     let alloc = rt.alloc();
     let good = framed(alloc, &REPLY)?;
     let mut other = REPLY;
@@ -239,7 +239,7 @@ fn each_fault_has_its_answer(rt: HostRuntime) -> Result<(), Fail> {
         &rt,
         alloc,
         &Row {
-            tell_fails: &[1],
+            report_fails: &[1],
             ..row_of(&good, ServeEnd::WriteFault, 1, b"")
         },
     )

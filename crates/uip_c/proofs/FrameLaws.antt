@@ -1,5 +1,5 @@
 -- Moves on a handle over Ethernet, one after the other, are moves of its device.
-use Rattle.uip_c.proofs.Prelude.{All, ◌≡◌, ℕ, List, [], ◌∷◌, refl, sym, ap, ◌∙◌, subst, IsAddr, IsByte, File, HasSoundScripts, IsLoaded, SiteContent, files_of, is_served, at_every_port, made_of_bytes_by, keeps_page_laws_by, word_calls, words, words_bytes, words_short, Addr, initial_station, Interface, Mac, Network, ether_brings_bytes, ether_frames, AnsweredFrame, AnswersAllFrames, AnswersFrame, AnswersFrameMove, CallsSlot, ChangesNumbers, DoesNothing, FrameCall, FrameMove, Gives, InputsFrame, Makes, handed_of, frame_moves_of, FramesConform, IsFrameOfBytes, keeps_frames, device_stands, frames_exact, same_kept, first_numbers, value_pages, value_spec, write_value, first_words, written_words, EtherRepresents, interface_at, web_frames_sent, web_station_after, DidFrame, DidFrames, EtherAnswers, OpensEtherAs, HandleGives, EtherWeb, IsEther, Kept, NoDevice, OnEther, OnLine}
+use Rattle.uip_c.proofs.Prelude.{All, ◌≡◌, ℕ, List, [], ◌∷◌, refl, sym, ap, ◌∙◌, subst, IsAddr, IsByte, File, HasSoundScripts, IsLoaded, SiteContent, files_of, is_served, at_every_port, made_of_bytes_by, keeps_page_laws_by, word_calls, words, words_bytes, words_short, Addr, initial_station, Interface, Mac, Network, ether_brings_bytes, ether_frames, AnsweredFrame, AnswersAllFrames, AnswersFrame, AnswersFrameMove, CallsSlot, ChangesNumbers, DoesNothing, FrameCall, FrameMove, Gives, InputsFrame, Makes, handed_of, frame_moves_of, FramesConform, IsFrameOfBytes, keeps_frames, device_represents, frames_exact, same_kept, first_numbers, value_pages, value_spec, write_value, first_words, written_words, EtherRepresents, interface_at, web_frames_sent, web_station_after, DidFrame, DidFrames, EtherAnswers, OpensEtherAs, HandleGives, EtherWeb, IsEther, Kept, NoDevice, OnEther, OnLine}
 use Rattle.uip_device.specs.contracts.value_pages.ValuePagesApp.TheImpl.{ghosts}
 use Rattle.frame_device.specs.contracts.ether.EthernetFrames.TheImpl.{ghosts as ether_link}
 
@@ -73,8 +73,8 @@ module _ (files : List File) (own : Addr) (mac : Mac) (network : Network) (all :
   pub f_frames : handed_of all ≡ web_frames_sent files own mac network (frame_moves_of all)
   f_frames = frames_exact ghosts ether_link link (value_spec files) write_value own (first_numbers files) all opened devices.last opens.1.2.fresh devices.answers
 
-  pub f_stands : IsEther (λ d. EtherRepresents files own mac network d (web_station_after files own mac network (frame_moves_of all))) new
-  f_stands =
+  pub f_represents : IsEther (λ d. EtherRepresents files own mac network d (web_station_after files own mac network (frame_moves_of all))) new
+  f_represents =
       let last : EtherWeb = devices.last in
       let fresh = opens.1.2 in
       let kept = same_kept ghosts ether_link link (value_spec files) write_value own (first_numbers files) all opened last fresh.fresh devices.answers in (
@@ -82,7 +82,7 @@ module _ (files : List File) (own : Addr) (mac : Mac) (network : Network) (all :
         devices.is,
         record {
           files_are = ap (λ (site : SiteContent). files_of site) kept ∙ fresh.files_are;
-          station = device_stands ghosts ether_link link (value_spec files) write_value own (first_numbers files) all opened last fresh.fresh devices.answers;
+          station = device_represents ghosts ether_link link (value_spec files) write_value own (first_numbers files) all opened last fresh.fresh devices.answers;
         },
       )
 

@@ -1,5 +1,5 @@
 -- Moves on a handle, one after the other, are moves of its device.
-use Rattle.uip_c.proofs.Prelude.{All, IsAddr, IsByte, File, HasSoundScripts, IsLoaded, SiteContent, files_of, is_served, made_of_bytes_by, keeps_page_laws_by, word_calls, words, words_bytes, words_short, Item, Addr, Call, Calls, CallsForDatagram, Drains, Feeds, Inputs, Answered, Answers, AnswersAll, AnswersMove, Changes, datagrams_handed, left_text_of, lefts_of, line_handed, moves_of, IsOfBytes, CallsConform, Bring, Move, DeviceRepresents, WebDevice, first_numbers, value_spec, value_pages, web_datagrams_sent, web_line_sent, web_node_after, web_output, write_value, answers_nothing, datagrams_reported, line_served, line_view, node_stands, keeps_calls, first_words, written_words, IsLine, Kept, NoDevice, OnEther, OnLine, Did, DidAll, HandleAnswers, HandleGives, OpensAs, left_text_in, lefts_in}
+use Rattle.uip_c.proofs.Prelude.{All, IsAddr, IsByte, File, HasSoundScripts, IsLoaded, SiteContent, files_of, is_served, made_of_bytes_by, keeps_page_laws_by, word_calls, words, words_bytes, words_short, Item, Addr, Call, Calls, CallsForDatagram, Drains, Feeds, Inputs, Answered, Answers, AnswersAll, AnswersMove, Changes, datagrams_handed, left_text_of, lefts_of, line_handed, moves_of, IsOfBytes, CallsConform, Bring, Move, DeviceRepresents, WebDevice, first_numbers, value_spec, value_pages, web_datagrams_sent, web_line_sent, web_node_after, web_output, write_value, answers_nothing, datagrams_reported, line_served, line_view, node_represents, keeps_calls, first_words, written_words, IsLine, Kept, NoDevice, OnEther, OnLine, Did, DidAll, HandleAnswers, HandleGives, OpensAs, left_text_in, lefts_in}
 use Rattle.std.proofs.Common.{◌≡◌, ℕ, List, [], ◌∷◌, ◌++◌, None as NothingLeft, refl, sym, ap, ◌∙◌, subst}
 use Rattle.uip_device.specs.contracts.value_pages.ValuePagesApp.TheImpl.{ghosts}
 use Rattle.uip_device.specs.Calls.{DoesNothing}
@@ -81,8 +81,8 @@ module _ (files : List File) (own : Addr) (all : List Answered) (closed old new 
   pub c_datagrams : datagrams_handed all ≡ web_datagrams_sent files own (moves_of all)
   c_datagrams = datagrams_reported ghosts (value_spec files) write_value (first_numbers files) own all opened devices.last opens.1.2.fresh devices.answers
 
-  pub c_stands : IsLine (λ d. DeviceRepresents files own d (web_node_after files own (moves_of all))) new
-  c_stands =
+  pub c_represents : IsLine (λ d. DeviceRepresents files own d (web_node_after files own (moves_of all))) new
+  c_represents =
       let last : WebDevice = devices.last in
       let fresh = opens.1.2 in
       let kept = same_kept ghosts (value_spec files) write_value (first_numbers files) own all opened last fresh.fresh devices.answers in (
@@ -90,7 +90,7 @@ module _ (files : List File) (own : Addr) (all : List Answered) (closed old new 
         devices.is,
         record {
           files_are = ap (λ (site : SiteContent). files_of site) kept ∙ fresh.files_are;
-          node = node_stands ghosts (value_spec files) write_value (first_numbers files) own all opened last fresh.fresh devices.answers;
+          node = node_represents ghosts (value_spec files) write_value (first_numbers files) own all opened last fresh.fresh devices.answers;
         },
       )
 

@@ -7,7 +7,7 @@ pub use Rattle.device_values.specs.Prelude.{word_calls, words, words_bytes, word
 pub use Rattle.ethernet_arp.specs.declared.mac.Mac.{Mac}
 pub use Rattle.file_tree.specs.Prelude.{HasSoundScripts, IsLoaded, SiteContent, files_of}
 pub use Rattle.frame_device.proofs.KeepLaws.{keeps_frames}
-pub use Rattle.frame_device.proofs.MoveLaws.{device_stands, frames_exact, same_kept}
+pub use Rattle.frame_device.proofs.MoveLaws.{device_represents, frames_exact, same_kept}
 pub use Rattle.frame_device.specs.Prelude.{AnsweredFrame, AnswersAllFrames, AnswersFrame, AnswersFrameMove, CallsSlot, ChangesNumbers, DoesNothing, FrameCall, FrameMove, FramesConform, Gives, InputsFrame, Interface, IsFrameOfBytes, IsFreshFrameDevice, Makes, ether_brings_bytes, ether_frames, frame_moves_of, handed_of, interface_at}
 pub use Rattle.frame_device.specs.declared.network.Network.{Network}
 pub use Rattle.raw_box.proofs.Moving.{Opened, opens_well, gives_parts_well, HeapRow, makes_null_well, takes_parts_well, PartsRow, converts_well, parts_opened}
@@ -23,7 +23,7 @@ pub use Rattle.uip_c.specs.Prelude.{Did, DidAll, DidFrame, DidFrames, EtherAnswe
 pub use Rattle.uip_c.specs.declared.handle.AnyDevice.{AnyDevice}
 pub use Rattle.uip_c.specs.declared.handle.AnyDevice.TheVariants.{Ether, Line}
 pub use Rattle.uip_c.specs.declared.held.Held.{Held}
-pub use Rattle.uip_device.proofs.AnswerLaws.{answers_nothing, datagrams_reported, line_served, line_view, node_stands}
+pub use Rattle.uip_device.proofs.AnswerLaws.{answers_nothing, datagrams_reported, line_served, line_view, node_represents}
 pub use Rattle.uip_device.proofs.KeepLaws.{keeps_calls}
 pub use Rattle.uip_device.proofs.WebLaws.{first_words, written_words}
 pub use Rattle.uip_device.specs.Prelude.{Answered, Answers, AnswersAll, AnswersMove, Bring, Call, Calls, CallsConform, CallsForDatagram, Changes, ChangesNode, DeviceRepresents, Drains, Feeds, Inputs, IsFirstShared, IsOfBytes, IsOfImage, IsSoundWebDevice, Move, NodeRepresents, WebDevice, WebNode, datagrams_handed, first_numbers, left_text_of, lefts_of, line_handed, moves_of, value_pages, value_spec, web_datagrams_sent, web_line_sent, web_node_after, web_output, write_value}

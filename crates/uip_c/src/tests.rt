@@ -170,7 +170,7 @@ fn each_call_is_made_once(rt: HostRuntime) {
 }
 
 #[test]
-fn a_call_without_a_device_says_so(rt: HostRuntime) {
+fn a_call_without_a_device_reports_it(rt: HostRuntime) {
     let alloc = rt.alloc();
     let mut device = no_device(alloc);
     check_refused(&rt, alloc, &mut device, NO_DEVICE);

@@ -1,5 +1,5 @@
 -- The output of moves, one after the other.
-use Rattle.uip_device.proofs.Prelude.{◌≡◌, ℕ, Bool, true, false, List, [], ◌∷◌, ◌++◌, Option, None, if◌then◌else◌, refl, sym, ap, ◌∙◌, append-nil, append_assoc, subst, AppSpec, Ghosts, datagram_in, Item, WasFed, Reply, AbstractNode, initial_node, Addr, initial_station, output_by, slip_medium, text_of, IsNode, said_on_line, Call, DoesNothing, Drains, bytes_of_call, events_by, is_by_datagram, Answered, Answers, AnswersAll, AnswersMove, HasDelivered, IsFreshDevice, datagrams_handed, left_text_of, line_handed, moves_of, text_to_come, Bring, Gives, Makes, Move, Writing, bytes_of_move, goes_by_datagram, run_move, datagrams_sent, line_sent, node_reached, HandsOut, SendsOver, datagram_sent, Device}
+use Rattle.uip_device.proofs.Prelude.{◌≡◌, ℕ, Bool, true, false, List, [], ◌∷◌, ◌++◌, Option, None, if◌then◌else◌, refl, sym, ap, ◌∙◌, append-nil, append_assoc, subst, AppSpec, Ghosts, datagram_in, Item, WasFed, Reply, AbstractNode, initial_node, Addr, initial_station, output_by, slip_medium, text_of, IsNode, sent_text_on_line, Call, DoesNothing, Drains, bytes_of_call, events_by, is_by_datagram, Answered, Answers, AnswersAll, AnswersMove, HasDelivered, IsFreshDevice, datagrams_handed, left_text_of, line_handed, moves_of, text_to_come, Bring, Gives, Makes, Move, Writing, bytes_of_move, goes_by_datagram, run_move, datagrams_sent, line_sent, node_reached, HandsOut, SendsOver, datagram_sent, Device}
 use Rattle.uip_node.specs.declared.node.Node.{Node}
 use Rattle.uip_device.proofs.CallLaws.{line_text}
 use Rattle.uip_device.proofs.SendLaws.{by_datagram, sends_none}
@@ -89,13 +89,13 @@ module _ {A S : Type 0} (g : Ghosts A S) where
         let b = more.0 in
         let v = goes_by_datagram it.move in
         let first : MovesOn before it.move a b it.handed n = moves_on before it.move a b it.handed n represented delivered more.1 in
-        let behind = before ++ bytes_of_move it.move in
+        let the_rest_after = before ++ bytes_of_move it.move in
         let here : AbstractNode = (run_move m g.served gives own before it.move n).node in
         let replies = (run_move m g.served gives own before it.move n).sent in
-        let rest = goes behind all b c here first.represented first.input more.2 in
+        let rest = goes the_rest_after all b c here first.represented first.input more.2 in
         record {
-          line = line_step v own replies (left_text_of a) it.handed (left_text_of b) (line_sent m g.served gives own behind (moves_of all) here) (line_handed all) (left_text_of c) first.hands rest.line;
-          datagrams = datagram_step v own replies (left_text_of a) it.handed (left_text_of b) (datagrams_handed all) (datagrams_sent m g.served gives own behind (moves_of all) here) first.hands rest.datagrams;
+          line = line_step v own replies (left_text_of a) it.handed (left_text_of b) (line_sent m g.served gives own the_rest_after (moves_of all) here) (line_handed all) (left_text_of c) first.hands rest.line;
+          datagrams = datagram_step v own replies (left_text_of a) it.handed (left_text_of b) (datagrams_handed all) (datagrams_sent m g.served gives own the_rest_after (moves_of all) here) first.hands rest.datagrams;
           represented = rest.represented;
           kept = rest.kept ∙ first.kept;
         }
@@ -110,8 +110,8 @@ module _ {A S : Type 0} (g : Ghosts A S) where
     pub datagrams_reported : datagrams_handed all ≡ datagrams_sent m g.served gives own [] (moves_of all) (initial_node own numbers)
     datagrams_reported = whole.datagrams
 
-    pub node_stands : IsNode g m own new.node (node_reached m g.served gives own [] (moves_of all) (initial_node own numbers))
-    node_stands = whole.represented
+    pub node_represents : IsNode g m own new.node (node_reached m g.served gives own [] (moves_of all) (initial_node own numbers))
+    node_represents = whole.represented
 
     pub same_kept : g.config new.node.shared ≡ g.config old.node.shared
     same_kept = whole.kept
@@ -121,4 +121,4 @@ module _ {A S : Type 0} (g : Ghosts A S) where
         sym (append-nil (line_handed all)) ∙ ap (λ l. line_handed all ++ l) (sym (none_left new none))
         ∙ line_view
         ∙ line_text m g.served gives own pace items (moves_of all) (initial_node own numbers) bring
-        ∙ sym (said_on_line m g.served own pace items (initial_station own numbers))
+        ∙ sym (sent_text_on_line m g.served own pace items (initial_station own numbers))

@@ -1,5 +1,5 @@
 -- The names that the proofs of this crate cite: of std, of the crates below, and of its own definitions. Declares nothing.
-pub use Rattle.app_events.specs.Prelude.{AppSpec, CanSay, IsAddr, IsByte, IsPaged, IsRepresented, IsU32, Pages, AppState}
+pub use Rattle.app_events.specs.Prelude.{AppSpec, CanSupply, IsAddr, IsByte, IsPaged, IsRepresented, IsU32, Pages, AppState}
 pub use Rattle.app_events.specs.declared.app.App.{Ghosts}
 pub use Rattle.device_values.specs.Prelude.{no_values, record_text, value_given, words}
 pub use Rattle.file_tree.specs.Prelude.{AreApart, SiteContent, files_of}
@@ -18,7 +18,7 @@ pub use Rattle.protosocket.specs.declared.stops.Stops.TheVariants.{Space, SpaceO
 pub use Rattle.serve_loop.proofs.ByteLaws.{slip_brings_bytes}
 pub use Rattle.serve_loop.proofs.NodeLaws.{node_on, node_step}
 pub use Rattle.serve_loop.proofs.RunLaws.{run-text-append, text_of-joined}
-pub use Rattle.serve_loop.proofs.SlipServeLaws.{said_on_line}
+pub use Rattle.serve_loop.proofs.SlipServeLaws.{sent_text_on_line}
 pub use Rattle.serve_loop.specs.Prelude.{CarriesBytes, IsNode, beat, came_by, event_by, events_after, initial_station, is_beat, line_events, output_by, slip_medium, text_for, text_of}
 pub use Rattle.site_image.specs.Prelude.{File, file_named, has_name}
 pub use Rattle.std.proofs.Common.{Bool, List, None, Option, Some, [], ap, append-nil, append_assoc, arith, drop, false, get_or, if◌then◌else◌, inl, inr, length, length-append, length-drop, length-take, lit<, map, option_map, refl, replicate, subst, sym, take, true, ℕ, ◌*◌, ◌++◌, ◌+◌, ◌-◌, ◌<◌, ◌∙◌, ◌∷◌, ◌≡◌, ◌≤◌, true≢false, find, cond, ◌||◌, position}

@@ -6,7 +6,7 @@ use Rattle.std.proofs.lemmas.List.Quantifiers.{position-Some}
 use Rattle.std.proofs.lemmas.Slice.Eq.{bytes_eq-Decides}
 use Rattle.generators.specs.Prelude.{ScriptFunctions}
 use Rattle.httpd.proofs.Compacting.{word_open}
-use Rattle.httpd.specs.Hearing.{ReceivesMethod}
+use Rattle.httpd.specs.Reception.{ReceivesMethod}
 use Rattle.httpd.specs.Places.{IsFound}
 use Rattle.httpd.specs.Reply.{found_file}
 use Rattle.httpd.specs.declared.compact.CompactPages.TheVariants as compact

@@ -127,7 +127,7 @@ impl App for ValuePages {
     ghost use Rattle.std.specs.Prelude.{◌++◌};
     ghost use Rattle.file_tree.specs.Site.{SiteContent, files_of};
     ghost use Rattle.web_pages.specs.Serving.{is_served};
-    ghost use Rattle.web_pages.specs.WebMeaning.{web_spec_by};
+    ghost use Rattle.web_pages.specs.WebSpec.{web_spec_by};
     ghost use Rattle.web_pages.specs.Lemmas.WebLaws.{web_lawful, web_starts};
     ghost use Rattle.httpd.specs.Compact.{CompactRepresent, pages_kept};
     ghost use Rattle.httpd.specs.Lemmas.SameLeft.{same_left_by};

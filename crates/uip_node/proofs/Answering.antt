@@ -36,10 +36,10 @@ pub speaks : {A S : Type 0} (g : Ghosts A S) (m : AppSpec) (node : Node A S) (be
     IsSpoken node.addr o.connection.sockets ((before.ident + 1) % 65536) (segment_of m o.connection step) result node.packet → result ≡ Some len →
     Steps g node (Some len) (happened m n event slot old o)
 unfolding happened
-speaks g m node before len n event slot old o step result addr iss before_stands counts meets spoken is =
+speaks g m node before len n event slot old o step result addr iss before_represents counts meets spoken is =
     spoken_by g node len ((before.ident + 1) % 65536) n event slot o (gone_by old o.connection) (segment_of m o.connection o.step) result addr iss
     (subst (λ (s : Step). CountsRepresent node.counts (record { event = event; answer = Spoke (is_again s) } ∷ n.history)) meets.asked counts)
-    (next_ident before event (is_again o.step) n.history before_stands) meets.slots meets.counted
+    (next_ident before event (is_again o.step) n.history before_represents) meets.slots meets.counted
     (subst (λ (s : Step). IsSpoken node.addr o.connection.sockets ((before.ident + 1) % 65536) (segment_of m o.connection s) result node.packet) meets.asked spoken) is refl
 
 silent_by : {A S : Type 0} (g : Ghosts A S) (node : Node A S) (id : ℕ) (n : AbstractNode) (event : Event) (slot : ℕ) (o : Outcome) (gone : Option Connection) (output : Option PlainSegment) (result : Option ℕ) →
@@ -54,12 +54,12 @@ silent_by g node id n event slot o gone None result addr iss counts slots counte
 silent_by g node id n event slot o gone (Some s) result addr iss counts slots counted spoken is =
     let e = sym is ∙ spoken.answer in cc
 
-pub says_nothing : {A S : Type 0} (g : Ghosts A S) (m : AppSpec) (node : Node A S) (id : ℕ) (n : AbstractNode) (event : Event) (slot : ℕ) (old : Connection) (o : Outcome) (step : Step) (result : Option ℕ) →
+pub sends_nothing : {A S : Type 0} (g : Ghosts A S) (m : AppSpec) (node : Node A S) (id : ℕ) (n : AbstractNode) (event : Event) (slot : ℕ) (old : Connection) (o : Outcome) (step : Step) (result : Option ℕ) →
     node.addr ≡ n.addr → node.table.iss ≡ initial_number (seen event n.history) → CountsRepresent node.counts (seen event n.history) →
     MeetsAt g (g.config node.shared) node.table.conns (g.numbers node.shared) step n.connections slot o →
     IsSpoken node.addr o.connection.sockets id (segment_of m o.connection step) result node.packet → result ≡ None →
     Steps g node None (happened m n event slot old o)
 unfolding happened
-says_nothing g m node id n event slot old o step result addr iss counts meets spoken is =
+sends_nothing g m node id n event slot old o step result addr iss counts meets spoken is =
     silent_by g node id n event slot o (gone_by old o.connection) (segment_of m o.connection o.step) result addr iss counts meets.slots meets.counted
     (subst (λ (s : Step). IsSpoken node.addr o.connection.sockets id (segment_of m o.connection s) result node.packet) meets.asked spoken) is

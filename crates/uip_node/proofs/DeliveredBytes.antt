@@ -12,9 +12,9 @@ module _ (m : AppSpec) (bytes : SendsBytes m) where
   abbrev Out : Outcome → Type 0
   Out o = DeliveredBytes o.connection
 
-  hears_bytes : (numbers : List ℕ) (p : AppState) (piece : List ℕ) → All IsByte p.input → All IsByte piece → All IsByte (delivers_text m numbers p piece).part.input
-  hears_bytes numbers p [] h are = h
-  hears_bytes numbers p (x ∷ xs) h are = bytes.newdata numbers p (x ∷ xs) h are
+  receives_bytes : (numbers : List ℕ) (p : AppState) (piece : List ℕ) → All IsByte p.input → All IsByte piece → All IsByte (delivers_text m numbers p piece).part.input
+  receives_bytes numbers p [] h are = h
+  receives_bytes numbers p (x ∷ xs) h are = bytes.newdata numbers p (x ∷ xs) h are
 
   pub asked_bytes : (at : Connection → Now) (o : Outcome) → Out o → Out (asked m at o)
   asked_bytes at o h =
@@ -27,7 +27,7 @@ module _ (m : AppSpec) (bytes : SendsBytes m) where
   established_bytes : (acked : Bool) (c : Connection) (numbers : List ℕ) (s : PlainSegment) → All IsByte s.text → DeliveredBytes c → Out (in_established m acked c numbers s)
   unfolding in_established peer_closes stays_established
   established_bytes acked c numbers s are h =
-      let x = hears_bytes numbers c.part s.text h are in
+      let x = receives_bytes numbers c.part s.text h are in
       choose Out (has_fin s.flags) _ _
       (λ e. choose Out (ltb 0 c.len) _ _ (λ f. x) (λ f. x))
       (λ e. choose Out (not acked && not (has_text s)) _ _ (λ f. x) (λ f. choose Out (ltb 0 c.len) _ _ (λ g. x) (λ g. x)))
@@ -36,7 +36,7 @@ module _ (m : AppSpec) (bytes : SendsBytes m) where
   unfolding fin_acked fin_waits
   by_state_bytes Closed acked c numbers s are h = h
   by_state_bytes SynRcvd true c numbers s are h =
-      (let start = m.connected numbers c.sockets.own_port.0 in hears_bytes start.numbers start.part s.text (bytes.connected numbers c.sockets.own_port.0) are)
+      (let start = m.connected numbers c.sockets.own_port.0 in receives_bytes start.numbers start.part s.text (bytes.connected numbers c.sockets.own_port.0) are)
   by_state_bytes SynRcvd false c numbers s are h = h
   by_state_bytes Established true c numbers s are h =
       established_bytes true (with_part (m.acked numbers c.part c.len).part (rests c)) (m.acked numbers c.part c.len).numbers s are (bytes.acked numbers c.part c.len h)
@@ -73,15 +73,15 @@ module _ (m : AppSpec) (bytes : SendsBytes m) where
 
 -- an application with pages of bytes sends bytes
 module _ (m : AppSpec) (pages : Pages) (lawful : IsPaged m pages) where
-  like_heard : (p q : AppState) → q.input ≡ p.input → All IsByte p.input → All IsByte q.input
-  like_heard p q e h = subst (λ (l : List ℕ). All IsByte l) (sym e) h
+  like_received : (p q : AppState) → q.input ≡ p.input → All IsByte p.input → All IsByte q.input
+  like_received p q e h = subst (λ (l : List ℕ). All IsByte l) (sym e) h
 
   pub page_bytes : HasBytes pages → SendsBytes m
   page_bytes bytes = record {
     output = λ p h k. subst (λ (l : List ℕ). All IsByte l) (sym (lawful.output p)) (bytes p.input p.snapshots h k);
     connected = λ numbers port. subst (λ (l : List ℕ). All IsByte l) (sym (lawful.connected_input numbers port)) (all_nil IsByte);
     newdata = λ numbers p piece h are. subst (λ (l : List ℕ). All IsByte l) (sym (lawful.newdata_input numbers p piece)) (All-append IsByte p.input piece h are);
-    prepare = λ numbers p now h. like_heard p (m.prepare numbers p now) (lawful.prepare_input numbers p now) h;
-    acked = λ numbers p n h. like_heard p (m.acked numbers p n).part (lawful.acked_input numbers p n) h;
-    polled = λ numbers p h. like_heard p (m.polled numbers p).part (lawful.polled_same numbers p).input h;
+    prepare = λ numbers p now h. like_received p (m.prepare numbers p now) (lawful.prepare_input numbers p now) h;
+    acked = λ numbers p n h. like_received p (m.acked numbers p n).part (lawful.acked_input numbers p n) h;
+    polled = λ numbers p h. like_received p (m.polled numbers p).part (lawful.polled_same numbers p).input h;
   }

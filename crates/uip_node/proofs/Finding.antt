@@ -3,7 +3,7 @@
 use Rattle.uip_node.proofs.Prelude.{ℕ, zero, suc, ◌≡◌, ◌+◌, ◌<◌, ◌&&◌, ◌==◌, Bool, true, false, not, max, List, [], ◌∷◌, length, Option, Some, None, ◌⊎◌, inl, inr, refl, sym, ap, ◌∙◌, subst, arith, nat_lt, if◌then◌else◌, slice_get, position, bytes_eq, position_or_len, lt-ltb, position-Some, get_or_from_slice_get, Ghosts, is_live, is_time_wait, State, TimeWait, is_at, has_waited, longest_wait, slot_by, Conn, Connection, Sockets, is_resting, serves, same_sockets, HasSoundNumbers, IsSound, LenFits, ConnRepresents, IsLike, PlainSegment, AbstractNode, arrives, arrives_at, opens, slot_for_syn, AllWellFormed, SlotsRepresent, seen, counters, Arrived, Represents, Steps, Node, option_or}
 use Rattle.tcp_table.specs.Slots as table
 use Rattle.tcp_machine.proofs.States.{by_state}
-use Rattle.uip_node.proofs.Stepping.{stands_later}
+use Rattle.uip_node.proofs.Stepping.{represents_later}
 use Rattle.uip_node.proofs.Twice.{recounted}
 
 -- place by place the same
@@ -159,7 +159,7 @@ pub arrived : {A S : Type 0} (g : Ghosts A S) (now : Node A S) (n : AbstractNode
     Steps g node result (arrives (g.app_spec (g.config now.shared)) g.served n s seg)
 arrived g now n s seg o net node result h here e steps =
     arrives_by g (g.config now.shared) now.table.conns n s seg o node result h.slots here
-    (steps (stands_later g now now.packet (record now.counts { net = net }) n n.history (seen (Arrived s seg) n.history) n.history h h.iss (recounted (Arrived s seg) n.history now.counts net refl h.counts e)))
+    (steps (represents_later g now now.packet (record now.counts { net = net }) n n.history (seen (Arrived s seg) n.history) n.history h h.iss (recounted (Arrived s seg) n.history now.counts net refl h.counts e)))
 
 -- a plain SYN takes the slot that the code's table has for it
 pub opens_by : {A S : Type 0} (g : Ghosts A S) (k : g.Config) (cs : List (Conn A)) (n : AbstractNode) (s : Sockets) (seg : PlainSegment) (o : Option ℕ) (node : Node A S) (result : Option ℕ) →

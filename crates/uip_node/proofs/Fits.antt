@@ -87,13 +87,13 @@ module _ (m : AppSpec) (steady : IsSteady m) where
     port = subst (λ (x : Sockets). x.peer_port.0 < 65536) (sym s) f.port;
   }
 
-  hears_captures : (numbers : List ℕ) (p : AppState) (text : List ℕ) → (delivers_text m numbers p text).part.snapshots ≡ p.snapshots
-  hears_captures numbers p [] = refl
-  hears_captures numbers p (x ∷ xs) = steady.newdata_snapshots numbers p (x ∷ xs)
+  receives_captures : (numbers : List ℕ) (p : AppState) (text : List ℕ) → (delivers_text m numbers p text).part.snapshots ≡ p.snapshots
+  receives_captures numbers p [] = refl
+  receives_captures numbers p (x ∷ xs) = steady.newdata_snapshots numbers p (x ∷ xs)
 
-  hears_numbers : (numbers : List ℕ) (p : AppState) (text : List ℕ) → All IsU32 numbers → All IsU32 (delivers_text m numbers p text).numbers
-  hears_numbers numbers p [] h = h
-  hears_numbers numbers p (x ∷ xs) h = steady.newdata_numbers numbers p (x ∷ xs) h
+  receives_numbers : (numbers : List ℕ) (p : AppState) (text : List ℕ) → All IsU32 numbers → All IsU32 (delivers_text m numbers p text).numbers
+  receives_numbers numbers p [] h = h
+  receives_numbers numbers p (x ∷ xs) h = steady.newdata_numbers numbers p (x ∷ xs) h
 
   reported_numbers : (how : Ending) (st : State) (p : AppState) (numbers : List ℕ) → All IsU32 numbers → All IsU32 (reported_end m how st p numbers)
   reported_numbers how Established p numbers h = steady.ended_numbers numbers p how h
@@ -138,19 +138,19 @@ module _ (m : AppSpec) (steady : IsSteady m) where
   closing_fits : (c : Connection) (numbers : List ℕ) (s : PlainSegment) → FitConn c → All IsU32 numbers → FitOut (peer_closes m c numbers s)
   unfolding peer_closes
   closing_fits c numbers s f n =
-      let x : (delivers_text m numbers c.part s.text).part.snapshots ≡ c.part.snapshots = hears_captures numbers c.part s.text in
+      let x : (delivers_text m numbers c.part s.text).part.snapshots ≡ c.part.snapshots = receives_captures numbers c.part s.text in
       let d : Connection = in_state CloseWait (with_window s.window (with_part (delivers_text m numbers c.part s.text).part (takes (length s.text + 1) c))) in
       let g : FitConn d = fit_like c d refl x (λ r. absurd (cc)) f in
-      let k : All IsU32 (delivers_text m numbers c.part s.text).numbers = hears_numbers numbers c.part s.text n in
+      let k : All IsU32 (delivers_text m numbers c.part s.text).numbers = receives_numbers numbers c.part s.text n in
       choose (λ (o : Outcome). FitOut o) (ltb 0 c.len) _ _ (λ e. record { conn = g; numbers = k }) (λ e. record { conn = g; numbers = k })
 
   going_fits : (acked : Bool) (c : Connection) (numbers : List ℕ) (s : PlainSegment) → FitConn c → All IsU32 numbers → FitOut (stays_established m acked c numbers s)
   unfolding stays_established
   going_fits acked c numbers s f n =
-      let x : (delivers_text m numbers c.part s.text).part.snapshots ≡ c.part.snapshots = hears_captures numbers c.part s.text in
+      let x : (delivers_text m numbers c.part s.text).part.snapshots ≡ c.part.snapshots = receives_captures numbers c.part s.text in
       let d : Connection = with_window s.window (with_part (delivers_text m numbers c.part s.text).part (takes (length s.text) c)) in
       let g : FitConn d = fit_like c d refl x f.rest f in
-      let k : All IsU32 (delivers_text m numbers c.part s.text).numbers = hears_numbers numbers c.part s.text n in
+      let k : All IsU32 (delivers_text m numbers c.part s.text).numbers = receives_numbers numbers c.part s.text n in
       choose (λ (o : Outcome). FitOut o) (not acked && not (has_text s)) _ _ (λ e. record { conn = g; numbers = k })
       (λ e. choose (λ (o : Outcome). FitOut o) (ltb 0 c.len) _ _ (λ i. record { conn = g; numbers = k }) (λ i. record { conn = g; numbers = k }))
 
@@ -166,11 +166,11 @@ module _ (m : AppSpec) (steady : IsSteady m) where
   by_state_fits Closed acked c numbers s f n = record { conn = f; numbers = n }
   by_state_fits SynRcvd true c numbers s f n =
       let port : ℕ = c.sockets.own_port.0 in
-      let x : (delivers_text m (m.connected numbers port).numbers (m.connected numbers port).part s.text).part.snapshots ≡ (m.connected numbers port).part.snapshots = hears_captures (m.connected numbers port).numbers (m.connected numbers port).part s.text in
+      let x : (delivers_text m (m.connected numbers port).numbers (m.connected numbers port).part s.text).part.snapshots ≡ (m.connected numbers port).part.snapshots = receives_captures (m.connected numbers port).numbers (m.connected numbers port).part s.text in
       let none : (delivers_text m (m.connected numbers port).numbers (m.connected numbers port).part s.text).part.snapshots ≡ [] = x ∙ steady.connected_snapshots numbers port in
       record {
         conn = record { rest = λ r. absurd (cc); snapshots = subst (λ l. All IsSnapshot l) (sym none) (all_nil IsSnapshot); addr = f.addr; port = f.port };
-        numbers = hears_numbers (m.connected numbers port).numbers (m.connected numbers port).part s.text (steady.connected_numbers numbers port n);
+        numbers = receives_numbers (m.connected numbers port).numbers (m.connected numbers port).part s.text (steady.connected_numbers numbers port n);
       }
   by_state_fits SynRcvd false c numbers s f n = record { conn = f; numbers = n }
   by_state_fits Established true c numbers s f n =

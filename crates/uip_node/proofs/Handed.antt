@@ -9,9 +9,9 @@ module _ (m : AppSpec) (pages : Pages) (lawful : IsPaged m pages) where
     pub snapshots : q.snapshots ≡ p.snapshots
     pub acked : q.acked ≡ p.acked
 
-  pub hears_is : (numbers : List ℕ) (p : AppState) (text : List ℕ) → Received p (delivers_text m numbers p text).part text
-  hears_is numbers p [] = record { input = sym (append_nothing p.input); snapshots = refl; acked = refl }
-  hears_is numbers p (x ∷ xs) = record { input = lawful.newdata_input numbers p (x ∷ xs); snapshots = lawful.newdata_snapshots numbers p (x ∷ xs); acked = lawful.newdata_acked numbers p (x ∷ xs) }
+  pub receives_is : (numbers : List ℕ) (p : AppState) (text : List ℕ) → Received p (delivers_text m numbers p text).part text
+  receives_is numbers p [] = record { input = sym (append_nothing p.input); snapshots = refl; acked = refl }
+  receives_is numbers p (x ∷ xs) = record { input = lawful.newdata_input numbers p (x ∷ xs); snapshots = lawful.newdata_snapshots numbers p (x ∷ xs); acked = lawful.newdata_acked numbers p (x ∷ xs) }
 
   -- taking captures
   pub record Prepared (p q : AppState) : Type 0 where

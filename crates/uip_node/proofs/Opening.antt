@@ -31,16 +31,16 @@ from_replicate zero i x y h = cc
 from_replicate (suc n) zero x y h = cc
 from_replicate (suc n) (suc i) x y h = from_replicate n i x y h
 
-closed_stands : {A S : Type 0} (g : Ghosts A S) (k : g.Config) (c : Conn A) (a : Connection) → c.state ≡ Closed → a ≡ closed → ConnRepresents g k c a
-closed_stands g k c a h e =
+closed_represents : {A S : Type 0} (g : Ghosts A S) (k : g.Config) (c : Conn A) (a : Connection) → c.state ≡ Closed → a ≡ closed → ConnRepresents g k c a
+closed_represents g k c a h e =
     let state : a.state ≡ Closed = ap (λ (b : Connection). b.state) e in
     record {
       numbers = record { state = h ∙ sym state; like = λ live. absurd (not_both (is_live a.state) (ap is_live state) live) };
       part = λ open_to_it. absurd (not_both (is_open a.state) (ap is_open state) open_to_it);
     }
 
-pub all_stand : {A S : Type 0} (g : Ghosts A S) (k : g.Config) (cs : List (Conn A)) → All (λ (c : Conn A). c.state ≡ Closed) cs → length cs ≡ 10 → SlotsRepresent g k cs (replicate 10 closed)
-all_stand {A} g k cs all ten = record {
+pub all_represent : {A S : Type 0} (g : Ghosts A S) (k : g.Config) (cs : List (Conn A)) → All (λ (c : Conn A). c.state ≡ Closed) cs → length cs ≡ 10 → SlotsRepresent g k cs (replicate 10 closed)
+all_represent {A} g k cs all ten = record {
   same_length = sym ten;
-  each = λ i c a at there. closed_stands g k c a (all_at (λ (d : Conn A). d.state ≡ Closed) cs i c all at) (from_replicate 10 i closed a there);
+  each = λ i c a at there. closed_represents g k c a (all_at (λ (d : Conn A). d.state ≡ Closed) cs i c all at) (from_replicate 10 i closed a there);
 }

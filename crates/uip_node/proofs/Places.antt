@@ -16,8 +16,8 @@ others_stay cs i d j c other h =
 pub is_in_after : {A : Type 0} (P : Conn A → Type 0) (cs : List (Conn A)) (i : ℕ) (d : Conn A) → P d → IsIn (slice_set cs i d) i P
 is_in_after P cs i d here c h = subst P (sym (get_set_same cs i d c h)) here
 
-pub stands_after : {A S : Type 0} (g : Ghosts A S) (k : g.Config) (cs : List (Conn A)) (abstracts : List Connection) (i : ℕ) (d : Conn A) (b : Connection) → SlotsRepresent g k cs abstracts → ConnRepresents g k d b → SlotsRepresent g k (slice_set cs i d) (slice_set abstracts i b)
-stands_after {A} g k cs abstracts i d b all here = record {
+pub represents_after : {A S : Type 0} (g : Ghosts A S) (k : g.Config) (cs : List (Conn A)) (abstracts : List Connection) (i : ℕ) (d : Conn A) (b : Connection) → SlotsRepresent g k cs abstracts → ConnRepresents g k d b → SlotsRepresent g k (slice_set cs i d) (slice_set abstracts i b)
+represents_after {A} g k cs abstracts i d b all here = record {
   same_length = length-set abstracts i b ∙ (all.same_length ∙ sym (length-set cs i d));
   each = λ j c a hc ha.
       elim (get_after_set cs i j d c hc) [
@@ -35,7 +35,7 @@ stands_after {A} g k cs abstracts i d b all here = record {
 
 pub meets_after : {A S : Type 0} (g : Ghosts A S) (k : g.Config) (cs : List (Conn A)) (abstracts : List Connection) (i : ℕ) (d : Conn A) (ns : List ℕ) (step : Step) (o : Outcome) → SlotsRepresent g k cs abstracts → Meets g k d ns step o → ((step ≡ Step.Drop → ⊥) → IsNamed d o.connection) → MeetsAt g k (slice_set cs i d) ns step abstracts i o
 meets_after g k cs abstracts i d ns step o all here name = record {
-  slots = stands_after g k cs abstracts i d o.connection all here.connection;
+  slots = represents_after g k cs abstracts i d o.connection all here.connection;
   counted = here.counted;
   asked = here.asked;
   named = λ speaks. is_in_after (λ c. IsNamed c o.connection) cs i d (name speaks);

@@ -1,5 +1,5 @@
 -- The names that the proofs of this crate cite: of std, of the crates below, and of its own definitions. Declares nothing.
-pub use Rattle.app_events.specs.Prelude.{AppSpec, AppState, CanSay, CanSend, Grows, IsAddr, IsByte, IsNow, IsPaged, IsPrefixOf, IsRow, IsSnapshot, IsU32, MayWant, Pages, Snapshot, fixed_spec, hello, is_live, is_time_wait, text_left}
+pub use Rattle.app_events.specs.Prelude.{AppSpec, AppState, CanSupply, CanSend, Grows, IsAddr, IsByte, IsNow, IsPaged, IsPrefixOf, IsRow, IsSnapshot, IsU32, MayWant, Pages, Snapshot, fixed_spec, hello, is_live, is_time_wait, text_left}
 pub use Rattle.app_events.specs.declared.app.App.{Ghosts}
 pub use Rattle.app_events.specs.declared.ending.Ending.{Ending}
 pub use Rattle.app_events.specs.declared.now.Now.{Now}
@@ -28,7 +28,7 @@ pub use Rattle.std.proofs.lemmas.Slice.Eq.{bytes_eq-Decides}
 pub use Rattle.std.specs.List.{All, list_any, position_from, position_or_len, range_with_len}
 pub use Rattle.std.specs.Option.{option_map_or, option_or}
 pub use Rattle.std.specs.Prelude.{IsSome, bytes_eq, is_some, option_map, slice_get, slice_set}
-pub use Rattle.tcp_machine.proofs.Saying.{open_lives}
+pub use Rattle.tcp_machine.proofs.Transmission.{open_lives}
 pub use Rattle.tcp_machine.specs.Prelude.{CanBeAsked, ConnRepresents, Connection, HasSoundNumbers, IsAnswer, IsLike, IsSound, LenFits, Meets, Outcome, Rests, SameNumbers, SameSockets, Sockets, StepFits, accept, accepted, after_own_fin, ask, ask_prepared, asked, asked_for, bare_ack, by_beat, by_state, closed, closes, count_of, does_as_wanted, fin_of, first_mss, grows_older, has_text, delivers_text, in_state, is_acked, is_again, is_open, is_out_of_order, is_plain_syn, is_resting, leaves, limit_of, occupies_sequence_space, on_tick, outstanding, peer_has_closed, plain, polls, prepared, rcv_nxt, reset_for_no_connection, reset_of, rests, row_of, rows_from, same_sockets, segment_of, serves, snd_una, syn_ack, takes, text_segment, tick_by, reported_end, tries_of, waits_for_ack, with_part, with_window}
 unfoldable pub use Rattle.tcp_machine.specs.Prelude.{fin_acked, fin_waits, idles, in_established, on_segment, peer_closes, rests_on, stays_established, ticks_established}
 pub use Rattle.tcp_machine.specs.declared.step.Step.{Step}

@@ -36,8 +36,8 @@ pick true x y z f g = f refl
 pick false x y z f g = g refl
 
 -- the row of a connection is that of the abstract one
-row_stands : {A S : Type 0} (g : Ghosts A S) (k : g.Config) (slot : ℕ) (c : Conn A) (a : Connection) → ConnRepresents g k c a → is_live a.state ≡ true → row_in slot c ≡ row_of slot a
-row_stands g k slot c a h live =
+row_represents : {A S : Type 0} (g : Ghosts A S) (k : g.Config) (slot : ℕ) (c : Conn A) (a : Connection) → ConnRepresents g k c a → is_live a.state ≡ true → row_in slot c ≡ row_of slot a
+row_represents g k slot c a h live =
     let l = h.numbers.like live in
     let peer = l.peer in
     let port = l.peer_port in
@@ -53,21 +53,21 @@ both : (b : Bool) (x y : Row) (xs ys : List Row) → (b ≡ true → x ≡ y) �
 both true x y xs ys e f = let g = e refl in cc
 both false x y xs ys e f = f
 
-tail_stands : {A S : Type 0} (g : Ghosts A S) (k : g.Config) (c : Conn A) (cs : List (Conn A)) (a : Connection) (abstracts : List Connection) → SlotsRepresent g k (c ∷ cs) (a ∷ abstracts) → SlotsRepresent g k cs abstracts
-tail_stands g k c cs a abstracts h = record {
+tail_represents : {A S : Type 0} (g : Ghosts A S) (k : g.Config) (c : Conn A) (cs : List (Conn A)) (a : Connection) (abstracts : List Connection) → SlotsRepresent g k (c ∷ cs) (a ∷ abstracts) → SlotsRepresent g k cs abstracts
+tail_represents g k c cs a abstracts h = record {
   same_length = omega (arith, h.same_length);
   each = λ i d b e f. h.each (suc i) d b e f;
 }
 
-pub rows_stand : {A S : Type 0} (g : Ghosts A S) (k : g.Config) (slot : ℕ) (cs : List (Conn A)) (abstracts : List Connection) → SlotsRepresent g k cs abstracts → live_rows slot cs ≡ rows_from slot abstracts
-rows_stand g k slot [] [] h = refl
-rows_stand g k slot [] (a ∷ abstracts) h = absurd (omega (arith, h.same_length))
-rows_stand g k slot (c ∷ cs) [] h = absurd (omega (arith, h.same_length))
-rows_stand g k slot (c ∷ cs) (a ∷ abstracts) h =
+pub rows_represent : {A S : Type 0} (g : Ghosts A S) (k : g.Config) (slot : ℕ) (cs : List (Conn A)) (abstracts : List Connection) → SlotsRepresent g k cs abstracts → live_rows slot cs ≡ rows_from slot abstracts
+rows_represent g k slot [] [] h = refl
+rows_represent g k slot [] (a ∷ abstracts) h = absurd (omega (arith, h.same_length))
+rows_represent g k slot (c ∷ cs) [] h = absurd (omega (arith, h.same_length))
+rows_represent g k slot (c ∷ cs) (a ∷ abstracts) h =
     let head = h.each 0 c a refl refl in
-    let rest = rows_stand g k (slot + 1) cs abstracts (tail_stands g k c cs a abstracts h) in
+    let rest = rows_represent g k (slot + 1) cs abstracts (tail_represents g k c cs a abstracts h) in
     ap (λ (s : State). if is_live s then row_in slot c ∷ live_rows (slot + 1) cs else live_rows (slot + 1) cs) head.numbers.state
-    ∙ both (is_live a.state) (row_in slot c) (row_of slot a) (live_rows (slot + 1) cs) (rows_from (slot + 1) abstracts) (λ live. row_stands g k slot c a head live) rest
+    ∙ both (is_live a.state) (row_in slot c) (row_of slot a) (live_rows (slot + 1) cs) (rows_from (slot + 1) abstracts) (λ live. row_represents g k slot c a head live) rest
 
 pub settled : {A S : Type 0} (g : Ghosts A S) (k : g.Config) (m : AppSpec) (cs ds : List (Conn A)) (abstracts : List Connection) (ns : List ℕ) (step result : Step) (slot ticks : ℕ) (net : List ℕ) (fresh : Bool) (now : Now) (o : Outcome) →
     slot < length abstracts → step ≡ Step.Ask fresh → MeetsAt g k cs ns step abstracts slot o →
@@ -77,7 +77,7 @@ pub settled : {A S : Type 0} (g : Ghosts A S) (k : g.Config) (m : AppSpec) (cs d
 settled g k m cs ds abstracts ns step result slot ticks net fresh now o within is h n meets =
     let after : List Connection = slice_set abstracts slot o.connection in
     let output : o.step ≡ Step.Ask fresh = sym h.asked ∙ is in
-    let snapshot : now ≡ snapshot_at ticks net abstracts slot o.connection = n ∙ ap (λ (rows : List Row). record { ticks = ticks; net = net; rows = rows }) (rows_stand g k 0 cs after h.slots) in
+    let snapshot : now ≡ snapshot_at ticks net abstracts slot o.connection = n ∙ ap (λ (rows : List Row). record { ticks = ticks; net = net; rows = rows }) (rows_represent g k 0 cs after h.slots) in
     let one = meets after o.connection h.slots (get_set abstracts slot o.connection within) in
     let two = subst (λ (t : Now). MeetsAt g k ds ns result after slot (ask m t fresh o.connection ns)) snapshot one in
     let three = subst (λ (x : List ℕ). MeetsAt g k ds ns result after slot (ask m (snapshot_at ticks net abstracts slot o.connection) fresh o.connection x)) h.counted two in

@@ -134,14 +134,14 @@ module _ (m : AppSpec) where
   }
 
   -- what a step sends, if its application sends bytes
-  pub said_sound : (c : Connection) (step : Step) (s : PlainSegment) → Lens c → All IsByte (m.output c.part) → segment_of m c step ≡ Some s → IsSoundSegment s
-  said_sound c Step.Drop s l b e = absurd (cc)
-  said_sound c Step.Ack s l b e = only_some (λ x. IsSoundSegment x) (bare_ack c) s e (control c 16 OWN_MSS None (omega arith) (omega arith) tt)
-  said_sound c (Step.SynAck again) s l b e = only_some (λ x. IsSoundSegment x) (syn_ack c) s e (control c 18 OWN_MSS (Some OWN_MSS) (omega arith) (omega arith) (omega arith, omega arith))
-  said_sound c (Step.Text again) s l b e = only_some (λ x. IsSoundSegment x) (text_segment m c) s e (text_sound c l b)
-  said_sound c (Step.Fin again) s l b e = only_some (λ x. IsSoundSegment x) (fin_of c) s e (control c 17 OWN_MSS None (omega arith) (omega arith) tt)
-  said_sound c Step.Reset s l b e = only_some (λ x. IsSoundSegment x) (reset_of c) s e (control c 20 0 None (omega arith) (omega arith) tt)
-  said_sound c (Step.Ask fresh) s l b e = absurd (cc)
+  pub sent_sound : (c : Connection) (step : Step) (s : PlainSegment) → Lens c → All IsByte (m.output c.part) → segment_of m c step ≡ Some s → IsSoundSegment s
+  sent_sound c Step.Drop s l b e = absurd (cc)
+  sent_sound c Step.Ack s l b e = only_some (λ x. IsSoundSegment x) (bare_ack c) s e (control c 16 OWN_MSS None (omega arith) (omega arith) tt)
+  sent_sound c (Step.SynAck again) s l b e = only_some (λ x. IsSoundSegment x) (syn_ack c) s e (control c 18 OWN_MSS (Some OWN_MSS) (omega arith) (omega arith) (omega arith, omega arith))
+  sent_sound c (Step.Text again) s l b e = only_some (λ x. IsSoundSegment x) (text_segment m c) s e (text_sound c l b)
+  sent_sound c (Step.Fin again) s l b e = only_some (λ x. IsSoundSegment x) (fin_of c) s e (control c 17 OWN_MSS None (omega arith) (omega arith) tt)
+  sent_sound c Step.Reset s l b e = only_some (λ x. IsSoundSegment x) (reset_of c) s e (control c 20 0 None (omega arith) (omega arith) tt)
+  sent_sound c (Step.Ask fresh) s l b e = absurd (cc)
 
 pub none_sound : (s : PlainSegment) → IsSoundSegment s → IsSoundSegment (reset_for_no_connection s)
 none_sound s h = record { seq = h.ack; ack = wrap_low _; flags = omega arith; window = omega arith; mss = tt; short = omega arith; alone = inr refl; text = all_nil IsByte }

@@ -5,9 +5,9 @@ use Rattle.tcp_machine.proofs.States.{by_state}
 
 -- a node represents the abstract one after a later history, with another packet and other counts; what the abstract one remembers is not
 -- used
-pub stands_later : {A S : Type 0} (g : Ghosts A S) (node : Node A S) (packet : Buffer) (counts : Counts) (n : AbstractNode) (history later remembered : List HistoryEntry) →
+pub represents_later : {A S : Type 0} (g : Ghosts A S) (node : Node A S) (packet : Buffer) (counts : Counts) (n : AbstractNode) (history later remembered : List HistoryEntry) →
     Represents g node n history → node.table.iss ≡ initial_number later → CountsRepresent counts later → Represents g (record node { packet = packet; counts = counts }) (record n { history = remembered }) later
-stands_later g node packet counts n history later remembered h iss stand = record { addr = h.addr; slots = h.slots; iss = iss; numbers_represented = h.numbers_represented; counts = stand }
+represents_later g node packet counts n history later remembered h iss stand = record { addr = h.addr; slots = h.slots; iss = iss; numbers_represented = h.numbers_represented; counts = stand }
 
 -- only what is left and what is sent is looked at
 pub opened : {A S : Type 0} (g : Ghosts A S) (node : Node A S) (result : Option ℕ) (m : AppSpec) (n : AbstractNode) (s : Sockets) (seg : PlainSegment) (slot : ℕ) →

@@ -105,6 +105,6 @@ pub next_ident : (counts : Counts) (event : Event) (again : Bool) (history : Lis
 next_ident counts event again history h = ap (λ (n : ℕ). (n + 1) % 65536) h.ident ∙ mod-add-mod (times (λ p. list_any (λ n. n == 15) (raised_by_answer p.answer)) history) 65536 1
 
 -- what was sent was counted
-pub said_counted : (counts : Counts) (event : Event) (again : Bool) (history : List HistoryEntry) (net : List ℕ) → CountsRepresent counts (seen event history) → net ≡ counters (with_answer event (Spoke again) ∷ history) →
+pub sent_counted : (counts : Counts) (event : Event) (again : Bool) (history : List HistoryEntry) (net : List ℕ) → CountsRepresent counts (seen event history) → net ≡ counters (with_answer event (Spoke again) ∷ history) →
     CountsRepresent (record { net = net; ticks = counts.ticks; ident = (counts.ident + 1) % 65536 }) (with_answer event (Spoke again) ∷ history)
-said_counted counts event again history net h e = record { net = e; ticks = h.ticks; ident = next_ident counts event again history h }
+sent_counted counts event again history net h e = record { net = e; ticks = h.ticks; ident = next_ident counts event again history h }

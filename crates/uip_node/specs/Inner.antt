@@ -78,8 +78,8 @@ WritesText g k own id conn packet =
 -- ---- the node
 
 -- The connection in a slot took a step, and its segment is sent.
-abbrev pub SaysStep : {A S : Type 0} (g : Ghosts A S) (slot : ℕ) (step : Step) (old new : Node A S) (result : Option ℕ) → Type 0
-SaysStep g slot step old new result =
+abbrev pub SendsStep : {A S : Type 0} (g : Ghosts A S) (slot : ℕ) (step : Step) (old new : Node A S) (result : Option ℕ) → Type 0
+SendsStep g slot step old new result =
     (n : AbstractNode) (event : Event) (before : Connection) (o : Outcome) → old.addr ≡ n.addr → slot < length n.connections
     → old.table.iss ≡ initial_number (seen event n.history) → CountsRepresent old.counts (seen event n.history)
     → MeetsAt g (g.config old.shared) old.table.conns (g.numbers old.shared) step n.connections slot o

@@ -85,7 +85,7 @@ impl<A: App> Node<A> {
     ghost use Rattle.uip_node.specs.Edge.{by_proto, by_segment, event_of, sockets_of};
     ghost use Rattle.uip_node.specs.Events.Event.{Overlong, Periodic};
     ghost use Rattle.uip_node.specs.Node.{AbstractNode, arrives, for_no_connection, initial_node, opens, refuses, slot_for_syn, step};
-    ghost use Rattle.uip_node.specs.Inner.{AnswersPeer, OpensBy, SaysStep, StepsIn};
+    ghost use Rattle.uip_node.specs.Inner.{AnswersPeer, OpensBy, SendsStep, StepsIn};
     ghost use Rattle.uip_node.specs.Slots.{IsIn, NoneAt};
     ghost use Rattle.uip_node.specs.Represents.{Refines, Represents};
 
@@ -174,7 +174,7 @@ impl<A: App> Node<A> {
         requires answer { IsAnswer step }
         requires fits { IsIn self.old.table.conns slot (λ c. StepFits c step) }
         ensures same { A.config self.new.shared ≡ A.config self.old.shared }
-        ensures step { SaysStep A.App slot step self.old self.new result }
+        ensures step { SendsStep A.App slot step self.old self.new result }
     {
         let id = self.ident.wrapping_add(1);
         match speak_in(

@@ -1,7 +1,7 @@
 //! Output: writes the segment that a connection sends into the packet.
 
 ghost use Rattle.std.specs.Prelude.{◌≡◌, ℕ, ◌+◌, ◌≤◌, List, IsSome, length, slice_range, take};
-ghost use Rattle.app_events.specs.Prelude.{CanSay, AppState, text_left};
+ghost use Rattle.app_events.specs.Prelude.{CanSupply, AppState, text_left};
 ghost use Rattle.packet_buffer.specs.Prelude.{datagram_in};
 ghost use Rattle.tcp_machine.specs.Prelude.{Connection, IsAnswer, StepFits, reset_for_no_connection};
 ghost use Rattle.tcp_machine.specs.Prelude.{segment_of, IsSound, ConnRepresents, plain};
@@ -93,7 +93,7 @@ fn send<A>(packet: &mut Packet, conn: &Conn<A>, heading: Heading, own: Addr, id:
 /// Lets the application generate its text at offset 40 of an area.
 fn fill_at_40<A: App>(app: &A, shared: &A::Shared, area: &mut [u8], len: usize)
     requires fits { 40 + len ≤ length area.old }
-    requires says { CanSay A.app_spec A.represents app.now (A.config shared.now) len }
+    requires says { CanSupply A.app_spec A.represents app.now (A.config shared.now) len }
     ensures size { length area.new ≡ length area.old }
     ensures text { (p : AppState) → A.represents app.now (A.config shared.now) p
         → slice_range area.new 40 (40 + len) ≡ take len (text_left (A.app_spec (A.config shared.now)) p) }
@@ -104,7 +104,7 @@ fn fill_at_40<A: App>(app: &A, shared: &A::Shared, area: &mut [u8], len: usize)
 /// Lets the application generate the text that is outstanding, at offset 40.
 fn fill_text<A: App>(packet: &mut Packet, conn: &Conn<A>, shared: &A::Shared)
     requires size { length packet.old.area ≡ LARGEST_DATAGRAM }
-    requires says { CanSay A.app_spec A.represents conn.now.app (A.config shared.now) conn.now.len }
+    requires says { CanSupply A.app_spec A.represents conn.now.app (A.config shared.now) conn.now.len }
     requires len { conn.now.len ≤ OWN_MSS }
     ensures size { length packet.new.area ≡ LARGEST_DATAGRAM }
     ensures text { (p : AppState) → A.represents conn.now.app (A.config shared.now) p
@@ -122,7 +122,7 @@ fn send_text<A: App>(
     id: u16,
 ) -> usize
     requires size { length packet.old.area ≡ LARGEST_DATAGRAM }
-    requires says { CanSay A.app_spec A.represents conn.now.app (A.config shared.now) conn.now.len }
+    requires says { CanSupply A.app_spec A.represents conn.now.app (A.config shared.now) conn.now.len }
     requires len { conn.now.len ≤ OWN_MSS }
     ensures size { length packet.new.area ≡ LARGEST_DATAGRAM }
     ensures length { result ≡ length (datagram_in packet.new) }

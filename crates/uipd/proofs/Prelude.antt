@@ -16,7 +16,7 @@ pub use Rattle.node_laws.proofs.EveryTraceConforms.{paged_everywhere}
 pub use Rattle.node_laws.specs.Prelude.{HasOutputModel}
 pub use Rattle.serve_loop.proofs.ByteLaws.{slip_brings_bytes}
 pub use Rattle.serve_loop.proofs.RunLaws.{output-append}
-pub use Rattle.serve_loop.specs.Prelude.{BringsBytes, IsItem, IsStationed, PrefixWritten, SaidBy, ServesOver, Station, StationEvent, any_acts, initial_station, output, output_by, output_of_event, slip_medium, station_after, station_after_all, station_events_of_line}
+pub use Rattle.serve_loop.specs.Prelude.{BringsBytes, IsItem, IsStationed, PrefixWritten, WrittenAtEnd, ServesOver, Station, StationEvent, any_acts, initial_station, output, output_by, output_of_event, slip_medium, station_after, station_after_all, station_events_of_line}
 pub use Rattle.site_commands.specs.Prelude.{Due, Ends, end_of}
 pub use Rattle.site_commands.specs.declared.site_end.SiteEnd.{SiteEnd}
 pub use Rattle.site_commands.specs.declared.site_end.SiteEnd.TheVariants.{NoMemory}
@@ -38,7 +38,7 @@ pub use Rattle.std.specs.Prelude.{◌&&◌, ◌⊎◌, bytes_eq, codes, IfOk, Is
 pub use Rattle.std.specs.Result.{OkIff, result_ok}
 pub use Rattle.std.specs.Str.Parse.{ParsesUnsigned, digits_value}
 pub use Rattle.telnet_shell.proofs.DeskLines.{speaks_on_lines}
-pub use Rattle.telnet_shell.specs.DeskMeaning.{desk_spec, is_served_at}
+pub use Rattle.telnet_shell.specs.DeskSpec.{desk_spec, is_served_at}
 pub use Rattle.trace.specs.Prelude.{Converts, ReportsLine}
 pub use Rattle.trace.specs.declared.slip_end.SlipEnd.{SlipEnd}
 pub use Rattle.udp_resolver.specs.Prelude.{Resolves, Streams, StreamsUnfailed}
@@ -60,7 +60,7 @@ pub use Rattle.uipd.specs.SiteServing.{IsUndisturbed, SiteServes}
 pub use Rattle.uipd.specs.Statuses.{RunsAs, status_of_fault, status_of_replay, status_of_serving, status_of_site, status_of_slip}
 pub use Rattle.uipd.specs.ReportedCompleteness.{ResolvingDone, ReportCompletes, ReportIsComplete}
 pub use Rattle.uipd.specs.ReportedRunning.{ResolveRuns, ReportedBy, questions_of}
-pub use Rattle.uipd.specs.Words.{Captures, Checks, Dumps, Loads, Packs, Pages, PlaysBack, Replays, Serves, ShowsText, Task, Upgrades, all_items, back_part, ether_words, has_parts, is_kind_word, kind_word, limited, limits_at, named_file, optionally, says_tty, task_of}
+pub use Rattle.uipd.specs.Words.{Captures, Checks, Dumps, Loads, Packs, Pages, PlaysBack, Replays, Serves, ShowsText, Task, Upgrades, all_items, back_part, ether_words, has_parts, is_kind_word, kind_word, limited, limits_at, named_file, optionally, ends_in_tty, task_of}
 pub use Rattle.uipd.specs.declared.status.Status.{Status}
 pub use Rattle.uipd.specs.declared.status.Status.TheVariants.{BadWords}
 pub use Rattle.uipd.specs.declared.words.Application.{Application}

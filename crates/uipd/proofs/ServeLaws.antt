@@ -1,6 +1,6 @@
 -- Serving by a node, from the initial one on.
 -- [add: line-kind] A case for a further kind of line.
-use Rattle.uipd.proofs.Prelude.{◌≡◌, ◌<◌, ℕ, Bool, List, [], ◌∷◌, ◌++◌, Option, length, refl, subst, sym, ap, ◌∙◌, inl, append_assoc, AppSpec, Ghosts, Item, ServeEnd, WrittenBy, LineView, BreaksOff, breaks_prefix, breaks_whole, Node, initial_node, Represents, Addr, ether_medium, Host, Act, Mac, MediumSpec, StationEvent, PrefixWritten, Station, station_after, station_after_all, output, output_of_event, IsStationed, SaidBy, ServesOver, station_events_of_line, initial_station, output_by, output-append, host_at, output_over, RunsBy, status_of_serving, LineKind, Ethernet, ServedLine}
+use Rattle.uipd.proofs.Prelude.{◌≡◌, ◌<◌, ℕ, Bool, List, [], ◌∷◌, ◌++◌, Option, length, refl, subst, sym, ap, ◌∙◌, inl, append_assoc, AppSpec, Ghosts, Item, ServeEnd, WrittenBy, LineView, BreaksOff, breaks_prefix, breaks_whole, Node, initial_node, Represents, Addr, ether_medium, Host, Act, Mac, MediumSpec, StationEvent, PrefixWritten, Station, station_after, station_after_all, output, output_of_event, IsStationed, WrittenAtEnd, ServesOver, station_events_of_line, initial_station, output_by, output-append, host_at, output_over, RunsBy, status_of_serving, LineKind, Ethernet, ServedLine}
 use Rattle.uip_edge.specs.declared.serve_end.ServeEnd.TheVariants as ends
 
 -- the output was written by the end, and a write failed only where there is some
@@ -24,7 +24,7 @@ module _ {C : Type 0} (m : AppSpec) (ports : ℕ → Bool) (own : Addr) (w : Med
       let whole : BreaksOff [] (output m ports w own station_events s) a b = breaks_whole before text later _ a b all it.broke in
       record { written = breaks_prefix [] _ a b whole; some = λ same. whole.some }
 
-  puts_out : (end : ServeEnd) → SaidBy end m ports w own station_events P Q a b → PutsOut end a b (output m ports w own station_events s)
+  puts_out : (end : ServeEnd) → WrittenAtEnd end m ports w own station_events P Q a b → PutsOut end a b (output m ports w own station_events s)
   puts_out ends.End v = record { written = (v.each s p).1; some = λ e. absurd (cc e) }
   puts_out ends.Budget v = record { written = (v.each s p).1; some = λ e. absurd (cc e) }
   puts_out ends.LinkFault v = record { written = (v.each s p).1; some = λ e. absurd (cc e) }
@@ -42,8 +42,8 @@ line_run {S = S} {C = C} g shared line kind w before after did did' old new end 
     let P : Station C → Type 0 = λ s. IsStationed g did before s in
     let Q : Station C → Type 0 = λ s. IsStationed g did' after s in
     let station_events : Addr → List (StationEvent C) = λ o. station_events_of_line w o line.limits.pace it.taken in
-    let one = subst (λ (s : S). SaidBy end (g.app_spec (g.config s)) g.served w before.addr (station_events before.addr) P Q old.sink.written new.sink.written) is it.wrote in
-    let two = subst (λ (o : Addr). SaidBy end m g.served w o (station_events o) P Q old.sink.written new.sink.written) st.addr one in
+    let one = subst (λ (s : S). WrittenAtEnd end (g.app_spec (g.config s)) g.served w before.addr (station_events before.addr) P Q old.sink.written new.sink.written) is it.wrote in
+    let two = subst (λ (o : Addr). WrittenAtEnd end m g.served w o (station_events o) P Q old.sink.written new.sink.written) st.addr one in
     let out = subst (PutsOut end old.sink.written new.sink.written) (sym (same m numbers it.taken))
     (puts_out m g.served line.own w (station_events line.own) (initial_station line.own numbers) P Q old.sink.written new.sink.written (record { represented = st; acted = began }) end two) in
     inl (end, refl, record { taken = it.taken; are = it.are; consumed = it.consumed; ends = it.ends; written = out.written; some = out.some })

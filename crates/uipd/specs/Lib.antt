@@ -8,7 +8,7 @@ pub mod Running
 pub mod Serving
 pub mod SiteServing
 pub mod Statuses
-pub mod Telling
+pub mod Reporting
 pub mod ReportedRunning
 pub mod Words
 pub mod ReportedCompleteness

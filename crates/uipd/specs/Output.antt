@@ -7,7 +7,7 @@ use Rattle.site_image.specs.Prelude.{File}
 use Rattle.node_laws.specs.Prelude.{OutputModel, at_every_port}
 use Rattle.web_pages.specs.Prelude.{pages_of, is_served, no_hits, web_spec}
 use Rattle.telnet_shell.specs.DeskLines.{desk_output_model}
-use Rattle.telnet_shell.specs.DeskMeaning.{desk_spec, is_served_at}
+use Rattle.telnet_shell.specs.DeskSpec.{desk_spec, is_served_at}
 use Rattle.uip_edge.specs.declared.item.Item.{Item}
 use Rattle.uip_wire.specs.declared.addr.Addr.{Addr}
 use Rattle.serve_loop.specs.Prelude.{output_by, slip_medium}

@@ -6,7 +6,7 @@ use Rattle.uip_wire.specs.Prelude.{◌>>=◌, quad_of}
 use Rattle.uip_wire.specs.declared.addr.Addr.{Addr}
 use Rattle.dns_message.specs.Names.{is_domain}
 use Rattle.udp_resolver.specs.declared.TheConstants.{MOST_NAMES}
-use Rattle.uipd.specs.Words.{all_items, number_within, optionally, says_tty}
+use Rattle.uipd.specs.Words.{all_items, number_within, optionally, ends_in_tty}
 
 -- The task of the words: ask a server for names, the first of them with this id, up to a number of items.
 pub record Resolving : Type 0 where
@@ -18,7 +18,7 @@ pub record Resolving : Type 0 where
 
 -- the words before a last `tty`, which only defines what an empty read means
 abbrev pub without_tty : List (List ℕ) → List (List ℕ)
-without_tty words = if says_tty words then take (length words - 1) words else words
+without_tty words = if ends_in_tty words then take (length words - 1) words else words
 
 -- one to four names, each of the form of a name
 abbrev pub names_of : List (List ℕ) → Option (List (List ℕ))

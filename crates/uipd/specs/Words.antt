@@ -81,8 +81,8 @@ abbrev pub all_items : ℕ
 all_items = 2 ^ 64 - 1
 
 -- The last word is `tty`, which defines what an empty read means.
-abbrev pub says_tty : List (List ℕ) → Bool
-says_tty words = option_map_or (λ word. bytes_eq word (codes "tty")) (slice_get words (length words - 1)) false
+abbrev pub ends_in_tty : List (List ℕ) → Bool
+ends_in_tty words = option_map_or (λ word. bytes_eq word (codes "tty")) (slice_get words (length words - 1)) false
 
 -- no more words, or only `tty`, which defines what an empty read means
 abbrev pub ends_here : List (List ℕ) → Bool

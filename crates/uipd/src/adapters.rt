@@ -3,11 +3,11 @@
 ghost use Rattle.std.specs.Prelude.{◌≡◌, ◌≢◌, ◌<◌, length, IfOk, true, false};
 ghost use Rattle.uip_edge.specs.Prelude.{HasCause, items_of, CountFits, Consumes, IsAtEnd};
 ghost use Rattle.uip_edge.specs.declared.got.Got.TheVariants.{End, Quiet};
-ghost use Rattle.uipd.specs.Telling.{GivesRead, IsGot, items_left};
+ghost use Rattle.uipd.specs.Reporting.{GivesRead, IsGot, items_left};
 
 use crate::run_told::run_told;
 use crate::status::Status;
-use crate::words::says_tty;
+use crate::words::ends_in_tty;
 use std::alloc::Global;
 use std::io;
 use std::io::{Read, Write};
@@ -121,7 +121,7 @@ pub fn run_over<H: Shelf, R: Read + Drop, W: Write + Drop, E: Write + Drop>(
     output: W,
     errors: E,
 ) -> Status {
-    let mut link = ReaderLink::new(input, says_tty(words));
+    let mut link = ReaderLink::new(input, ends_in_tty(words));
     let mut out = WriterSink::new(output);
     let mut tell = WriterSink::new(errors);
     run_told(alloc, words, shelf, &mut link, &mut out, &mut tell)

@@ -18,7 +18,7 @@ pub const REPLY: &str = "\
 pub const WORDS: [&str; 5] = ["resolve", "10.0.0.1", "10.0.0.2", "1", "a.b"];
 
 #[test]
-fn tells_the_address_for_every_cut(rt: HostRuntime) -> Result<(), Fail> {
+fn reports_the_address_for_every_cut(rt: HostRuntime) -> Result<(), Fail> {
     let alloc = rt.alloc();
     let (query, reply) = both_of(alloc, &[QUERY], &[REPLY])?;
     let good = Trial {

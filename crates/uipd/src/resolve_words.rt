@@ -3,7 +3,7 @@
 ghost use Rattle.std.specs.Prelude.{◌≡◌, map, option_map, string_bytes};
 ghost use Rattle.uipd.specs.ResolveWords as meant;
 
-use crate::words::{number_of, says_tty, within};
+use crate::words::{ends_in_tty, number_of, within};
 use arrayvec::ArrayVec;
 use std::marker::Model;
 use udp_resolver::{MOST_NAMES, Name};
@@ -81,7 +81,7 @@ fn asked_at(own: &str, server: &str, id: &str, items: u64, words: &[String]) -> 
 fn without_tty(words: &[String]) -> &[String]
     ensures { map string_bytes result.now ≡ meant.without_tty (map string_bytes words.now) }
 {
-    if says_tty(words) {
+    if ends_in_tty(words) {
         &words[..words.len() - 1]
     } else {
         words

@@ -32,7 +32,7 @@ pub fn run_told<H: Shelf, L: Link, K: Sink, T: Sink>(
         (outside H.Shelf L.Link K.Sink shelf.new link.new out.new)
         (streams L.Link K.Sink T.Sink link.old out.old tell.old)
         (streams L.Link K.Sink T.Sink link.new out.new tell.new) result }
-    ensures untold { resolving_of (map string_bytes words.now) ≡ None → tell.new ≡ tell.old }
+    ensures unreported { resolving_of (map string_bytes words.now) ≡ None → tell.new ≡ tell.old }
     ensures unread { ¬ (resolving_of (map string_bytes words.now) ≡ None) → shelf.new ≡ shelf.old }
     ensures untouched { result ≡ BadWords → (shelf.new ≡ shelf.old) × (link.new ≡ link.old) × (out.new ≡ out.old) × (tell.new ≡ tell.old) }
     ensures kept { H.held shelf.new ≡ H.held shelf.old }

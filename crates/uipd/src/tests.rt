@@ -273,7 +273,7 @@ fn stops_as_asked(rt: HostRuntime) -> Result<(), Fail> {
 }
 
 #[test]
-fn tells_a_line(rt: HostRuntime) -> Result<(), Fail> {
+fn reports_a_line(rt: HostRuntime) -> Result<(), Fail> {
     let alloc = rt.alloc();
     let (line, ping) = both_of(alloc, &[PING, PONG, STRAY_SYN], &[PING])?;
     let capture = bytes_of(alloc, &[CAPTURE_HEAD, PING_RECORD, PING_ALONE])?;

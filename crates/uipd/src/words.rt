@@ -9,7 +9,7 @@ ghost use Rattle.uipd.specs.Words.{Captures, Dumps, slip_words as words_of_slip,
 ghost use Rattle.uipd.specs.Words.{number_within as number_meant_within, items_named as items_spelled};
 ghost use Rattle.uipd.specs.Words.{shown as text_asked};
 ghost use Rattle.uipd.specs.Words.{ends_here as no_more, limited as limits_meant, limits_at as limits_after};
-ghost use Rattle.uipd.specs.Words.{limits_of as limits_spelled, says_tty as terminal_reported};
+ghost use Rattle.uipd.specs.Words.{limits_of as limits_spelled, ends_in_tty as terminal_reported};
 ghost use Rattle.uipd.specs.Allowed.{IsAllowed};
 ghost use Rattle.uip_wire.specs.Numerals.{numeral as number_meant};
 
@@ -191,7 +191,7 @@ fn limited(pace: u64, items: u64, words: &[String]) -> Option<Limits>
 }
 
 /// Returns whether the last word is `tty`: then an empty read is a silence.
-pub fn says_tty(words: &[String]) -> bool
+pub fn ends_in_tty(words: &[String]) -> bool
     ensures { result ≡ terminal_reported (map string_bytes words.now) }
 {
     match words.last() {

@@ -1,14 +1,14 @@
 -- How long a page can be.
 -- [add: function] The greatest length of its text.
-use Rattle.web_pages.proofs.Prelude.{All, ◌≡◌, ℕ, ◌+◌, ◌-◌, ◌≤◌, inl, inr, Bool, true, false, List, [], ◌∷◌, ◌++◌, length, map, drop, Option, Some, None, refl, sym, ap, subst, arith, length-append, length-take, if◌then◌else◌, lit<, lit≤, sum_by, slice_range, codes, get_or_past, sum_by-cons, All-head, All-tail, All-get_or, cases_lt, option_map_or, slice_index_or, Function, FileStats, TcpConnections, NetStats, Ticks, Unknown, PieceOf, Text, Include, Call, FoundOf, Calling, length_at_most, takes_capture, pieces_by, is_script, File, file_named, kind_of, piece_length_by, body_length_by, page_length_by, ScriptFunctions, AreShort, Snapshot, IsSnapshot, IsU32, Say, says, bytes_or, body_by, found_reply_by, kind_line, Plain, Made, made_by, hits_of, place_of, text_by, silent_text, stopped_text, made_first}
+use Rattle.web_pages.proofs.Prelude.{All, ◌≡◌, ℕ, ◌+◌, ◌-◌, ◌≤◌, inl, inr, Bool, true, false, List, [], ◌∷◌, ◌++◌, length, map, drop, Option, Some, None, refl, sym, ap, subst, arith, length-append, length-take, if◌then◌else◌, lit<, lit≤, sum_by, slice_range, codes, get_or_past, sum_by-cons, All-head, All-tail, All-get_or, cases_lt, option_map_or, slice_index_or, Function, FileStats, TcpConnections, NetStats, Ticks, Unknown, PieceOf, Text, Include, Call, FoundOf, Calling, length_at_most, takes_capture, pieces_by, is_script, File, file_named, kind_of, piece_length_by, body_length_by, page_length_by, ScriptFunctions, AreShort, Snapshot, IsSnapshot, IsU32, ScriptPiece, piece_output, bytes_or, body_by, found_reply_by, kind_line, Plain, Made, made_by, hits_of, place_of, text_by, silent_text, stopped_text, made_first}
 
 -- the greatest length of the text
-abbrev pub most_said : {F : Type 0} → Calling F → Say F → ℕ
-most_said c (Plain text) = length text
-most_said c (Made function argument) = c.length_at_most function
+abbrev pub most_sent : {F : Type 0} → Calling F → ScriptPiece F → ℕ
+most_sent c (Plain text) = length text
+most_sent c (Made function argument) = c.length_at_most function
 
-abbrev pub all_said : {F : Type 0} → Calling F → List (Say F) → ℕ
-all_said c says = sum_by (most_said c) says
+abbrev pub all_written : {F : Type 0} → Calling F → List (ScriptPiece F) → ℕ
+all_written c piece_output = sum_by (most_sent c) piece_output
 
 -- ---- a call
 
@@ -36,23 +36,23 @@ silent_none NetStats e = absurd cc
 silent_none Ticks e = absurd cc
 silent_none Unknown e = refl
 
-pub text_bound : {F : Type 0} (g : ScriptFunctions F) → AreShort g → (files : List File) (says : List (Say F)) (captures : List Snapshot) → All IsSnapshot captures → length (text_by g files says captures) ≤ all_said g.function_table says
+pub text_bound : {F : Type 0} (g : ScriptFunctions F) → AreShort g → (files : List File) (piece_output : List (ScriptPiece F)) (captures : List Snapshot) → All IsSnapshot captures → length (text_by g files piece_output captures) ≤ all_written g.function_table piece_output
 text_bound g short files [] captures all = lit≤ tt
 text_bound g short files (Plain text ∷ more) captures all =
     let rest = text_bound g short files more captures all in
-    omega (arith, length-append text (text_by g files more captures), sum_by-cons (most_said g.function_table) (Plain text) more)
+    omega (arith, length-append text (text_by g files more captures), sum_by-cons (most_sent g.function_table) (Plain text) more)
 text_bound g short files (Made function argument ∷ more) [] all =
-    let here = sum_by-cons (most_said g.function_table) (Made function argument) more in
-    elim (g.function_table.takes_capture function) as (λ b. g.function_table.takes_capture function ≡ b → length (text_by g files (Made function argument ∷ more) []) ≤ all_said g.function_table (Made function argument ∷ more)) [
+    let here = sum_by-cons (most_sent g.function_table) (Made function argument) more in
+    elim (g.function_table.takes_capture function) as (λ b. g.function_table.takes_capture function ≡ b → length (text_by g files (Made function argument ∷ more) []) ≤ all_written g.function_table (Made function argument ∷ more)) [
       | true ↦ λ e. omega (arith, ap length (stopped_text g files function argument more e))
       | false ↦ λ e.
           let rest = text_bound g short files more [] all in
           omega (arith, ap length (silent_text g files function argument more [] e), here)
     ] refl
 text_bound g short files (Made function argument ∷ more) (capture ∷ later) all =
-    let here = sum_by-cons (most_said g.function_table) (Made function argument) more in
+    let here = sum_by-cons (most_sent g.function_table) (Made function argument) more in
     elim (g.function_table.takes_capture function) as (λ b. g.function_table.takes_capture function ≡ b
-    → length (text_by g files (Made function argument ∷ more) (capture ∷ later)) ≤ all_said g.function_table (Made function argument ∷ more)) [
+    → length (text_by g files (Made function argument ∷ more) (capture ∷ later)) ≤ all_written g.function_table (Made function argument ∷ more)) [
       | true ↦ λ e.
           let rest = text_bound g short files more later (All-tail IsSnapshot capture later all) in
           let one = made_short g short files function argument capture (All-head IsSnapshot capture later all) in
@@ -76,31 +76,31 @@ bytes_size : (file : Option File) → length (bytes_or [] file) ≡ option_map_o
 bytes_size None = refl
 bytes_size (Some file) = refl
 
-pub piece_bound : {F : Type 0} (c : Calling F) (files : List File) (script : List ℕ) (piece : PieceOf F) → most_said c (says files script piece) ≤ piece_length_by c files script piece
+pub piece_bound : {F : Type 0} (c : Calling F) (files : List File) (script : List ℕ) (piece : PieceOf F) → most_sent c (piece_output files script piece) ≤ piece_length_by c files script piece
 piece_bound c files script (Text at len) = range_short script at (at + len) len (omega arith)
 piece_bound c files script (Include at len) = omega (arith, bytes_size (file_named files (slice_range script at (at + len))))
 piece_bound c files script (Call function at len) = omega arith
 
 pieces_bound : {F : Type 0} (c : Calling F) (files : List File) (script : List ℕ) (found : List (FoundOf F))
-    → all_said c (map (λ f. says files script f.piece) found) ≤ sum_by (λ f. piece_length_by c files script f.piece) found
+    → all_written c (map (λ f. piece_output files script f.piece) found) ≤ sum_by (λ f. piece_length_by c files script f.piece) found
 pieces_bound c files script [] = lit≤ tt
 pieces_bound {F = F} c files script (f ∷ found) =
     let rest = pieces_bound c files script found in
     let one = piece_bound c files script f.piece in
     omega (
       arith,
-      sum_by-cons (most_said c) (says files script f.piece) (map (λ (g : FoundOf F). says files script g.piece) found),
+      sum_by-cons (most_sent c) (piece_output files script f.piece) (map (λ (g : FoundOf F). piece_output files script g.piece) found),
       sum_by-cons (λ (g : FoundOf F). piece_length_by c files script g.piece) f found,
     )
 
-pub body_bound : {F : Type 0} (c : Calling F) (files : List File) (file : File) → all_said c (body_by c.named files file) ≤ body_length_by c files file
+pub body_bound : {F : Type 0} (c : Calling F) (files : List File) (file : File) → all_written c (body_by c.named files file) ≤ body_length_by c files file
 body_bound c files file = by_script (is_script file.name)
   where
     by_script : (b : Bool)
-        → all_said c (if b then map (λ found. says files file.content found.piece) (pieces_by c.named file.content 0) else Plain file.content ∷ [])
+        → all_written c (if b then map (λ found. piece_output files file.content found.piece) (pieces_by c.named file.content 0) else Plain file.content ∷ [])
         ≤ (if b then sum_by (λ found. piece_length_by c files file.content found.piece) (pieces_by c.named file.content 0) else length file.content)
     by_script true = pieces_bound c files file.content (pieces_by c.named file.content 0)
-    by_script false = omega (arith, sum_by-cons (most_said c) (Plain file.content) [])
+    by_script false = omega (arith, sum_by-cons (most_sent c) (Plain file.content) [])
 
 line_length : (kind : List ℕ) → length (kind_line kind) ≡ 18 + length kind
 line_length kind =
@@ -109,12 +109,12 @@ line_length kind =
     omega (arith, length-append (codes "Content-type: " ++ kind) (codes "\r\n\r\n"), length-append (codes "Content-type: ") kind)
 
 -- the text of a file that is found is at most as long as its greatest length
-pub found_bound : {F : Type 0} (c : Calling F) (files : List File) (file : File) → all_said c (found_reply_by c.named files file) ≤ page_length_by c files file
+pub found_bound : {F : Type 0} (c : Calling F) (files : List File) (file : File) → all_written c (found_reply_by c.named files file) ≤ page_length_by c files file
 found_bound c files file =
     let body = body_bound c files file in
     omega (
       arith,
-      sum_by-cons (most_said c) (Plain (codes "HTTP/1.0 200 OK\r\nServer: uIP/1.0\r\nConnection: close\r\n")) (Plain (kind_line (kind_of file)) ∷ body_by c.named files file),
-      sum_by-cons (most_said c) (Plain (kind_line (kind_of file))) (body_by c.named files file),
+      sum_by-cons (most_sent c) (Plain (codes "HTTP/1.0 200 OK\r\nServer: uIP/1.0\r\nConnection: close\r\n")) (Plain (kind_line (kind_of file)) ∷ body_by c.named files file),
+      sum_by-cons (most_sent c) (Plain (kind_line (kind_of file))) (body_by c.named files file),
       line_length (kind_of file),
     )

@@ -1,24 +1,24 @@
 -- The pages of a site of bytes are bytes.
 -- [add: content-type] The type is bytes.
-use Rattle.web_pages.proofs.Prelude.{All, ◌≡◌, ℕ, ◌+◌, ◌-◌, ◌==◌, Bool, true, false, List, [], ◌∷◌, ◌++◌, length, map, drop, Option, Some, None, refl, sym, subst, ◌∙◌, if◌then◌else◌, codes, option_map, slice_get, slice_range, nat_eq, ends_with, All-nil, All-append, All-take, All-drop, slice_get-map, same_Some, FoundOf, PieceOf, Text, Include, Call, pieces_by, Place, is_script, kind_by_name, File, file_named, kind_of, file_in, SiteContent, files_of, ScriptFunctions, AreBytes, uip, literal_bytes, either_bytes, texts_bytes, Snapshot, IsByte, Wanted, wanted, NotYet, Refused, Name, Say, says, bytes_or, body_by, missing_head, found_head, kind_line, reply_to_by, reply_pieces_by, Plain, Made, hits_of, made_by, text_by, page_for_by, IsMadeOfBytes, IsMadeOfBytesBy}
+use Rattle.web_pages.proofs.Prelude.{All, ◌≡◌, ℕ, ◌+◌, ◌-◌, ◌==◌, Bool, true, false, List, [], ◌∷◌, ◌++◌, length, map, drop, Option, Some, None, refl, sym, subst, ◌∙◌, if◌then◌else◌, codes, option_map, slice_get, slice_range, nat_eq, ends_with, All-nil, All-append, All-take, All-drop, slice_get-map, same_Some, FoundOf, PieceOf, Text, Include, Call, pieces_by, Place, is_script, kind_by_name, File, file_named, kind_of, file_in, SiteContent, files_of, ScriptFunctions, AreBytes, uip, literal_bytes, either_bytes, texts_bytes, Snapshot, IsByte, Wanted, wanted, NotYet, Refused, Name, ScriptPiece, piece_output, bytes_or, body_by, missing_head, found_head, kind_line, reply_to_by, reply_pieces_by, Plain, Made, hits_of, made_by, text_by, page_for_by, IsMadeOfBytes, IsMadeOfBytesBy}
 use Rattle.web_pages.proofs.Found.{found_there}
 
 -- ---- pieces
 
-abbrev IsSaid : {F : Type 0} → Say F → Type 0
-IsSaid (Plain text) = All IsByte text
-IsSaid (Made function argument) = Unit {0}
+abbrev WasSentIn : {F : Type 0} → ScriptPiece F → Type 0
+WasSentIn (Plain text) = All IsByte text
+WasSentIn (Made function argument) = Unit {0}
 
-abbrev AreSaid : {F : Type 0} → List (Say F) → Type 0
-AreSaid [] = Unit {0}
-AreSaid (say ∷ more) = IsSaid say × AreSaid more
+abbrev AreSent : {F : Type 0} → List (ScriptPiece F) → Type 0
+AreSent [] = Unit {0}
+AreSent (write_out ∷ more) = WasSentIn write_out × AreSent more
 
 made_bytes : {F : Type 0} (g : ScriptFunctions F) → AreBytes g.output → (files : List File) (function : F) (argument : List ℕ) (snapshot : Snapshot)
     → All IsByte (made_by g files function argument snapshot)
 made_bytes g bytes files function argument snapshot =
     bytes function argument (hits_of files snapshot.numbers argument) (drop (length files) snapshot.numbers) snapshot.now
 
-text_bytes : {F : Type 0} (g : ScriptFunctions F) → AreBytes g.output → (files : List File) (output : List (Say F)) (captures : List Snapshot) → AreSaid output → All IsByte (text_by g files output captures)
+text_bytes : {F : Type 0} (g : ScriptFunctions F) → AreBytes g.output → (files : List File) (output : List (ScriptPiece F)) (captures : List Snapshot) → AreSent output → All IsByte (text_by g files output captures)
 text_bytes g bytes files [] captures all = All-nil IsByte
 text_bytes g bytes files (Plain text ∷ more) captures all =
     All-append IsByte text (text_by g files more captures) all.0 (text_bytes g bytes files more captures all.1)
@@ -80,25 +80,25 @@ line_bytes kind all =
     All-append IsByte (codes "Content-type: " ++ kind) (codes "\r\n\r\n")
     (All-append IsByte (codes "Content-type: ") kind (literal_bytes (codes "Content-type: ") refl) all) (literal_bytes (codes "\r\n\r\n") refl)
 
-says_bytes : {F : Type 0} (files : List File) (script : List ℕ) (piece : PieceOf F) → AreOfBytes files → All IsByte script → IsSaid (says files script piece)
-says_bytes files script (Text at len) all own = range_bytes script at (at + len) own
-says_bytes files script (Include at len) all own =
+outputs_bytes : {F : Type 0} (files : List File) (script : List ℕ) (piece : PieceOf F) → AreOfBytes files → All IsByte script → WasSentIn (piece_output files script piece)
+outputs_bytes files script (Text at len) all own = range_bytes script at (at + len) own
+outputs_bytes files script (Include at len) all own =
     named_bytes files (slice_range script at (at + len)) (file_named files (slice_range script at (at + len))) all refl
-says_bytes files script (Call function at len) all own = tt
+outputs_bytes files script (Call function at len) all own = tt
 
 pieces_bytes : {F : Type 0} (files : List File) (script : List ℕ) (found : List (FoundOf F)) → AreOfBytes files → All IsByte script
-    → AreSaid (map (λ (f : FoundOf F). says files script f.piece) found)
+    → AreSent (map (λ (f : FoundOf F). piece_output files script f.piece) found)
 pieces_bytes files script [] all own = tt
-pieces_bytes files script (f ∷ found) all own = (says_bytes files script f.piece all own, pieces_bytes files script found all own)
+pieces_bytes files script (f ∷ found) all own = (outputs_bytes files script f.piece all own, pieces_bytes files script found all own)
 
-body_bytes : {F : Type 0} (named : List ℕ → F) (files : List File) (file : File) → AreOfBytes files → OfBytes file → AreSaid (body_by named files file)
+body_bytes : {F : Type 0} (named : List ℕ → F) (files : List File) (file : File) → AreOfBytes files → OfBytes file → AreSent (body_by named files file)
 body_bytes {F = F} named files file all of = by_script (is_script file.name)
   where
-    by_script : (b : Bool) → AreSaid (if b then map (λ (f : FoundOf F). says files file.content f.piece) (pieces_by named file.content 0) else Plain file.content ∷ [])
+    by_script : (b : Bool) → AreSent (if b then map (λ (f : FoundOf F). piece_output files file.content f.piece) (pieces_by named file.content 0) else Plain file.content ∷ [])
     by_script true = pieces_bytes files file.content (pieces_by named file.content 0) all of.content
     by_script false = (of.content, tt)
 
-reply_bytes : {F : Type 0} (named : List ℕ → F) (files : List File) (name : List ℕ) (found : Option File) → AreOfBytes files → file_named files name ≡ found → AreSaid (reply_to_by named files found)
+reply_bytes : {F : Type 0} (named : List ℕ → F) (files : List File) (name : List ℕ) (found : Option File) → AreOfBytes files → file_named files name ≡ found → AreSent (reply_to_by named files found)
 reply_bytes named files name None all e = (
   literal_bytes missing_head refl,
   (

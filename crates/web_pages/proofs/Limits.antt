@@ -1,8 +1,8 @@
 -- Every page of a site is shorter than 2^30 bytes.
-use Rattle.web_pages.proofs.Prelude.{All, ◌≡◌, ℕ, ◌+◌, ◌-◌, ◌<◌, ◌≤◌, ◌==◌, Bool, true, false, List, [], ◌∷◌, length, drop, Option, Some, None, Result, Ok, refl, sym, ap, subst, ◌∙◌, arith, length-take, length-drop, if◌then◌else◌, lit<, lit≤, slice_get, option_map, nat_le, nat_lt, codes, sum_by, list_any, list_all, leb-true, leb-false, and_parts, sum_by-cons, slice_get-map, same_Some, Calling, uip_calls, pieces_by, PAGE_LIMIT, Place, Version, SiteError, Rest, PageTooLong, is_script, is_kind, is_kind_byte, kind_by_name, File, file_named, kind_of, misses, script_fault_by, piece_length_by, page_length_by, body_length_by, file_in, ◌>>=◌, refuse, image_head, entries, scripts, read_image, AreSound, bind_ok, scripts-sound, SiteContent, IsLoaded, HasSoundScripts, files_of, image_files, kind-short, Snapshot, IsSnapshot, Wanted, wanted, NotYet, Refused, Name, ScriptFunctions, AreShort, uip, texts_short, Say, bytes_or, missing_reply, missing_head, reply_to_by, reply_pieces_by, found_reply_by, kind_line, Plain, text_by, page_for_by, page_by, IsAtMostGreatest, IsAtMostGreatestBy}
+use Rattle.web_pages.proofs.Prelude.{All, ◌≡◌, ℕ, ◌+◌, ◌-◌, ◌<◌, ◌≤◌, ◌==◌, Bool, true, false, List, [], ◌∷◌, length, drop, Option, Some, None, Result, Ok, refl, sym, ap, subst, ◌∙◌, arith, length-take, length-drop, if◌then◌else◌, lit<, lit≤, slice_get, option_map, nat_le, nat_lt, codes, sum_by, list_any, list_all, leb-true, leb-false, and_parts, sum_by-cons, slice_get-map, same_Some, Calling, uip_calls, pieces_by, PAGE_LIMIT, Place, Version, SiteError, Rest, PageTooLong, is_script, is_kind, is_kind_byte, kind_by_name, File, file_named, kind_of, misses, script_fault_by, piece_length_by, page_length_by, body_length_by, file_in, ◌>>=◌, refuse, image_head, entries, scripts, read_image, AreSound, bind_ok, scripts-sound, SiteContent, IsLoaded, HasSoundScripts, files_of, image_files, kind-short, Snapshot, IsSnapshot, Wanted, wanted, NotYet, Refused, Name, ScriptFunctions, AreShort, uip, texts_short, ScriptPiece, bytes_or, missing_reply, missing_head, reply_to_by, reply_pieces_by, found_reply_by, kind_line, Plain, text_by, page_for_by, page_by, IsAtMostGreatest, IsAtMostGreatestBy}
 use Rattle.site_image.specs.declared.site_error.SiteWhy.TheVariants.{Include}
 use Rattle.web_pages.proofs.Found.{found_there, found_itself}
-use Rattle.web_pages.proofs.Bounds.{all_said, most_said, text_bound, found_bound}
+use Rattle.web_pages.proofs.Bounds.{all_written, most_sent, text_bound, found_bound}
 
 -- ---- the greatest lengths of a loaded site's files
 
@@ -94,22 +94,22 @@ missing_small site is (Some file) e =
     let there = found_there (files_of site) (codes "/404.html") file e in
     content_small site is there.place file there.at
 
-missing_bound : {F : Type 0} (c : Calling F) (site : SiteContent) → IsLoaded site → all_said c (missing_reply (files_of site)) < 1073741824
+missing_bound : {F : Type 0} (c : Calling F) (site : SiteContent) → IsLoaded site → all_written c (missing_reply (files_of site)) < 1073741824
 missing_bound {F = F} c site is =
     let body = missing_small site is (file_named (files_of site) (codes "/404.html")) refl in
-    let last : Say F = Plain (bytes_or (codes "not found\n") (file_named (files_of site) (codes "/404.html"))) in
-    let line : Say F = Plain (kind_line (codes "text/html")) in
+    let last : ScriptPiece F = Plain (bytes_or (codes "not found\n") (file_named (files_of site) (codes "/404.html"))) in
+    let line : ScriptPiece F = Plain (kind_line (codes "text/html")) in
     let head_length : length missing_head ≡ 60 = refl in
     let line_length : length (kind_line (codes "text/html")) ≡ 27 = refl in
     omega (
       arith,
-      sum_by-cons (most_said c) (Plain missing_head) (line ∷ last ∷ []),
-      sum_by-cons (most_said c) line (last ∷ []),
-      sum_by-cons (most_said c) last [],
+      sum_by-cons (most_sent c) (Plain missing_head) (line ∷ last ∷ []),
+      sum_by-cons (most_sent c) line (last ∷ []),
+      sum_by-cons (most_sent c) last [],
     )
 
 reply_bound : {F : Type 0} (c : Calling F) (site : SiteContent) → IsLoaded site → HasSoundScripts c (files_of site) → (name : List ℕ) (found : Option File) → file_named (files_of site) name ≡ found
-    → all_said c (reply_to_by c.named (files_of site) found) < 1073741824
+    → all_written c (reply_to_by c.named (files_of site) found) < 1073741824
 reply_bound c site is sound name None e = missing_bound c site is
 reply_bound c site is sound name (Some file) e =
     let there = found_there (files_of site) name file e in

@@ -16,9 +16,9 @@ hits_words files hits (Name name) after all = all
 abbrev either : Bool → AppState → Snapshot → AppState
 either waits part capture = if waits then with_capture part capture else part
 
-either_heard : (waits : Bool) (part : AppState) (capture : Snapshot) → (either waits part capture).input ≡ part.input
-either_heard true part capture = refl
-either_heard false part capture = refl
+either_received : (waits : Bool) (part : AppState) (capture : Snapshot) → (either waits part capture).input ≡ part.input
+either_received true part capture = refl
+either_received false part capture = refl
 
 either_captures : (waits : Bool) (part : AppState) (capture : Snapshot)
     → ((either waits part capture).snapshots ≡ part.snapshots) ⊎ ((either waits part capture).snapshots ≡ part.snapshots ++ capture ∷ [])
@@ -45,7 +45,7 @@ keeps_page_laws_by g short site is sound = record {
   newdata_input = λ hits part piece. refl;
   newdata_snapshots = λ hits part piece. refl;
   newdata_acked = λ hits part piece. refl;
-  prepare_input = λ hits part now. either_heard (waits g (files_of site) part) part (record { numbers = hits; now = now });
+  prepare_input = λ hits part now. either_received (waits g (files_of site) part) part (record { numbers = hits; now = now });
   prepare_snapshots = λ hits part now. either_captures (waits g (files_of site) part) part (record { numbers = hits; now = now });
   prepare_acked = λ hits part now. either_acked (waits g (files_of site) part) part (record { numbers = hits; now = now });
   acked_input = λ hits part n. refl;

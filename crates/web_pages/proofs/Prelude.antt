@@ -4,7 +4,7 @@ pub use Rattle.app_events.specs.declared.now.Now.{Now}
 pub use Rattle.file_tree.proofs.KindLemmas.{kind-short}
 pub use Rattle.file_tree.specs.Prelude.{AreApart, AreGood, HasSoundScripts, IsLoaded, KindContent, SiteContent, chosen, files_of, image_files, retyped, upgraded}
 pub use Rattle.generators.specs.Prelude.{AreBytes, AreShort, ScriptFunctions, capture_of, capture_text, either_bytes, script_functions, literal_bytes, texts_bytes, texts_short, uip}
-pub use Rattle.protosocket.proofs.Pieces.{hears_in_pieces}
+pub use Rattle.protosocket.proofs.Pieces.{receives_in_pieces}
 pub use Rattle.protosocket.specs.Prelude.{Line, after, delivered, fresh, is_query_mark, is_stop, none_at_all, none_before, one_before, word_of}
 pub use Rattle.protosocket.specs.declared.stops.Stops.TheVariants.{Space, SpaceOrLine}
 pub use Rattle.script_lang.specs.Prelude.{Calling, length_at_most, pieces, pieces_by, takes_capture, uip_calls}
@@ -36,4 +36,4 @@ pub use Rattle.std.specs.List.{All, before_first, concat, ends_with, flat_map, f
 pub use Rattle.std.specs.Option.{option_map_or}
 pub use Rattle.std.specs.Prelude.{codes, find, nat_eq, nat_le, nat_lt, option_map, reverse, slice_get, slice_range, slice_set, sum_by, unwrap_or}
 pub use Rattle.std.specs.Str.{bytes_eq}
-pub use Rattle.web_pages.specs.Prelude.{AreWorkedPages, AreWorkedRequests, IsAtMostGreatest, IsAtMostGreatestBy, IsMadeOfBytes, IsMadeOfBytesBy, KeepsPageLaws, KeepsPageLawsBy, LongNames, Made, Name, NotYet, Plain, Refused, Say, ReportedInPieces, UpgradeKeepsPages, Wanted, after_method, body_by, body_of, by_tests, bytes_or, decided_by_target, found_head, found_reply_by, has_ended, hit_at, hits_by, hits_of, is_acknowledged_by, kind_line, made_by, made_first, made_text, may_want, method_of, missing_head, missing_reply, most_captures, name_in, page_by, page_for, page_for_by, page_grows, page_stays, page_text, place_of, reach_end, reply_pieces, reply_pieces_by, reply_to, reply_to_by, request_for, says, silent_text, stopped_text, target_of, text_by, reported_so_far, waits_for_capture_by, wanted, wanted_by, whole_for, with_capture, zero_page, zero_reply, zero_said, zero_snapshot}
+pub use Rattle.web_pages.specs.Prelude.{AreWorkedPages, AreWorkedRequests, IsAtMostGreatest, IsAtMostGreatestBy, IsMadeOfBytes, IsMadeOfBytesBy, KeepsPageLaws, KeepsPageLawsBy, LongNames, Made, Name, NotYet, Plain, Refused, ScriptPiece, ReportedInPieces, UpgradeKeepsPages, Wanted, after_method, body_by, body_of, by_tests, bytes_or, decided_by_target, found_head, found_reply_by, has_ended, hit_at, hits_by, hits_of, is_acknowledged_by, kind_line, made_by, made_first, made_text, may_want, method_of, missing_head, missing_reply, most_captures, name_in, page_by, page_for, page_for_by, page_grows, page_stays, page_text, place_of, reach_end, reply_pieces, reply_pieces_by, reply_to, reply_to_by, request_for, piece_output, silent_text, stopped_text, target_of, text_by, reported_so_far, waits_for_capture_by, wanted, wanted_by, whole_for, with_capture, zero_page, zero_reply, zero_piece_text, zero_snapshot}

@@ -1,5 +1,5 @@
 -- If no word of an upgrade names a file, every page stays the same.
-use Rattle.web_pages.proofs.Prelude.{◌≡◌, ℕ, zero, suc, ◌-◌, ◌+◌, ◌==◌, not, Bool, true, false, List, [], ◌∷◌, ◌++◌, length, get_or, map, Option, Some, None, refl, sym, ap, ◌∙◌, arith, true≢false, if◌then◌else◌, find, slice_get, option_map, unwrap_or, nat_lt, reverse, slice_range, codes, position_or_len, slice_index_or, bytes_eq, or_left, or_right, length-map, get_or-reverse, length-reverse, same_Some, slice_get_within, slice_get_read, get_or_from_slice_get, bytes_eq-Decides, option_map_or, Function, PieceOf, Text, Include, Call, FoundOf, pieces, is_script, kind_by_name, File, has_name, file_named, kind_of, KindContent, chosen, retyped, upgraded, capture_of, capture_text, Snapshot, Wanted, wanted, NotYet, Refused, Name, Say, says, bytes_or, body_of, missing_head, found_head, kind_line, reply_to, reply_pieces, Plain, Made, takes_capture, place_of, made_text, page_text, reach_end, page_for, whole_for, UpgradeKeepsPages}
+use Rattle.web_pages.proofs.Prelude.{◌≡◌, ℕ, zero, suc, ◌-◌, ◌+◌, ◌==◌, not, Bool, true, false, List, [], ◌∷◌, ◌++◌, length, get_or, map, Option, Some, None, refl, sym, ap, ◌∙◌, arith, true≢false, if◌then◌else◌, find, slice_get, option_map, unwrap_or, nat_lt, reverse, slice_range, codes, position_or_len, slice_index_or, bytes_eq, or_left, or_right, length-map, get_or-reverse, length-reverse, same_Some, slice_get_within, slice_get_read, get_or_from_slice_get, bytes_eq-Decides, option_map_or, Function, PieceOf, Text, Include, Call, FoundOf, pieces, is_script, kind_by_name, File, has_name, file_named, kind_of, KindContent, chosen, retyped, upgraded, capture_of, capture_text, Snapshot, Wanted, wanted, NotYet, Refused, Name, ScriptPiece, piece_output, bytes_or, body_of, missing_head, found_head, kind_line, reply_to, reply_pieces, Plain, Made, takes_capture, place_of, made_text, page_text, reach_end, page_for, whole_for, UpgradeKeepsPages}
 use Rattle.web_pages.proofs.Found.{found_there}
 
 -- ---- the files that are found
@@ -35,17 +35,17 @@ missing_upgraded words (Some file) = refl
 
 -- ---- the text
 
-says_upgraded : (words : List KindContent) (files : List File) (script : List ℕ) (piece : PieceOf Function) → says (upgraded words files) script piece ≡ says files script piece
-says_upgraded words files script (Text at len) = refl
-says_upgraded words files script (Include at len) =
+sends_upgraded : (words : List KindContent) (files : List File) (script : List ℕ) (piece : PieceOf Function) → piece_output (upgraded words files) script piece ≡ piece_output files script piece
+sends_upgraded words files script (Text at len) = refl
+sends_upgraded words files script (Include at len) =
     let name = slice_range script at (at + len) in
     ap (λ bytes. Plain bytes) (ap (bytes_or []) (named_upgraded words files name) ∙ bytes_upgraded words (file_named files name))
-says_upgraded words files script (Call function at len) = refl
+sends_upgraded words files script (Call function at len) = refl
 
 all_upgraded : (words : List KindContent) (files : List File) (script : List ℕ) (found : List (FoundOf Function))
-    → map (λ (f : FoundOf Function). says (upgraded words files) script f.piece) found ≡ map (λ (f : FoundOf Function). says files script f.piece) found
+    → map (λ (f : FoundOf Function). piece_output (upgraded words files) script f.piece) found ≡ map (λ (f : FoundOf Function). piece_output files script f.piece) found
 all_upgraded words files script [] = refl
-all_upgraded words files script (f ∷ found) = λ i. says_upgraded words files script f.piece i ∷ all_upgraded words files script found i
+all_upgraded words files script (f ∷ found) = λ i. sends_upgraded words files script f.piece i ∷ all_upgraded words files script found i
 
 body_upgraded : (words : List KindContent) (files : List File) (file : File) → body_of (upgraded words files) (retyped words file) ≡ body_of files file
 body_upgraded words files file =
@@ -131,7 +131,7 @@ made_upgraded : (words : List KindContent) (files : List File) (function : Funct
 made_upgraded words files function argument snapshot =
     ap (λ place. capture_text (capture_of function (option_map_or (λ at. slice_index_or snapshot.numbers at 0) place 0) snapshot.now)) (place_upgraded words files argument)
 
-text_upgraded : (words : List KindContent) (files : List File) (output : List (Say Function)) (captures : List Snapshot) → page_text (upgraded words files) output captures ≡ page_text files output captures
+text_upgraded : (words : List KindContent) (files : List File) (output : List (ScriptPiece Function)) (captures : List Snapshot) → page_text (upgraded words files) output captures ≡ page_text files output captures
 text_upgraded words files [] captures = refl
 text_upgraded words files (Plain text ∷ more) captures = ap (λ rest. text ++ rest) (text_upgraded words files more captures)
 text_upgraded words files (Made function argument ∷ more) [] =

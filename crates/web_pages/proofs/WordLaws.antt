@@ -1,5 +1,5 @@
 -- The two words of a request, as they are stored while they are received.
-use Rattle.web_pages.proofs.Prelude.{◌≡◌, ℕ, ◌<◌, ◌≤◌, ◌&&◌, ◌==◌, Bool, true, false, not, List, [], ◌∷◌, length, take, refl, sym, ap, subst, ◌∙◌, arith, length-take, if◌then◌else◌, codes, nat_lt, nat_eq, before_first, list_any, starts_with, concat, fold, bytes_eq, and_parts, not-true, ltb-true, ltb-false, eqb-true, same_from_decides, take_all, take_while-cons, bytes_eq-Decides, Space, SpaceOrLine, Line, is_query_mark, after, fresh, delivered, none_at_all, hears_in_pieces, Wanted, wanted, wanted_by, has_ended, method_of, after_method, target_of, name_in, NotYet, Refused, Name, reported_so_far, ReportedInPieces, LongNames, by_tests}
+use Rattle.web_pages.proofs.Prelude.{◌≡◌, ℕ, ◌<◌, ◌≤◌, ◌&&◌, ◌==◌, Bool, true, false, not, List, [], ◌∷◌, length, take, refl, sym, ap, subst, ◌∙◌, arith, length-take, if◌then◌else◌, codes, nat_lt, nat_eq, before_first, list_any, starts_with, concat, fold, bytes_eq, and_parts, not-true, ltb-true, ltb-false, eqb-true, same_from_decides, take_all, take_while-cons, bytes_eq-Decides, Space, SpaceOrLine, Line, is_query_mark, after, fresh, delivered, none_at_all, receives_in_pieces, Wanted, wanted, wanted_by, has_ended, method_of, after_method, target_of, name_in, NotYet, Refused, Name, reported_so_far, ReportedInPieces, LongNames, by_tests}
 
 -- ---- the method
 
@@ -60,19 +60,19 @@ kept_prefix target e = ap wanted_by (take_all 64 (prefix target) (ltb-false 64 (
 
 -- ---- both
 
-pub reported_by_heard : (request : List ℕ) → (delivered SpaceOrLine (after_method request)).over ≡ false
+pub reported_by_received : (request : List ℕ) → (delivered SpaceOrLine (after_method request)).over ≡ false
     → wanted request ≡ reported_so_far (delivered Space request) (delivered SpaceOrLine (after_method request))
-reported_by_heard request e =
+reported_by_received request e =
     λ i. if not (has_ended Space request) then NotYet
     else (if not (is_get_word (method_of request) i) then Refused
     else (if not (has_ended SpaceOrLine (after_method request)) then NotYet else sym (kept_prefix (target_of request) e) i))
 
 pub reported_in_pieces : ReportedInPieces
 reported_in_pieces pieces later rest e =
-    let method : fold after (fresh Space) pieces ≡ delivered Space (concat pieces) = hears_in_pieces Space pieces in
+    let method : fold after (fresh Space) pieces ≡ delivered Space (concat pieces) = receives_in_pieces Space pieces in
     let target : fold after (fresh SpaceOrLine) later ≡ delivered SpaceOrLine (after_method (concat pieces)) =
-    hears_in_pieces SpaceOrLine later ∙ ap (delivered SpaceOrLine) (sym rest) in
-    reported_by_heard (concat pieces) (sym (ap (λ (line : Line). line.over) target) ∙ e) ∙ sym (λ i. reported_so_far (method i) (target i))
+    receives_in_pieces SpaceOrLine later ∙ ap (delivered SpaceOrLine) (sym rest) in
+    reported_by_received (concat pieces) (sym (ap (λ (line : Line). line.over) target) ∙ e) ∙ sym (λ i. reported_so_far (method i) (target i))
 
 -- a long name is the name that is asked for
 pub named_by : (target name : List ℕ) → 64 < length (prefix target) → wanted_by target ≡ Name name → 64 < length name
@@ -100,6 +100,6 @@ long_by true true true target name long e = named_by target name long e
 pub long_names : LongNames
 long_names pieces later rest name over e =
     let request = concat pieces in
-    let target : fold after (fresh SpaceOrLine) later ≡ delivered SpaceOrLine (after_method request) = hears_in_pieces SpaceOrLine later ∙ ap (delivered SpaceOrLine) (sym rest) in
+    let target : fold after (fresh SpaceOrLine) later ≡ delivered SpaceOrLine (after_method request) = receives_in_pieces SpaceOrLine later ∙ ap (delivered SpaceOrLine) (sym rest) in
     let long = ltb-true 64 (length (prefix (target_of request))) (sym (ap (λ (line : Line). line.over) target) ∙ over) in
     long_by (has_ended Space request) (bytes_eq (method_of request) (codes "GET")) (has_ended SpaceOrLine (after_method request)) (target_of request) name long e

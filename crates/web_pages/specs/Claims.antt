@@ -7,7 +7,7 @@ use Rattle.web_pages.specs.Requests.{wanted}
 use Rattle.web_pages.specs.Requests.Wanted.{NotYet, Name}
 use Rattle.generators.specs.Prelude.{ScriptFunctions, uip}
 use Rattle.web_pages.specs.Pages.{page, is_page_whole, pages_of, page_by, pages_by}
-use Rattle.web_pages.specs.WebMeaning.{web_spec, web_spec_by}
+use Rattle.web_pages.specs.WebSpec.{web_spec, web_spec_by}
 
 -- The web server of a site satisfies the laws of pages, whatever functions its scripts call, if no page can be too long.
 abbrev pub KeepsPageLawsBy : {F : Type 0} → ScriptFunctions F → Type 0

@@ -2,7 +2,7 @@ pub mod Requests
 pub mod Pieces
 pub mod Pages
 pub mod ZeroPages
-pub mod WebMeaning
+pub mod WebSpec
 pub mod Words
 pub mod Claims
 pub mod WorkedRequests

@@ -9,8 +9,8 @@ use Rattle.generators.specs.Prelude.{ScriptFunctions, uip}
 use Rattle.app_events.specs.Prelude.{Snapshot, Pages}
 use Rattle.web_pages.specs.Requests.{Wanted, wanted}
 use Rattle.web_pages.specs.Requests.Wanted.{NotYet, Refused, Name}
-use Rattle.web_pages.specs.Pieces.{Say, reply_pieces_by}
-use Rattle.web_pages.specs.Pieces.Say.{Plain, Made}
+use Rattle.web_pages.specs.Pieces.{ScriptPiece, reply_pieces_by}
+use Rattle.web_pages.specs.Pieces.ScriptPiece.{Plain, Made}
 
 -- the index of the file with a name
 abbrev pub place_of : List File → List ℕ → Option ℕ
@@ -26,7 +26,7 @@ made_by g files function argument snapshot =
     g.output function argument (hits_of files snapshot.numbers argument) (drop (length files) snapshot.numbers) snapshot.now
 
 -- the text of pieces, as far as the snapshots reach
-abbrev pub text_by : {F : Type 0} → ScriptFunctions F → List File → List (Say F) → List Snapshot → List ℕ
+abbrev pub text_by : {F : Type 0} → ScriptFunctions F → List File → List (ScriptPiece F) → List Snapshot → List ℕ
 text_by g files [] captures = []
 text_by g files (Plain text ∷ more) captures = text ++ text_by g files more captures
 text_by g files (Made function argument ∷ more) [] = if g.function_table.takes_capture function then [] else text_by g files more []
@@ -35,7 +35,7 @@ text_by g files (Made function argument ∷ more) (capture ∷ later) =
     else text_by g files more (capture ∷ later)
 
 -- Nothing stops the pieces.
-abbrev pub reach_by : {F : Type 0} → ScriptFunctions F → List (Say F) → List Snapshot → Bool
+abbrev pub reach_by : {F : Type 0} → ScriptFunctions F → List (ScriptPiece F) → List Snapshot → Bool
 reach_by g [] captures = true
 reach_by g (Plain text ∷ more) captures = reach_by g more captures
 reach_by g (Made function argument ∷ more) [] = if g.function_table.takes_capture function then false else reach_by g more []
@@ -67,10 +67,10 @@ pages_by g files = record { page = page_by g files; complete = is_whole_by g fil
 abbrev pub made_text : List File → Function → List ℕ → Snapshot → List ℕ
 made_text = made_by uip
 
-abbrev pub page_text : List File → List (Say Function) → List Snapshot → List ℕ
+abbrev pub page_text : List File → List (ScriptPiece Function) → List Snapshot → List ℕ
 page_text = text_by uip
 
-abbrev pub reach_end : List (Say Function) → List Snapshot → Bool
+abbrev pub reach_end : List (ScriptPiece Function) → List Snapshot → Bool
 reach_end = reach_by uip
 
 abbrev pub page_for : List File → Wanted → List Snapshot → List ℕ

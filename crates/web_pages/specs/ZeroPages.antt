@@ -7,8 +7,8 @@ use Rattle.site_image.specs.Prelude.{File}
 use Rattle.web_pages.specs.Requests.{Wanted, wanted}
 use Rattle.web_pages.specs.Requests.Wanted.{Name}
 use Rattle.script_lang.specs.declared.function.Function.{Function}
-use Rattle.web_pages.specs.Pieces.{Say, reply_to, reply_pieces}
-use Rattle.web_pages.specs.Pieces.Say.{Plain, Made}
+use Rattle.web_pages.specs.Pieces.{ScriptPiece, reply_to, reply_pieces}
+use Rattle.web_pages.specs.Pieces.ScriptPiece.{Plain, Made}
 use Rattle.web_pages.specs.Pages.{page}
 
 abbrev pub zero_snapshot : Snapshot
@@ -27,10 +27,10 @@ abbrev pub zero_page : List File → List ℕ → List ℕ
 zero_page files target = page files (request_for target) (replicate (most_captures files (wanted (request_for target))) zero_snapshot)
 
 -- the text of a piece with the zero record of its kind
-abbrev pub zero_said : Say Function → List ℕ
-zero_said (Plain text) = text
-zero_said (Made function argument) = capture_text (capture_of function 0 zero_snapshot.now)
+abbrev pub zero_piece_text : ScriptPiece Function → List ℕ
+zero_piece_text (Plain text) = text
+zero_piece_text (Made function argument) = capture_text (capture_of function 0 zero_snapshot.now)
 
 -- the text of a reply
 abbrev pub zero_reply : List File → Option File → List ℕ
-zero_reply files found = flat_map zero_said (reply_to files found)
+zero_reply files found = flat_map zero_piece_text (reply_to files found)

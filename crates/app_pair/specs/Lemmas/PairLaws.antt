@@ -165,12 +165,12 @@ by_port_captures at keeps = record {
 
 module _ (at : ℕ → AppSpec) (keeps : (port : ℕ) → StaysAtPort (at port)) where
   -- at the same port it sends what the application of that port sends
-  says_at : (p q : AppState) → q.port ≡ p.port → (by_port at).output q ≡ (at p.port).output q
-  says_at p q e = ap (λ (port : ℕ). (at port).output q) e
+  writes_at : (p q : AppState) → q.port ≡ p.port → (by_port at).output q ≡ (at p.port).output q
+  writes_at p q e = ap (λ (port : ℕ). (at port).output q) e
 
   grows_at : (p q : AppState) → q.port ≡ p.port → Grows (at p.port) p q → Grows (by_port at) p q
   grows_at p q e g = record {
-    text = record { rest = g.text.rest; joined = g.text.joined ∙ sym (says_at p q e) };
+    text = record { rest = g.text.rest; joined = g.text.joined ∙ sym (writes_at p q e) };
     offset = g.offset;
   }
 
@@ -179,9 +179,9 @@ module _ (at : ℕ → AppSpec) (keeps : (port : ℕ) → StaysAtPort (at port))
     newdata_grows = λ numbers piece. grows_at p _ ((keeps p.port).newdata numbers p piece) (h.newdata_grows numbers piece);
     prepare_grows = λ numbers now. grows_at p _ ((keeps p.port).prepare numbers p now) (h.prepare_grows numbers now);
     acked_moves = λ numbers n l.
-        let both = h.acked_moves numbers n l in (says_at p _ ((keeps p.port).acked numbers p n) ∙ both.0, both.1);
+        let both = h.acked_moves numbers n l in (writes_at p _ ((keeps p.port).acked numbers p n) ∙ both.0, both.1);
     polled_keeps = λ numbers.
-        let both = h.polled_keeps numbers in (says_at p _ ((keeps p.port).polled numbers p) ∙ both.0, both.1);
+        let both = h.polled_keeps numbers in (writes_at p _ ((keeps p.port).polled numbers p) ∙ both.0, both.1);
     sends = λ numbers. h.sends numbers;
   }
 

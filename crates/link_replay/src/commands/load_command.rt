@@ -5,10 +5,10 @@ ghost use Rattle.file_tree.specs.Prelude.{files_of};
 ghost use Rattle.workload.specs.Prelude.{workload_of};
 ghost use Rattle.link_replay.specs.Prelude.{LoadEnds, WritesDue, IsPlayDue};
 ghost use Rattle.uip_edge.specs.Prelude.{work_view, sink_view};
-ghost use Rattle.link_replay.specs.declared.commands.output_form.Telling.TheVariants as tellings;
+ghost use Rattle.link_replay.specs.declared.commands.output_form.OutputForm.TheVariants as tellings;
 
-use crate::commands::output_form::Telling;
-use crate::commands::replay_command::tell_site;
+use crate::commands::output_form::OutputForm;
+use crate::commands::replay_command::report_site;
 use crate::commands::replay_end::ReplayEnd;
 use crate::commands::text_replay::play_schedule;
 use file_tree::{LoadFault, Site};
@@ -34,7 +34,7 @@ pub fn load<H: Shelf, K: Sink>(
 {
     match Site::open(alloc, shelf, site) {
         Ok(site) => load_site(alloc, site, seed, clients, out),
-        Err(LoadFault::Bad(error)) => tell_site(alloc, error, out),
+        Err(LoadFault::Bad(error)) => report_site(alloc, error, out),
         Err(LoadFault::Shelf) => ReplayEnd::ShelfFault,
         Err(LoadFault::NoMemory) => ReplayEnd::NoMemory,
     }
@@ -48,7 +48,7 @@ fn load_site<K: Sink>(alloc: Global, site: Site, seed: u64, clients: u8, out: &m
         (sink_view K.Sink out.old) (sink_view K.Sink out.new) result }
 {
     match make(alloc, seed, clients) {
-        Ok(schedule) => play_schedule(alloc, site, &schedule, Telling::Summary, out),
+        Ok(schedule) => play_schedule(alloc, site, &schedule, OutputForm::Summary, out),
         Err(_) => ReplayEnd::NoMemory,
     }
 }

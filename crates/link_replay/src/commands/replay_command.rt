@@ -75,7 +75,7 @@ fn refuse_site<H: Shelf, K: Sink>(
     ensures kept { H.held shelf.new ≡ H.held shelf.old }
 {
     match read_file(alloc, shelf, schedule, MOST_BYTES) {
-        Ok(_schedule) => tell_site(alloc, error, out),
+        Ok(_schedule) => report_site(alloc, error, out),
         Err(LoadFault::Shelf) => ReplayEnd::ShelfFault,
         Err(LoadFault::NoMemory) => ReplayEnd::NoMemory,
         Err(LoadFault::Bad(_)) => unreachable!(),
@@ -83,7 +83,7 @@ fn refuse_site<H: Shelf, K: Sink>(
 }
 
 /// Writes the line of a bad image.
-pub(crate) fn tell_site<K: Sink>(alloc: Global, error: SiteError, out: &mut K) -> ReplayEnd
+pub(crate) fn report_site<K: Sink>(alloc: Global, error: SiteError, out: &mut K) -> ReplayEnd
     ensures { WritesText (line_of error) (ends.BadSite error) (sink_view K.Sink out.old) (sink_view K.Sink out.new) result }
 {
     match bad_line(alloc, error) {

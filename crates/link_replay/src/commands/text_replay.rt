@@ -9,7 +9,7 @@ ghost use Rattle.link_replay.specs.Outcome.{bad_schedule as line_of};
 ghost use Rattle.link_replay.specs.declared.commands.replay_end.ReplayEnd.TheVariants as ends;
 
 use crate::commands::command_lines::{bad_schedule, write_text};
-use crate::commands::output_form::Telling;
+use crate::commands::output_form::OutputForm;
 use crate::commands::replay_end::ReplayEnd;
 use crate::world::WorldOf;
 use crate::world::schedule_play::play;
@@ -31,7 +31,7 @@ pub(crate) fn play_text<K: Sink>(
     ensures { WritesDue (IsTextDue (files_of site) text.now show) (sink_view K.Sink out.old) (sink_view K.Sink out.new) result }
 {
     match Schedule::read(alloc, text) {
-        Ok(schedule) => play_schedule(alloc, site, &schedule, Telling::Report { show }, out),
+        Ok(schedule) => play_schedule(alloc, site, &schedule, OutputForm::Report { show }, out),
         Err(fault) => refuse(alloc, fault, out),
     }
 }
@@ -41,25 +41,25 @@ pub(crate) fn play_schedule<K: Sink>(
     alloc: Global,
     site: Site,
     schedule: &Schedule,
-    telling: Telling,
+    chosen_form: OutputForm,
     out: &mut K,
 ) -> ReplayEnd
-    ensures { WritesDue (IsPlayDue (files_of site) schedule.now telling)
+    ensures { WritesDue (IsPlayDue (files_of site) schedule.now chosen_form)
         (sink_view K.Sink out.old) (sink_view K.Sink out.new) result }
 {
     see_loaded(&site);
     match play(alloc, schedule, site) {
-        Ok(world) => tell(&world, telling, out),
+        Ok(world) => tell(&world, chosen_form, out),
         Err(fault) => refuse(alloc, fault, out),
     }
 }
 
 /// Writes the result of a world, and returns the end.
-fn tell<A: App, K: Sink>(world: &WorldOf<A>, telling: Telling, out: &mut K) -> ReplayEnd
+fn tell<A: App, K: Sink>(world: &WorldOf<A>, chosen_form: OutputForm, out: &mut K) -> ReplayEnd
     ensures { OfWorld A.App world.now (λ w.
-        WritesEnd ends.Done ends.WriteFault (sink_view K.Sink out.old) (sink_view K.Sink out.new) (reported_of telling w) result) }
+        WritesEnd ends.Done ends.WriteFault (sink_view K.Sink out.old) (sink_view K.Sink out.new) (reported_of chosen_form w) result) }
 {
-    match write_world(world, telling, out) {
+    match write_world(world, chosen_form, out) {
         Ok(()) => ReplayEnd::Done,
         Err(_) => ReplayEnd::WriteFault,
     }
@@ -68,17 +68,17 @@ fn tell<A: App, K: Sink>(world: &WorldOf<A>, telling: Telling, out: &mut K) -> R
 /// Writes the result of a world.
 fn write_world<A: App, K: Sink>(
     world: &WorldOf<A>,
-    telling: Telling,
+    chosen_form: OutputForm,
     out: &mut K,
 ) -> Result<(), Failed>
-    ensures ok { OnOk result (OfWorld A.App world.now (λ w. Appends (K.written out.old) (K.written out.new) (reported_of telling w))) }
+    ensures ok { OnOk result (OfWorld A.App world.now (λ w. Appends (K.written out.old) (K.written out.new) (reported_of chosen_form w))) }
     ensures err { OnErr result (OfWorld A.App world.now (λ w. AppendsPrefix (K.written out.old) (K.written out.new)
-        (reported_of telling w))) }
+        (reported_of chosen_form w))) }
     ensures cause { HasCause (K.faults out.old) (K.faults out.new) result }
 {
-    match telling {
-        Telling::Report { show } => world.report(show, out),
-        Telling::Summary => world.summary(out),
+    match chosen_form {
+        OutputForm::Report { show } => world.report(show, out),
+        OutputForm::Summary => world.summary(out),
     }
 }
 

@@ -7,9 +7,9 @@ use Rattle.generators.specs.Prelude.{uip}
 use Rattle.web_pages.specs.Prelude.{wanted, web_spec, is_acknowledged, waits_for_capture, web_lawful, web_starts}
 use Rattle.telnet_shell.specs.declared.TheConstants.{MOST_COMMANDS}
 use Rattle.telnet_shell.specs.declared.shell.TheConstants.{TELNET_PORT}
-use Rattle.telnet_shell.specs.ShellMeaning.{shell_spec, waiting, with_byte, receive_byte, receive_all, is_stopped, take_capture}
+use Rattle.telnet_shell.specs.ShellSpec.{shell_spec, waiting, with_byte, receive_byte, receive_all, is_stopped, take_capture}
 use Rattle.telnet_shell.specs.Lemmas.ShellLaws.{shell_lawful, shell_starts}
-use Rattle.telnet_shell.specs.DeskMeaning.{app_spec_at, desk_spec}
+use Rattle.telnet_shell.specs.DeskSpec.{app_spec_at, desk_spec}
 
 either_port : (b : Bool) (p q : AppState) → q.port ≡ p.port → (if b then q else p).port ≡ p.port
 either_port true p q e = e
@@ -66,12 +66,12 @@ pub port_at : (files : List File) (port : ℕ) → StaysAtPort (app_spec_at file
 port_at files port = by_port StaysAtPort files (port == TELNET_PORT) (web_port files) shell_port
 
 -- at the same port the desk sends what the application of that port sends
-says_at : (files : List File) (p q : AppState) → q.port ≡ p.port → (desk_spec files).output q ≡ (app_spec_at files p.port).output q
-says_at files p q e = ap (λ (port : ℕ). (app_spec_at files port).output q) e
+writes_at : (files : List File) (p q : AppState) → q.port ≡ p.port → (desk_spec files).output q ≡ (app_spec_at files p.port).output q
+writes_at files p q e = ap (λ (port : ℕ). (app_spec_at files port).output q) e
 
 grows_at : (files : List File) (p q : AppState) → q.port ≡ p.port → Grows (app_spec_at files p.port) p q → Grows (desk_spec files) p q
 grows_at files p q e g = record {
-  text = record { rest = g.text.rest; joined = g.text.joined ∙ sym (says_at files p q e) };
+  text = record { rest = g.text.rest; joined = g.text.joined ∙ sym (writes_at files p q e) };
   offset = g.offset;
 }
 
@@ -85,10 +85,10 @@ desk_lawful files represented = record {
       ((lawful_at files p.port).prepare_grows numbers p now tt);
   acked_moves = λ numbers p n s h.
       let both = (lawful_at files p.port).acked_moves numbers p n tt h in
-      (says_at files p ((desk_spec files).acked numbers p n).part ((port_at files p.port).acked numbers p n) ∙ both.0, both.1);
+      (writes_at files p ((desk_spec files).acked numbers p n).part ((port_at files p.port).acked numbers p n) ∙ both.0, both.1);
   polled_keeps = λ numbers p s.
       let both = (lawful_at files p.port).polled_keeps numbers p tt in
-      (says_at files p ((desk_spec files).polled numbers p).part ((port_at files p.port).polled numbers p) ∙ both.0, both.1);
+      (writes_at files p ((desk_spec files).polled numbers p).part ((port_at files p.port).polled numbers p) ∙ both.0, both.1);
   sends = λ numbers p s. (lawful_at files p.port).sends numbers p tt;
 }
 

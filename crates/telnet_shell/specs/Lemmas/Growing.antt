@@ -6,7 +6,7 @@ use Rattle.telnet_shell.specs.Reading.{Awaits, Token, tokens, tokens_at, next_aw
 use Rattle.telnet_shell.specs.Reading.{command_of, line_after, is_quit, until_quit, has_quit, commands_in}
 use Rattle.telnet_shell.specs.Reading.Awaits.{Text}
 use Rattle.telnet_shell.specs.Reading.Token.{Byte, Answer}
-use Rattle.telnet_shell.specs.Transcript.{transcript, needs_capture, said_plainly, sent_at}
+use Rattle.telnet_shell.specs.Transcript.{transcript, needs_capture, plain_reply, sent_at}
 
 pub tokens_joined : (awaits : Awaits) (xs ys : List ℕ) → tokens awaits (xs ++ ys) ≡ tokens awaits xs ++ tokens (awaits_after awaits xs) ys
 tokens_joined awaits [] ys = refl
@@ -78,11 +78,11 @@ one_each false other output ws zs xs ys p q = after_prefix output xs ys q
 pub transcript_grows : (cs ds : List Command) (ks ls : List Snapshot) → IsPrefixOf (transcript cs ks) (transcript (cs ++ ds) (ks ++ ls))
 transcript_grows [] ds ks ls = record { rest = transcript ds (ks ++ ls); joined = refl }
 transcript_grows (c ∷ cs) ds [] [] =
-    none_left (needs_capture c) (said_plainly c) (transcript cs []) (transcript (cs ++ ds) []) (transcript_grows cs ds [] [])
+    none_left (needs_capture c) (plain_reply c) (transcript cs []) (transcript (cs ++ ds) []) (transcript_grows cs ds [] [])
 transcript_grows (c ∷ cs) ds [] (l ∷ ls) =
-    one_more (needs_capture c) (said_plainly c) (sent_at c l) (transcript cs []) (transcript (cs ++ ds) (l ∷ ls)) (transcript (cs ++ ds) ls)
+    one_more (needs_capture c) (plain_reply c) (sent_at c l) (transcript cs []) (transcript (cs ++ ds) (l ∷ ls)) (transcript (cs ++ ds) ls)
     (transcript_grows cs ds [] (l ∷ ls))
 transcript_grows (c ∷ cs) ds (k ∷ ks) ls =
-    one_each (needs_capture c) (sent_at c k) (said_plainly c) (transcript cs ks) (transcript (cs ++ ds) (ks ++ ls)) (transcript cs (k ∷ ks))
+    one_each (needs_capture c) (sent_at c k) (plain_reply c) (transcript cs ks) (transcript (cs ++ ds) (ks ++ ls)) (transcript cs (k ∷ ks))
     (transcript (cs ++ ds) (k ∷ (ks ++ ls)))
     (transcript_grows cs ds ks ls) (transcript_grows cs ds (k ∷ ks) ls)

@@ -10,8 +10,8 @@ use Rattle.telnet_shell.specs.declared.TheConstants.{MOST_SILENT_POLLS, MOST_COM
 use Rattle.telnet_shell.specs.Reading.{commands_in}
 use Rattle.telnet_shell.specs.Transcript.{transcript}
 use Rattle.telnet_shell.specs.Lemmas.Growing.{commands_grow, further, transcript_grows}
-use Rattle.telnet_shell.specs.ShellMeaning.{session, waiting, with_byte, receive_byte, receive_all, is_stopped}
-use Rattle.telnet_shell.specs.ShellMeaning.{session_has_ended, left_of_session, shell_want, shell_spec}
+use Rattle.telnet_shell.specs.ShellSpec.{session, waiting, with_byte, receive_byte, receive_all, is_stopped}
+use Rattle.telnet_shell.specs.ShellSpec.{session_has_ended, left_of_session, shell_want, shell_spec}
 
 same_prefix : (xs : List ℕ) → IsPrefixOf xs xs
 same_prefix xs = record { rest = []; joined = append-nil xs }

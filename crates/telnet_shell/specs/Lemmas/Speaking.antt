@@ -11,9 +11,9 @@ use Rattle.generators.specs.declared.capture.Capture.TheVariants.{Empty}
 use Rattle.app_events.specs.Prelude.{AppState, Snapshot}
 use Rattle.telnet_shell.specs.declared.command.Command.{Command}
 use Rattle.telnet_shell.specs.declared.command.Command.TheVariants.{Refuse, Help, Stats, Conns, Ticks, Quit, Blank, Other}
-use Rattle.telnet_shell.specs.Transcript.{past_text, function_of, needs_capture, said_with, said_plainly, sent_at, transcript, unfinished}
-use Rattle.telnet_shell.specs.Saying.{is_captured, stops_at, left_said, IsLeading, Shows, needed, IsTrailing}
-use Rattle.telnet_shell.specs.ShellMeaning.{session, waiting}
+use Rattle.telnet_shell.specs.Transcript.{past_text, function_of, needs_capture, reply_with, plain_reply, sent_at, transcript, unfinished}
+use Rattle.telnet_shell.specs.Transmission.{is_captured, stops_at, replies_left, IsLeading, Shows, needed, IsTrailing}
+use Rattle.telnet_shell.specs.ShellSpec.{session, waiting}
 
 none_split : (b : Bool) (s u x y w : List ℕ) (n : ℕ) → 0 ≡ (if b then n + 1 else n) → (0 ≡ n → u ≡ x ++ y)
     → (if b then w else s ++ u) ≡ (if b then [] else s ++ x) ++ y
@@ -34,21 +34,21 @@ pub split : (before q : List Command) (spoken later : List Snapshot) → length 
 split [] q [] later e = refl
 split [] q (k ∷ ks) later e = absurd (omega (arith, e))
 split (c ∷ cs) q [] [] e =
-    none_split (needs_capture c) (said_plainly c) (transcript (cs ++ q) []) (transcript cs []) (transcript q []) [] (needed cs) e
+    none_split (needs_capture c) (plain_reply c) (transcript (cs ++ q) []) (transcript cs []) (transcript q []) [] (needed cs) e
     (λ f. split cs q [] [] f)
 split (c ∷ cs) q [] (l ∷ ls) e =
-    none_split (needs_capture c) (said_plainly c) (transcript (cs ++ q) (l ∷ ls)) (transcript cs []) (transcript q (l ∷ ls))
+    none_split (needs_capture c) (plain_reply c) (transcript (cs ++ q) (l ∷ ls)) (transcript cs []) (transcript q (l ∷ ls))
     (sent_at c l ++ transcript (cs ++ q) ls) (needed cs) e
     (λ f. split cs q [] (l ∷ ls) f)
 split (c ∷ cs) q (k ∷ ks) later e =
-    each_split (needs_capture c) (sent_at c k) (transcript (cs ++ q) (ks ++ later)) (transcript cs ks) (said_plainly c)
+    each_split (needs_capture c) (sent_at c k) (transcript (cs ++ q) (ks ++ later)) (transcript cs ks) (plain_reply c)
     (transcript (cs ++ q) (k ∷ (ks ++ later))) (transcript cs (k ∷ ks)) (transcript q later)
     (length ks) (length (k ∷ ks)) (needed cs) (one_longer k ks) e (λ f. split cs q ks later f) (λ f. split cs q (k ∷ ks) later f)
 
 -- a command whose text is among the first bytes is passed
-pub past_said : (s x : List ℕ) (at : ℕ) (go : ℕ → List Command) (stay : List Command)
+pub past_reply : (s x : List ℕ) (at : ℕ) (go : ℕ → List Command) (stay : List Command)
     → past_text s (length (s ++ x) + at) go stay ≡ go (length x + at)
-past_said s x at go stay =
+past_reply s x at go stay =
     let size : length (s ++ x) ≡ length s + length x = length-append s x in
     ap (λ (b : Bool). if b then go (length (s ++ x) + at - length s) else stay)
     (le-leb (length s) (length (s ++ x) + at) (omega (arith, size)))
@@ -58,37 +58,37 @@ none_past : (b : Bool) (s x : List ℕ) (at n : ℕ) (go : ℕ → List Command)
     → (0 ≡ n → go (length x + at) ≡ r)
     → (if b then held else past_text s (length (if b then [] else s ++ x) + at) go stay) ≡ r
 none_past true s x at n go held other stay r e f = absurd (omega (arith, e))
-none_past false s x at n go held other stay r e f = past_said s x at go stay ∙ f e
+none_past false s x at n go held other stay r e f = past_reply s x at go stay ∙ f e
 
 none_past_with : (b : Bool) (s t x : List ℕ) (at n : ℕ) (go gone : ℕ → List Command) (stay r : List Command) → 0 ≡ (if b then n + 1 else n)
     → (0 ≡ n → go (length x + at) ≡ r)
     → (if b then past_text t (length (if b then [] else s ++ x) + at) gone stay
     else past_text s (length (if b then [] else s ++ x) + at) go stay) ≡ r
 none_past_with true s t x at n go gone stay r e f = absurd (omega (arith, e))
-none_past_with false s t x at n go gone stay r e f = past_said s x at go stay ∙ f e
+none_past_with false s t x at n go gone stay r e f = past_reply s x at go stay ∙ f e
 
 each_past : (b : Bool) (t x s z : List ℕ) (at len l n : ℕ) (gone go : ℕ → List Command) (stay r : List Command) → l ≡ len + 1
     → l ≡ (if b then n + 1 else n)
     → (len ≡ n → gone (length x + at) ≡ r) → (l ≡ n → go (length z + at) ≡ r)
     → (if b then past_text t (length (if b then t ++ x else s ++ z) + at) gone stay
     else past_text s (length (if b then t ++ x else s ++ z) + at) go stay) ≡ r
-each_past true t x s z at len l n gone go stay r d e f g = past_said t x at gone stay ∙ f (omega (arith, d, e))
-each_past false t x s z at len l n gone go stay r d e f g = past_said s z at go stay ∙ g e
+each_past true t x s z at len l n gone go stay r d e f g = past_reply t x at gone stay ∙ f (omega (arith, d, e))
+each_past false t x s z at len l n gone go stay r d e f g = past_reply s z at go stay ∙ g e
 
 pub passed : (before q : List Command) (spoken later : List Snapshot) (at : ℕ) → length spoken ≡ needed before
     → unfinished (before ++ q) (spoken ++ later) (length (transcript before spoken) + at) ≡ unfinished q later at
 passed [] q [] later at e = ap (λ (n : ℕ). unfinished q later n) (let e : 0 + at ≡ at = omega arith in e)
 passed [] q (k ∷ ks) later at e = absurd (omega (arith, e))
 passed (c ∷ cs) q [] [] at e =
-    none_past (needs_capture c) (said_plainly c) (transcript cs []) at (needed cs) (λ n. unfinished (cs ++ q) [] n) (c ∷ (cs ++ q)) []
+    none_past (needs_capture c) (plain_reply c) (transcript cs []) at (needed cs) (λ n. unfinished (cs ++ q) [] n) (c ∷ (cs ++ q)) []
     (c ∷ (cs ++ q)) (unfinished q [] at) e
     (λ f. passed cs q [] [] at f)
 passed (c ∷ cs) q [] (l ∷ ls) at e =
-    none_past_with (needs_capture c) (said_plainly c) (sent_at c l) (transcript cs []) at (needed cs) (λ n. unfinished (cs ++ q) (l ∷ ls) n)
+    none_past_with (needs_capture c) (plain_reply c) (sent_at c l) (transcript cs []) at (needed cs) (λ n. unfinished (cs ++ q) (l ∷ ls) n)
     (λ n. unfinished (cs ++ q) ls n) (c ∷ (cs ++ q)) (unfinished q (l ∷ ls) at) e
     (λ f. passed cs q [] (l ∷ ls) at f)
 passed (c ∷ cs) q (k ∷ ks) later at e =
-    each_past (needs_capture c) (sent_at c k) (transcript cs ks) (said_plainly c) (transcript cs (k ∷ ks)) at (length ks) (length (k ∷ ks))
+    each_past (needs_capture c) (sent_at c k) (transcript cs ks) (plain_reply c) (transcript cs (k ∷ ks)) at (length ks) (length (k ∷ ks))
     (needed cs)
     (λ n. unfinished (cs ++ q) (ks ++ later) n) (λ n. unfinished (cs ++ q) (k ∷ (ks ++ later)) n) (c ∷ (cs ++ q)) (unfinished q later at)
     (one_longer k ks) e
@@ -96,15 +96,15 @@ passed (c ∷ cs) q (k ∷ ks) later at e =
 
 -- ---- the first command
 
-pub said_some : (c : Command) (capture : Capture) → 1 ≤ length (said_with c capture)
-said_some (Refuse verb option) capture = omega arith
-said_some Help capture = omega arith
-said_some Stats capture = omega (arith, length-append (capture_text capture) (codes "> "))
-said_some Conns capture = omega (arith, length-append (capture_text capture) (codes "> "))
-said_some Ticks capture = omega (arith, length-append (capture_text capture) (codes "\r\n> "))
-said_some Quit capture = omega arith
-said_some Blank capture = omega arith
-said_some Other capture = omega arith
+pub reply_is_not_empty : (c : Command) (capture : Capture) → 1 ≤ length (reply_with c capture)
+reply_is_not_empty (Refuse verb option) capture = omega arith
+reply_is_not_empty Help capture = omega arith
+reply_is_not_empty Stats capture = omega (arith, length-append (capture_text capture) (codes "> "))
+reply_is_not_empty Conns capture = omega (arith, length-append (capture_text capture) (codes "> "))
+reply_is_not_empty Ticks capture = omega (arith, length-append (capture_text capture) (codes "\r\n> "))
+reply_is_not_empty Quit capture = omega arith
+reply_is_not_empty Blank capture = omega arith
+reply_is_not_empty Other capture = omega arith
 
 taken_is : (c : Command) (k : Snapshot) → needs_capture c ≡ true → is_captured (capture_of (function_of c) 0 k.now) ≡ true
 taken_is Stats k e = refl
@@ -131,44 +131,44 @@ empty_stops c capture e = ap (λ (d : Capture). stops_at c d) e ∙ by_need (nee
     by_need false = refl
 
 pub prefix_left : (q : List Command) (capture : Capture) (prefix : List Snapshot) → Shows q capture prefix
-    → transcript q prefix ≡ left_said q capture
+    → transcript q prefix ≡ replies_left q capture
 prefix_left [] capture [] s = refl
 prefix_left [] capture (k ∷ ks) s = absurd s
 prefix_left (c ∷ cs) capture [] s =
-    ap (λ (d : Capture). if needs_capture c then [] else said_with c d ++ transcript cs []) (sym s)
-    ∙ ap (λ (b : Bool). if b then [] else said_with c capture ++ transcript cs []) (sym (empty_stops c capture s))
+    ap (λ (d : Capture). if needs_capture c then [] else reply_with c d ++ transcript cs []) (sym s)
+    ∙ ap (λ (b : Bool). if b then [] else reply_with c capture ++ transcript cs []) (sym (empty_stops c capture s))
 prefix_left (c ∷ cs) capture (k ∷ ks) s =
     ap (λ (ls : List Snapshot). transcript (c ∷ cs) (k ∷ ls)) s.0
-    ∙ ap (λ (b : Bool). if b then sent_at c k ++ transcript cs [] else said_plainly c ++ transcript cs (k ∷ [])) s.1
-    ∙ ap (λ (d : Capture). said_with c d ++ transcript cs []) (sym s.2)
-    ∙ ap (λ (b : Bool). if b then [] else said_with c capture ++ transcript cs []) (sym (held_goes c k capture s.1 s.2))
+    ∙ ap (λ (b : Bool). if b then sent_at c k ++ transcript cs [] else plain_reply c ++ transcript cs (k ∷ [])) s.1
+    ∙ ap (λ (d : Capture). reply_with c d ++ transcript cs []) (sym s.2)
+    ∙ ap (λ (b : Bool). if b then [] else reply_with c capture ++ transcript cs []) (sym (held_goes c k capture s.1 s.2))
 
 -- the first command is not wholly acknowledged
 stays_plain : (c : Command) (cs go : List Command) (capture : Capture) (at : ℕ) → capture ≡ Empty → IsLeading (c ∷ cs) capture at
     → (b : Bool) → needs_capture c ≡ b
-    → (if b then c ∷ cs else past_text (said_plainly c) at (λ n. go) (c ∷ cs)) ≡ c ∷ cs
+    → (if b then c ∷ cs else past_text (plain_reply c) at (λ n. go) (c ∷ cs)) ≡ c ∷ cs
 stays_plain c cs go capture at s i true e = refl
 stays_plain c cs go capture at s i false e =
-    let short : at < length (said_with c capture) = i.1 (empty_stops c capture s ∙ e) in
-    let small : at < length (said_plainly c) = subst (λ (d : Capture). at < length (said_with c d)) s short in
-    ap (λ (b : Bool). if b then go else c ∷ cs) (lt-leb (length (said_plainly c)) at small)
+    let short : at < length (reply_with c capture) = i.1 (empty_stops c capture s ∙ e) in
+    let small : at < length (plain_reply c) = subst (λ (d : Capture). at < length (reply_with c d)) s short in
+    ap (λ (b : Bool). if b then go else c ∷ cs) (lt-leb (length (plain_reply c)) at small)
 
 pub stays : (q : List Command) (capture : Capture) (prefix : List Snapshot) (at : ℕ) → Shows q capture prefix → IsLeading q capture at
     → unfinished q prefix at ≡ q
 stays [] capture [] at s i = refl
 stays [] capture (k ∷ ks) at s i = absurd s
-stays (c ∷ cs) capture [] at s i = stays_plain c cs (unfinished cs [] (at - length (said_plainly c))) capture at s i (needs_capture c) refl
+stays (c ∷ cs) capture [] at s i = stays_plain c cs (unfinished cs [] (at - length (plain_reply c))) capture at s i (needs_capture c) refl
 stays (c ∷ cs) capture (k ∷ ks) at s i =
-    let short : at < length (said_with c capture) = i.1 (held_goes c k capture s.1 s.2) in
-    let small : at < length (sent_at c k) = subst (λ (d : Capture). at < length (said_with c d)) s.2 short in
+    let short : at < length (reply_with c capture) = i.1 (held_goes c k capture s.1 s.2) in
+    let small : at < length (sent_at c k) = subst (λ (d : Capture). at < length (reply_with c d)) s.2 short in
     ap (λ (b : Bool). if b then past_text (sent_at c k) at (λ n. unfinished cs ks n) (c ∷ cs)
-    else past_text (said_plainly c) at (λ n. unfinished cs (k ∷ ks) n) (c ∷ cs)) s.1
+    else past_text (plain_reply c) at (λ n. unfinished cs (k ∷ ks) n) (c ∷ cs)) s.1
     ∙ ap (λ (b : Bool). if b then unfinished cs ks (at - length (sent_at c k)) else c ∷ cs) (lt-leb (length (sent_at c k)) at small)
 
 -- ---- after what was sent before
 
 pub session_is : (q : List Command) (capture : Capture) (at : ℕ) (p : AppState) (b : IsTrailing q capture at p)
-    → session p ≡ transcript b.before b.spoken ++ left_said q capture
+    → session p ≡ transcript b.before b.spoken ++ replies_left q capture
 session_is q capture at p b =
     ap (λ (cs : List Command). transcript cs p.snapshots) b.commands
     ∙ ap (λ (ks : List Snapshot). transcript (b.before ++ q) ks) b.snapshots

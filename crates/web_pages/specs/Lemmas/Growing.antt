@@ -5,15 +5,15 @@ use Rattle.site_image.specs.Prelude.{File}
 use Rattle.app_events.specs.Prelude.{Snapshot, IsPrefixOf}
 use Rattle.web_pages.specs.Requests.{Wanted, wanted}
 use Rattle.web_pages.specs.Requests.Wanted.{NotYet, Refused, Name}
-use Rattle.web_pages.specs.Pieces.{Say, reply_pieces_by}
-use Rattle.web_pages.specs.Pieces.Say.{Plain, Made}
+use Rattle.web_pages.specs.Pieces.{ScriptPiece, reply_pieces_by}
+use Rattle.web_pages.specs.Pieces.ScriptPiece.{Plain, Made}
 use Rattle.web_pages.specs.Pages.{made_by, text_by, reach_by, page_for_by, whole_for_by, page_by, is_whole_by}
 use Rattle.generators.specs.Prelude.{ScriptFunctions}
 use Rattle.web_pages.specs.Lemmas.Deciding.{more_by}
 
 -- ---- a call, by whether it takes a capture
 
-pub silent_text : {F : Type 0} (g : ScriptFunctions F) (files : List File) (function : F) (argument : List ℕ) (more : List (Say F))
+pub silent_text : {F : Type 0} (g : ScriptFunctions F) (files : List File) (function : F) (argument : List ℕ) (more : List (ScriptPiece F))
     (captures : List Snapshot)
     → g.function_table.takes_capture function ≡ false
     → text_by g files (Made function argument ∷ more) captures ≡ text_by g files more captures
@@ -22,23 +22,23 @@ silent_text g files function argument more (capture ∷ later) e =
     ap (λ b. if b then made_by g files function argument capture ++ text_by g files more later else text_by g files more (capture ∷ later))
     e
 
-pub silent_end : {F : Type 0} (g : ScriptFunctions F) (function : F) (argument : List ℕ) (more : List (Say F)) (captures : List Snapshot)
+pub silent_end : {F : Type 0} (g : ScriptFunctions F) (function : F) (argument : List ℕ) (more : List (ScriptPiece F)) (captures : List Snapshot)
     → g.function_table.takes_capture function ≡ false
     → reach_by g (Made function argument ∷ more) captures ≡ reach_by g more captures
 silent_end g function argument more [] e = ap (λ b. if b then false else reach_by g more []) e
 silent_end g function argument more (capture ∷ later) e = ap (λ b. if b then reach_by g more later else reach_by g more (capture ∷ later)) e
 
-pub stopped_text : {F : Type 0} (g : ScriptFunctions F) (files : List File) (function : F) (argument : List ℕ) (more : List (Say F))
+pub stopped_text : {F : Type 0} (g : ScriptFunctions F) (files : List File) (function : F) (argument : List ℕ) (more : List (ScriptPiece F))
     → g.function_table.takes_capture function ≡ true
     → text_by g files (Made function argument ∷ more) [] ≡ []
 stopped_text g files function argument more e = ap (λ b. if b then [] else text_by g files more []) e
 
-pub stopped_end : {F : Type 0} (g : ScriptFunctions F) (function : F) (argument : List ℕ) (more : List (Say F))
+pub stopped_end : {F : Type 0} (g : ScriptFunctions F) (function : F) (argument : List ℕ) (more : List (ScriptPiece F))
     → g.function_table.takes_capture function ≡ true
     → reach_by g (Made function argument ∷ more) [] ≡ false
 stopped_end g function argument more e = ap (λ b. if b then false else reach_by g more []) e
 
-pub made_first : {F : Type 0} (g : ScriptFunctions F) (files : List File) (function : F) (argument : List ℕ) (more : List (Say F))
+pub made_first : {F : Type 0} (g : ScriptFunctions F) (files : List File) (function : F) (argument : List ℕ) (more : List (ScriptPiece F))
     (capture : Snapshot) (later : List Snapshot)
     → g.function_table.takes_capture function ≡ true
     → text_by g files (Made function argument ∷ more) (capture ∷ later)
@@ -47,7 +47,7 @@ made_first g files function argument more capture later e =
     ap (λ b. if b then made_by g files function argument capture ++ text_by g files more later else text_by g files more (capture ∷ later))
     e
 
-pub made_end : {F : Type 0} (g : ScriptFunctions F) (function : F) (argument : List ℕ) (more : List (Say F))
+pub made_end : {F : Type 0} (g : ScriptFunctions F) (function : F) (argument : List ℕ) (more : List (ScriptPiece F))
     (capture : Snapshot) (later : List Snapshot)
     → g.function_table.takes_capture function ≡ true
     → reach_by g (Made function argument ∷ more) (capture ∷ later) ≡ reach_by g more later
@@ -69,8 +69,8 @@ same_prefix xs ys e = record { rest = []; joined = append-nil xs ∙ sym e }
 
 -- ---- the text of pieces
 
-pub text_grows : {F : Type 0} (g : ScriptFunctions F) (files : List File) (says : List (Say F)) (captures later : List Snapshot)
-    → IsPrefixOf (text_by g files says captures) (text_by g files says (captures ++ later))
+pub text_grows : {F : Type 0} (g : ScriptFunctions F) (files : List File) (piece_output : List (ScriptPiece F)) (captures later : List Snapshot)
+    → IsPrefixOf (text_by g files piece_output captures) (text_by g files piece_output (captures ++ later))
 text_grows g files [] captures later = nothing_prefix []
 text_grows g files (Plain text ∷ more) captures later =
     prefix_after text (text_by g files more captures) (text_by g files more (captures ++ later)) (text_grows g files more captures later)
@@ -100,13 +100,13 @@ text_grows g files (Made function argument ∷ more) (capture ∷ rest) later =
     ] refl
 
 -- where nothing stops the pieces, more captures change nothing
-abbrev Stays : {F : Type 0} → ScriptFunctions F → List File → List (Say F) → List Snapshot → List Snapshot → Type 0
-Stays g files says captures later =
-    reach_by g says captures ≡ true
-    → (text_by g files says (captures ++ later) ≡ text_by g files says captures) × (reach_by g says (captures ++ later) ≡ true)
+abbrev Stays : {F : Type 0} → ScriptFunctions F → List File → List (ScriptPiece F) → List Snapshot → List Snapshot → Type 0
+Stays g files piece_output captures later =
+    reach_by g piece_output captures ≡ true
+    → (text_by g files piece_output (captures ++ later) ≡ text_by g files piece_output captures) × (reach_by g piece_output (captures ++ later) ≡ true)
 
-pub text_stays : {F : Type 0} (g : ScriptFunctions F) (files : List File) (says : List (Say F)) (captures later : List Snapshot)
-    → Stays g files says captures later
+pub text_stays : {F : Type 0} (g : ScriptFunctions F) (files : List File) (piece_output : List (ScriptPiece F)) (captures later : List Snapshot)
+    → Stays g files piece_output captures later
 text_stays g files [] captures later whole = (refl, refl)
 text_stays g files (Plain text ∷ more) captures later whole =
     let rest = text_stays g files more captures later whole in

@@ -9,7 +9,7 @@ use Rattle.app_events.specs.declared.want.Want.TheVariants.{Nothing, Send, Close
 use Rattle.web_pages.specs.Requests.{wanted}
 use Rattle.generators.specs.Prelude.{ScriptFunctions}
 use Rattle.web_pages.specs.Pages.{page_by, is_whole_by, pages_by}
-use Rattle.web_pages.specs.WebMeaning.{web_spec_by, web_want_by, is_acknowledged_by, waits_for_capture_by, left_of_by}
+use Rattle.web_pages.specs.WebSpec.{web_spec_by, web_want_by, is_acknowledged_by, waits_for_capture_by, left_of_by}
 use Rattle.web_pages.specs.Lemmas.Growing.{page_grows, same_prefix}
 use Rattle.web_pages.specs.declared.TheConstants.{MOST_POLLS, LARGEST_SEGMENT}
 

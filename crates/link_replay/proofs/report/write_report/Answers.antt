@@ -1,8 +1,8 @@
 use Rattle.link_replay.proofs.Prelude.{◌≡◌, ◌++◌, ℕ, List, length, map, ap, subst, ◌∙◌, OnOk, err_from_is_err_and, CodeSent, CodeSide, EndsReport, code_side_shown, IsLink, LinkRepresents, Link, link_of, word_if, counts_line, line_of_datagram, lines_of_client, numbered_texts, side_shown, ticks_of}
 use Rattle.link_replay.proofs.Places.{link_read}
-use Rattle.link_replay.proofs.Saying.{wrote_by, wrote_stop, wrote_then}
-use Rattle.link_replay.proofs.Shown.{lines_stand, not_done, report_ends}
-use Rattle.link_replay.proofs.Standing.{counts_stand}
+use Rattle.link_replay.proofs.Transmission.{wrote_by, wrote_stop, wrote_then}
+use Rattle.link_replay.proofs.Shown.{lines_represent, not_done, report_ends}
+use Rattle.link_replay.proofs.Representing.{counts_represent}
 use Rattle.link_replay.proofs.report.write_report.Goals as goal
 
 pub returns-in_err-write_shown-clause-wrote : goal.returns-in_err-write_shown-clause-wrote
@@ -29,7 +29,7 @@ returns-in_err-write_clients-clause-wrote g c = rw (← c.world.view_is) (λ m s
     let shown = word_if show (numbered_texts line_of_datagram 1 w.sent) in
     wrote_then _ _ _ shown (clients ++ last) c.in_ok-write_shown.field-0 r
     (c.in_ok-write_shown.ensures.wrote m served w (c.addr.ensures ∙ represented.node.addr) read.0 read.1 reached)
-    (wrote_stop _ _ clients last c.in_err-write_clients.field-0.0 p.0 r p.1 (wrote_by _ _ _ _ clients (lines_stand show c.as_slice-sides.result.now w.sides read.0.sides) c.in_err-write_clients.ensures.wrote)))
+    (wrote_stop _ _ clients last c.in_err-write_clients.field-0.0 p.0 r p.1 (wrote_by _ _ _ _ clients (lines_represent show c.as_slice-sides.result.now w.sides read.0.sides) c.in_err-write_clients.ensures.wrote)))
 
 pub returns-clause-wrote : goal.returns-clause-wrote
 returns-clause-wrote g c = rw (← c.world.view_is) (λ m served w represented reached.
@@ -43,10 +43,10 @@ returns-clause-wrote g c = rw (← c.world.view_is) (λ m served w represented r
     let count : ℕ = length c.as_slice-sent.result.now in
     let text = counts_line c.ticks.result count in
     let made : c.bytes.result.now ≡ text = ◌∙◌ {b = c.last_line-line.result} {c = text} c.bytes.ensures c.last_line-line.ensures in
-    let line : text ≡ last = counts_stand _ _ _ _ (c.ticks.ensures ∙ represented.node.counts.ticks) read.0.sent.same_length in
+    let line : text ≡ last = counts_represent _ _ _ _ (c.ticks.ensures ∙ represented.node.counts.ticks) read.0.sent.same_length in
     wrote_then _ _ _ shown (clients ++ last) c.in_ok-write_shown.field-0 r
     (c.in_ok-write_shown.ensures.wrote m served w (c.addr.ensures ∙ represented.node.addr) read.0 read.1 reached)
-    (wrote_then _ _ _ clients last c.in_ok-write_clients.field-0 r (wrote_by _ _ _ _ clients (lines_stand show c.as_slice-sides.result.now w.sides read.0.sides) c.in_ok-write_clients.ensures.wrote)
+    (wrote_then _ _ _ clients last c.in_ok-write_clients.field-0 r (wrote_by _ _ _ _ clients (lines_represent show c.as_slice-sides.result.now w.sides read.0.sides) c.in_ok-write_clients.ensures.wrote)
     (wrote_by _ _ r text last line (wrote_by _ _ r c.bytes.result.now text made c.write_word.ensures.wrote))))
 
 pub returns-in_err-write_shown-clause-shows : goal.returns-in_err-write_shown-clause-shows

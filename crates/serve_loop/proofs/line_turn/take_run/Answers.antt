@@ -30,17 +30,17 @@ returns-in_ok-take_datagram-in-Datagram-clause-ok g c =
     c.args.bytes.now c.feed_run-run.result.count (g.M.Medium.shown c.feed_run-run.new.self) c.args.node.now c.feed_run-run.ensures.did
     _ _ _ (rw c.in-Datagram.is at c.feed_run-run.ensures.reported) c.in_ok-take_datagram-in-Datagram.ensures.ok
 
-pub returns-in_err-say-in-Own-clause-err : goal.returns-in_err-say-in-Own-clause-err
-returns-in_err-say-in-Own-clause-err g c = on_err _
+pub returns-in_err-write_out-in-Own-clause-err : goal.returns-in_err-write_out-in-Own-clause-err
+returns-in_err-write_out-in-Own-clause-err g c = on_err _
     (own_broke g.A.App g.M.Medium.spec
     (λ k before. g.M.Medium.fed c.args.medium.now k before) (λ k acts. g.M.Medium.did c.args.medium.now k acts) (λ k acts. g.M.Medium.did c.feed_run-run.new.self k acts)
     c.args.bytes.now c.feed_run-run.result.count (g.M.Medium.shown c.feed_run-run.new.self) c.args.node.now c.feed_run-run.ensures.did
     _ _ (rw c.in-Own.is at c.feed_run-run.ensures.reported) c.feed_run-run.ensures.some c.feed_run-run.ensures.within
-    (rw c.shown.ensures at c.in_err-say-in-Own.ensures.prefix))
+    (rw c.shown.ensures at c.in_err-write_out-in-Own.ensures.prefix))
 
-pub returns-in_ok-say-in-Own-clause-ok : goal.returns-in_ok-say-in-Own-clause-ok
-returns-in_ok-say-in-Own-clause-ok g c =
+pub returns-in_ok-write_out-in-Own-clause-ok : goal.returns-in_ok-write_out-in-Own-clause-ok
+returns-in_ok-write_out-in-Own-clause-ok g c =
     own_wrote g.A.App g.M.Medium.spec
     (λ k before. g.M.Medium.fed c.args.medium.now k before) (λ k acts. g.M.Medium.did c.args.medium.now k acts) (λ k acts. g.M.Medium.did c.feed_run-run.new.self k acts)
     c.args.bytes.now c.feed_run-run.result.count (g.M.Medium.shown c.feed_run-run.new.self) c.args.node.now c.feed_run-run.ensures.did
-    _ _ (rw c.in-Own.is at c.feed_run-run.ensures.reported) (rw c.shown.ensures at c.in_ok-say-in-Own.ensures.whole)
+    _ _ (rw c.in-Own.is at c.feed_run-run.ensures.reported) (rw c.shown.ensures at c.in_ok-write_out-in-Own.ensures.whole)

@@ -1,4 +1,4 @@
-use Rattle.tcp_machine.proofs.Saying.{has_part_of}
+use Rattle.tcp_machine.proofs.Transmission.{has_part_of}
 use Rattle.tcp_machine.proofs.app_request.ask_prepared.Goals as goal
 
 pub want-want-requires : goal.want-want-requires

@@ -1,6 +1,6 @@
 -- What is sent is at least one byte, and the application has it.
-use Rattle.tcp_machine.proofs.Prelude.{rules, arith, ap, sym, ◌∙◌, can_say_wanted, can_less, is_open}
-use Rattle.tcp_machine.proofs.Saying.{has_part_of, open_lives, sends_some}
+use Rattle.tcp_machine.proofs.Prelude.{rules, arith, ap, sym, ◌∙◌, can_supply_wanted, can_less, is_open}
+use Rattle.tcp_machine.proofs.Transmission.{has_part_of, open_lives, sends_some}
 use Rattle.tcp_machine.proofs.app_request.do_as_wanted.Goals as goal
 
 pub send-requires-in-Send-clause-some : goal.send-requires-in-Send-clause-some
@@ -20,7 +20,7 @@ returns-in-Send-clause-takes g c = record {
     says = λ _.
         let k = g.A.App.config c.args.shared.now in
         let can = can_less g.A.App.app_spec g.A.App.represents c.args.conn.now.app k c.in-Send.count c.min-len.result (omega (arith, c.min-len.ensures))
-        (can_say_wanted g.A.App.app_spec g.A.App.represents c.args.conn.now.app k (g.A.App.numbers c.args.shared.now) c.in-Send.count (g.met.A.App.lawful c.args.conn.now.app k)
+        (can_supply_wanted g.A.App.app_spec g.A.App.represents c.args.conn.now.app k (g.A.App.numbers c.args.shared.now) c.in-Send.count (g.met.A.App.lawful c.args.conn.now.app k)
         (has_part_of g.A.App k c.args.conn.now c.requires.sound c.requires.asked.open_to_it)
         (λ p s. sym c.in-Send.is ∙ c.requires.want p s)) in
         rw (c.send-in-Send.ensures.kept.app, c.send-in-Send.ensures.len) can;

@@ -1,6 +1,6 @@
 -- The state that the connection represents stays.
 use Rattle.tcp_machine.proofs.Prelude.{ap, sym, ◌∙◌, AppState, is_open}
-use Rattle.tcp_machine.proofs.Saying.{has_part_of}
+use Rattle.tcp_machine.proofs.Transmission.{has_part_of}
 use Rattle.tcp_machine.proofs.app_request.is_due.Goals as goal
 
 pub is_due-requires : goal.is_due-requires

@@ -1,6 +1,6 @@
 -- Nothing is outstanding after the acknowledgement.
 use Rattle.tcp_machine.proofs.Prelude.{rules}
-use Rattle.tcp_machine.proofs.Saying.{has_part_of, can_nothing_after}
+use Rattle.tcp_machine.proofs.Transmission.{has_part_of, can_nothing_after}
 use Rattle.tcp_machine.proofs.delivery.ack_received.Goals as goal
 
 pub returns-clause-sound : goal.returns-clause-sound

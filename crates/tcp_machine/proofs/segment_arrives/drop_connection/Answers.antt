@@ -1,5 +1,5 @@
 use Rattle.tcp_machine.proofs.Prelude.{sym, ◌∙◌}
-use Rattle.tcp_machine.proofs.Saying.{has_part_of}
+use Rattle.tcp_machine.proofs.Transmission.{has_part_of}
 use Rattle.tcp_machine.proofs.segment_arrives.drop_connection.Goals as goal
 
 pub ended-requires : goal.ended-requires

@@ -1,5 +1,5 @@
 use Rattle.tcp_machine.proofs.Prelude.{rules, ap, is_open}
-use Rattle.tcp_machine.proofs.Saying.{has_part_of, can_say_polled}
+use Rattle.tcp_machine.proofs.Transmission.{has_part_of, can_supply_polled}
 use Rattle.tcp_machine.proofs.timeouts.polls.Goals as goal
 
 pub polled-requires : goal.polled-requires
@@ -10,7 +10,7 @@ returns-clause-takes g c = record {
   same = search rules;
   sound = record {
     numbers = search rules;
-    says = λ o. can_say_polled g.A.App.app_spec g.A.App.represents (g.A.App.config c.args.shared.now) c.args.conn.now.app c.polled.new.self
+    says = λ o. can_supply_polled g.A.App.app_spec g.A.App.represents (g.A.App.config c.args.shared.now) c.args.conn.now.app c.polled.new.self
         (g.met.A.App.lawful c.args.conn.now.app (g.A.App.config c.args.shared.now)) (g.A.App.numbers c.args.shared.now) c.args.conn.now.len
         c.polled.ensures.part (c.requires.sound.says o);
   };

@@ -1,4 +1,4 @@
-use Rattle.trace.proofs.TellLaws.{reported_by_name}
+use Rattle.trace.proofs.ReportingLaws.{reported_by_name}
 use Rattle.trace.proofs.TextLaws.{dump_is}
 use Rattle.trace.proofs.line_dump.dump.Goals as goal
 

@@ -1,5 +1,5 @@
 use Rattle.trace.proofs.Prelude.{refl, line_view}
-use Rattle.trace.proofs.TellLaws.{reported_after}
+use Rattle.trace.proofs.ReportingLaws.{reported_after}
 use Rattle.trace.proofs.TextLaws.{capture_is}
 use Rattle.trace.proofs.line_dump.pcap.Goals as goal
 

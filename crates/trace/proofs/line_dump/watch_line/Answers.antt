@@ -1,6 +1,6 @@
 use Rattle.trace.proofs.Prelude.{◌++◌, [], ap, arith, length, length-append, map, breaks_prefix, prefix_by, Byte, text_after}
 use Rattle.trace.proofs.SeenLaws.{text-then}
-use Rattle.trace.proofs.TellLaws.{written_by}
+use Rattle.trace.proofs.ReportingLaws.{written_by}
 use Rattle.trace.proofs.line_dump.watch_line.Goals as goal
 
 pub returns-in-Ok : goal.returns-in-Ok

@@ -1,6 +1,6 @@
 -- The connection in its slot.
 use Rattle.uip_node.proofs.Prelude.{ℕ, ◌≡◌, List, Some, ap, sym, ◌∙◌, length, length-set, subst, false, slice_get, slice_set, Connections, Conn, Sockets, StepFits, accepted, Step, plain, AllWellFormed, SlotsRepresent}
-use Rattle.uip_node.proofs.Places.{is_in_after, stands_after}
+use Rattle.uip_node.proofs.Places.{is_in_after, represents_after}
 use Rattle.uip_node.proofs.Settling.{kept_with, rests_of}
 use Rattle.uip_node.proofs.Tables.{table_opens}
 use Rattle.uip_node.proofs.slot_events.open_in.Goals as goal
@@ -27,7 +27,7 @@ returns-clause-represented g c = λ k abstracts text stand.
     let f = ap (λ (t : Connections g.row.A.Denot). t.iss) c.table.view_is in
     let sockets : Sockets = record { peer = c.args.peer; peer_port = c.args.seg.now.from; own_port = c.args.seg.now.to } in
     subst (λ (n : ℕ). SlotsRepresent g.A.App k (slice_set c.table.inside.conns.items c.args.slot c.accept.new.conn) (slice_set abstracts c.args.slot (accepted n sockets (plain c.args.seg.now text)))) f
-    (stands_after g.A.App k c.table.inside.conns.items abstracts c.args.slot c.accept.new.conn (accepted c.table.inside.iss.0 sockets (plain c.args.seg.now text))
+    (represents_after g.A.App k c.table.inside.conns.items abstracts c.args.slot c.accept.new.conn (accepted c.table.inside.iss.0 sockets (plain c.args.seg.now text))
     (subst (λ (xs : List (Conn g.row.A.Denot)). SlotsRepresent g.A.App k xs abstracts) (sym e) stand) (c.accept.ensures.represented k text))
 
 pub returns-clause-long : goal.returns-clause-long

@@ -1,6 +1,6 @@
 -- The connection in its slot.
 use Rattle.uip_node.proofs.Prelude.{ap, sym, ◌∙◌, length, length-set, subst, Connections, open_lives, prepared, CanBeAsked, AllSound, OthersRest, SlotsRepresent}
-use Rattle.uip_node.proofs.Places.{is_in_after, others_stay, sound_after, stands_after}
+use Rattle.uip_node.proofs.Places.{is_in_after, others_stay, sound_after, represents_after}
 use Rattle.uip_node.proofs.Tables.{at_inside, at_viewed, table_keeps}
 use Rattle.uip_node.proofs.slot_events.prepare_in.Goals as goal
 
@@ -37,7 +37,7 @@ pub returns-clause-meets : goal.returns-clause-meets
 returns-clause-meets g c = λ abstracts a stand there.
     let k = g.A.App.config c.args.shared.now in
     let at = at_viewed _ _ c.args.slot c.index_mut-conn.result.now c.table.view_is c.requires.within c.index_mut-conn.ensures.value in
-    stands_after g.A.App k c.table.inside.conns.items abstracts c.args.slot c.prepare.new.conn
+    represents_after g.A.App k c.table.inside.conns.items abstracts c.args.slot c.prepare.new.conn
     (prepared (g.A.App.app_spec k) c.args.now.now a (g.A.App.numbers c.args.shared.now))
     (subst (λ (t : Connections g.row.A.Denot). SlotsRepresent g.A.App k t.conns abstracts) (sym c.table.view_is) stand)
     (c.prepare.ensures.conn a (stand.each c.args.slot c.index_mut-conn.result.now a at there))

@@ -1,5 +1,5 @@
 use Rattle.app_events.proofs.Prelude.{arith}
-use Rattle.app_events.proofs.FixedSays.{room, moves}
+use Rattle.app_events.proofs.FixedSends.{room, moves}
 use Rattle.app_events.proofs.fixed.FixedApp.acked.Goals as goal
 
 pub overflow_cast-self : goal.overflow_cast-self

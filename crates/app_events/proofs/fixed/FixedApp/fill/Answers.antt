@@ -1,5 +1,5 @@
 use Rattle.app_events.proofs.Prelude.{arith, length, ◌∙◌}
-use Rattle.app_events.proofs.FixedSays.{room, written}
+use Rattle.app_events.proofs.FixedSends.{room, written}
 use Rattle.app_events.proofs.fixed.FixedApp.fill.Goals as goal
 
 pub copy_hello-requires : goal.copy_hello-requires

@@ -1,5 +1,5 @@
 use Rattle.std.proofs.Common.{arith}
-use Rattle.cross_tests.proofs.CounterSays.{room, moves}
+use Rattle.cross_tests.proofs.CounterSends.{room, moves}
 use Rattle.cross_tests.proofs.counting.CounterApp.acked.Goals as goal
 
 pub overflow_cast-self : goal.overflow_cast-self

@@ -1,5 +1,5 @@
 use Rattle.std.proofs.Common.{arith, length, ◌∙◌}
-use Rattle.cross_tests.proofs.CounterSays.{room, written}
+use Rattle.cross_tests.proofs.CounterSends.{room, written}
 use Rattle.cross_tests.proofs.counting.CounterApp.fill.Goals as goal
 
 pub copy_number-requires : goal.copy_number-requires

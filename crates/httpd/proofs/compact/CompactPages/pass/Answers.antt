@@ -1,7 +1,7 @@
-use Rattle.httpd.proofs.Prelude.{refl, subst, CanSay, script_functions, CompactRepresent, pages_kept}
+use Rattle.httpd.proofs.Prelude.{refl, subst, CanSupply, script_functions, CompactRepresent, pages_kept}
 use Rattle.httpd.specs.declared.compact.CompactPages.TheVariants as compact
 use Rattle.httpd.proofs.Compacting.{sent_enough, sent_fits, sent_found, sent_some, word_quiet}
-use Rattle.httpd.proofs.Standing.{means, quiet_acked, reply_acked}
+use Rattle.httpd.proofs.Representing.{means, quiet_acked, reply_acked}
 use Rattle.httpd.proofs.compact.CompactPages.pass.Goals as goal
 
 pub acked_reply-requires-clause-found : goal.acked_reply-requires-clause-found
@@ -25,11 +25,11 @@ returns-in-Replying g c = λ p s.
 pub returns-in-Receiving : goal.returns-in-Receiving
 returns-in-Receiving g c = λ p s.
     quiet_acked (script_functions g.R.Function.Calls.calling g.R.CallRecord.output) (λ made. made) (pages_kept g.R.CallRecord.text (compact.Receiving c.in-Receiving.polls c.in-Receiving.target c.in-Receiving.line)) c.args.site.now p c.args.count (word_quiet c.in-Receiving.target)
-    (subst (λ v. CanSay (means (script_functions g.R.Function.Calls.calling g.R.CallRecord.output)) (CompactRepresent (script_functions g.R.Function.Calls.calling g.R.CallRecord.output) g.R.CallRecord.text) v c.args.site.now c.args.count) c.in-Receiving.is c.requires)
+    (subst (λ v. CanSupply (means (script_functions g.R.Function.Calls.calling g.R.CallRecord.output)) (CompactRepresent (script_functions g.R.Function.Calls.calling g.R.CallRecord.output) g.R.CallRecord.text) v c.args.site.now c.args.count) c.in-Receiving.is c.requires)
     (subst (λ v. CompactRepresent (script_functions g.R.Function.Calls.calling g.R.CallRecord.output) g.R.CallRecord.text v c.args.site.now p) c.in-Receiving.is s)
 
 pub returns-in-Refused : goal.returns-in-Refused
 returns-in-Refused g c = λ p s.
     quiet_acked (script_functions g.R.Function.Calls.calling g.R.CallRecord.output) (λ made. made) (pages_kept g.R.CallRecord.text (compact.Refused c.in-Refused.polls)) c.args.site.now p c.args.count (λ found e. cc)
-    (subst (λ v. CanSay (means (script_functions g.R.Function.Calls.calling g.R.CallRecord.output)) (CompactRepresent (script_functions g.R.Function.Calls.calling g.R.CallRecord.output) g.R.CallRecord.text) v c.args.site.now c.args.count) c.in-Refused.is c.requires)
+    (subst (λ v. CanSupply (means (script_functions g.R.Function.Calls.calling g.R.CallRecord.output)) (CompactRepresent (script_functions g.R.Function.Calls.calling g.R.CallRecord.output) g.R.CallRecord.text) v c.args.site.now c.args.count) c.in-Refused.is c.requires)
     (subst (λ v. CompactRepresent (script_functions g.R.Function.Calls.calling g.R.CallRecord.output) g.R.CallRecord.text v c.args.site.now p) c.in-Refused.is s)

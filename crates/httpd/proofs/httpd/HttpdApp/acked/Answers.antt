@@ -1,9 +1,9 @@
-use Rattle.httpd.proofs.Prelude.{ap, ◌+◌, sym, subst, CanSay, SiteContent, files_of, web_spec, WebContent, HttpdRepresents}
+use Rattle.httpd.proofs.Prelude.{ap, ◌+◌, sym, subst, CanSupply, SiteContent, files_of, web_spec, WebContent, HttpdRepresents}
 use Rattle.httpd.proofs.httpd.HttpdApp.acked.Goals as goal
 
 pub pass-requires : goal.pass-requires
 pass-requires c =
-    subst (λ (site : SiteContent). CanSay (λ site. web_spec (files_of site)) HttpdRepresents c.args.self.now site c.args.count) (sym (ap (λ (w : WebContent). w.site) c.shared.view_is)) c.requires
+    subst (λ (site : SiteContent). CanSupply (λ site. web_spec (files_of site)) HttpdRepresents c.args.self.now site c.args.count) (sym (ap (λ (w : WebContent). w.site) c.shared.view_is)) c.requires
 
 pub returns-clause-part : goal.returns-clause-part
 returns-clause-part c = λ p s.

@@ -1,6 +1,6 @@
 use Rattle.httpd.proofs.Prelude.{◌≡◌, ◌≤◌, ℕ, List, [], ◌∷◌, length, take, sym, ap, subst, ◌∙◌, arith, script_functions}
 use Rattle.httpd.specs.declared.stage.Stage.TheVariants as stage
-use Rattle.httpd.proofs.Standing.{can_say, quiet_zero, reply_fits, reply_found, some_part}
+use Rattle.httpd.proofs.Representing.{can_supply, quiet_zero, reply_fits, reply_found, some_part}
 use Rattle.httpd.proofs.httpd.Pages.fill_from.Goals as goal
 
 pub fill_reply-requires-clause-found : goal.fill_reply-requires-clause-found
@@ -13,7 +13,7 @@ fill_reply-requires-clause-fits g c =
 
 pub fill_reply-requires-clause-enough : goal.fill_reply-requires-clause-enough
 fill_reply-requires-clause-enough g c =
-    can_say (script_functions g.R.Function.Calls.calling g.R.CallRecord.output) g.R.CallRecord.text c.args.self.now c.args.site.now (length c.args.out.now) (stage.Reply c.in-Reply.found) c.in-Reply.is c.requires
+    can_supply (script_functions g.R.Function.Calls.calling g.R.CallRecord.output) g.R.CallRecord.text c.args.self.now c.args.site.now (length c.args.out.now) (stage.Reply c.in-Reply.found) c.in-Reply.is c.requires
 
 none_taken : (n : ℕ) (out text : List ℕ) → n ≡ 0 → n ≡ length out → out ≡ take n text
 none_taken n [] text e f = ap (λ k. take k text) (sym e)

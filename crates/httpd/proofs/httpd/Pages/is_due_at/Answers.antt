@@ -1,6 +1,6 @@
 use Rattle.httpd.proofs.Prelude.{subst, sym, ◌∙◌, script_functions, reply_by, IsNotDue}
 use Rattle.httpd.proofs.Asking.{head_not_due, none_due, plain_whole}
-use Rattle.httpd.proofs.Standing.{reply_fits, reply_found}
+use Rattle.httpd.proofs.Representing.{reply_fits, reply_found}
 use Rattle.httpd.proofs.httpd.Pages.is_due_at.Goals as goal
 
 pub is_scripted-requires : goal.is_scripted-requires

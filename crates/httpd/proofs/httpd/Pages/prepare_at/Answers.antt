@@ -1,6 +1,6 @@
 use Rattle.httpd.proofs.Prelude.{◌++◌, ap, sym, ◌∙◌, files_of, script_functions, made_prefix}
-use Rattle.httpd.proofs.Standing.{reply_fits, reply_found}
-use Rattle.httpd.proofs.Asking.{due_stands, not_due}
+use Rattle.httpd.proofs.Representing.{reply_fits, reply_found}
+use Rattle.httpd.proofs.Asking.{due_represents, not_due}
 use Rattle.httpd.proofs.httpd.Pages.prepare_at.Goals as goal
 
 pub due_call-requires-clause-found : goal.due_call-requires-clause-found
@@ -13,7 +13,7 @@ due_call-requires-clause-fits g c =
 
 pub returns-in-Some : goal.returns-in-Some
 returns-in-Some g c = λ p s.
-    due_stands (script_functions g.R.Function.Calls.calling g.R.CallRecord.output) g.R.CallRecord.text c.args.self.now c.args.site.now c.in-Reply.found p c.in-Some.due c.take.result (record { numbers = c.args.hits.now ++ g.R.CallRecord.own_numbers c.args.own.now; now = c.args.now.now }) c.in-Reply.is
+    due_represents (script_functions g.R.Function.Calls.calling g.R.CallRecord.output) g.R.CallRecord.text c.args.self.now c.args.site.now c.in-Reply.found p c.in-Some.due c.take.result (record { numbers = c.args.hits.now ++ g.R.CallRecord.own_numbers c.args.own.now; now = c.args.now.now }) c.in-Reply.is
     c.in-Some.ensures s
     (c.take.ensures
     ∙ ap (λ n. g.R.CallRecord.output c.in-Some.due.function c.in-Some.due.argument.now n (g.R.CallRecord.own_numbers c.args.own.now) c.args.now.now) c.hits_of-count.ensures

@@ -1,5 +1,5 @@
 use Rattle.httpd.proofs.Prelude.{script_functions}
-use Rattle.httpd.proofs.Standing.{reply_fits, reply_found}
+use Rattle.httpd.proofs.Representing.{reply_fits, reply_found}
 use Rattle.httpd.proofs.httpd.Pages.want_of.Goals as goal
 
 pub want_reply-requires-clause-found : goal.want_reply-requires-clause-found

@@ -3,8 +3,8 @@ use Rattle.link_client.proofs.Prelude.{◌≡◌, ℕ, ◌+◌, ◌-◌, ◌*◌
 use Rattle.link_client.proofs.client.Client.send.Goals as goal
 
 -- what was written at the start stays there
-after_front : (prefix area new : List ℕ) (n : ℕ) → n ≤ length area → new ≡ prefix ++ drop n area → length new ≡ length area → drop n new ≡ drop n area
-after_front prefix area new n fits is same =
+after_the_prefix : (prefix area new : List ℕ) (n : ℕ) → n ≤ length area → new ≡ prefix ++ drop n area → length new ≡ length area → drop n new ≡ drop n area
+after_the_prefix prefix area new n fits is same =
     let long : length prefix ≡ n = omega (arith, fits, same, ap (λ (l : List ℕ). length l) is, length-append prefix (drop n area), length-drop n area) in
     ap (drop n) is ∙ drop_at prefix (drop n area) n long
 
@@ -28,7 +28,7 @@ returns-clause-trailing c =
     let area : List ℕ = c.put_text.new.area in
     let new : List ℕ = c.put_in.new.area in
     let fits : n ≤ length area = omega (arith, at_most c.args.heading.mss len c.requires.fits c.requires.no_text, c.requires.room, c.put_text.auto.area) in
-    let kept : drop n new ≡ drop n area = after_front _ area new n fits c.put_in.ensures.written c.put_in.auto.area in
+    let kept : drop n new ≡ drop n area = after_the_prefix _ area new n fits c.put_in.ensures.written c.put_in.auto.area in
     let whole : drop n new ≡ drop n c.args.area.now
     = kept ∙ further (40 + len) n area c.args.area.now (at_least c.args.heading.mss len) c.put_text.ensures.trailing in
     ap (λ i. drop i new) c.put_in.ensures.length ∙ whole ∙ ap (λ i. drop i c.args.area.now) (sym c.put_in.ensures.length)

@@ -1,5 +1,5 @@
 use Rattle.link_replay.proofs.Prelude.{List, ℕ, ap, ◌∙◌, err_from_is_err_and, word_if, CodeSide, client_line, text_line, code_side_shown}
-use Rattle.link_replay.proofs.Saying.{wrote_by, wrote_stop, wrote_then}
+use Rattle.link_replay.proofs.Transmission.{wrote_by, wrote_stop, wrote_then}
 use Rattle.link_replay.proofs.report.clients.write_client.Goals as goal
 
 pub returns-in_err-write_word-clause-wrote : goal.returns-in_err-write_word-clause-wrote

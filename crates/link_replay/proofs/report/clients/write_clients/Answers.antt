@@ -13,7 +13,7 @@ returns-in_err-write_client-clause-wrote g c =
     let at = slice_get_read xs (length xs) place c.index-sides-place.result refl c.loop-place-test.true c.index-sides-place.is in
     let m = matched_image code_side_shown xs in
     texts_stop P xs (map code_side_shown xs) (lines_of_client c.args.show) m place c.index-sides-place.result _ _ _ c.in_err-write_client.field-0.0 p.0 c.from_residual.result p.1 at
-    c.loop-place.invariant.saying (λ y here same. lines_reported c.args.show (place + 1) c.index-sides-place.result y _ _ _ same c.in_err-write_client.ensures.wrote)
+    c.loop-place.invariant.transmitting (λ y here same. lines_reported c.args.show (place + 1) c.index-sides-place.result y _ _ _ same c.in_err-write_client.ensures.wrote)
 
 pub loop-place-preserved : goal.loop-place-preserved
 loop-place-preserved g c =
@@ -23,8 +23,8 @@ loop-place-preserved g c =
     let at = slice_get_read xs (length xs) place c.index-sides-place.result refl c.loop-place-test.true c.index-sides-place.is in
     let m = matched_image code_side_shown xs in
     record {
-      saying = texts_more P xs (map code_side_shown xs) (lines_of_client c.args.show) m place c.index-sides-place.result _ _ _ c.in_ok-write_client.field-0 at
-          c.loop-place.invariant.saying (λ y here same. lines_reported c.args.show (place + 1) c.index-sides-place.result y _ _ _ same c.in_ok-write_client.ensures.wrote);
+      transmitting = texts_more P xs (map code_side_shown xs) (lines_of_client c.args.show) m place c.index-sides-place.result _ _ _ c.in_ok-write_client.field-0 at
+          c.loop-place.invariant.transmitting (λ y here same. lines_reported c.args.show (place + 1) c.index-sides-place.result y _ _ _ same c.in_ok-write_client.ensures.wrote);
       same = c.in_ok-write_client.ensures.cause.same ∙ c.loop-place.invariant.same;
     }
 
@@ -33,4 +33,4 @@ returns-clause-wrote g c =
     let xs = c.args.sides.now in
     let P : CodeSide → ShownSide → Type 0 = λ x y. code_side_shown x ≡ y in
     texts_end P xs (map code_side_shown xs) (lines_of_client c.args.show) (matched_image code_side_shown xs) c.loop-place.place _ _ tt c.loop-place-test.false
-    c.loop-place.invariant.saying
+    c.loop-place.invariant.transmitting

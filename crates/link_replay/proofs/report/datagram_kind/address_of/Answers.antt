@@ -1,5 +1,5 @@
 use Rattle.link_replay.proofs.Prelude.{◌≡◌, ℕ, suc, ◌-◌, ap, ◌∙◌, subst, arith, Some, option_map, slice_index_or, Addr, numbered, CodeSide}
-use Rattle.link_replay.proofs.Hearing.{addr_of, address_there}
+use Rattle.link_replay.proofs.Reception.{addr_of, address_there}
 use Rattle.link_replay.proofs.report.datagram_kind.address_of.Goals as goal
 
 pub returns : goal.returns

@@ -1,6 +1,6 @@
 use Rattle.link_replay.proofs.Prelude.{◌≡◌, ℕ, List, sym, ap, ◌∙◌, subst, Addr, event_of, Arrived, sent_bytes, Who, FromClient, FromNode, IsRead, IsSentBy, CodeSent, link_of}
 use Rattle.link_replay.proofs.Delivered.{speaks_to}
-use Rattle.link_replay.proofs.Hearing.{client_kind, node_kind, no_client_kind}
+use Rattle.link_replay.proofs.Reception.{client_kind, node_kind, no_client_kind}
 use Rattle.link_replay.proofs.report.datagram_kind.kind_of.Goals as goal
 
 pub returns-in-FromClient : goal.returns-in-FromClient

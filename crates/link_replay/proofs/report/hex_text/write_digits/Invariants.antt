@@ -1,10 +1,10 @@
 use Rattle.link_replay.proofs.Prelude.{◌≡◌, length, encode_lower}
-use Rattle.link_replay.proofs.Saying.{Saying}
+use Rattle.link_replay.proofs.Transmission.{Transmission}
 use Rattle.link_replay.proofs.report.hex_text.write_digits.Given as goal
 
 abbrev pub invariant-loop-rest : goal.invariant-loop-rest
 invariant-loop-rest g l = record {
-  saying : Saying (g.K.Sink.written l.fn.sink) (g.K.Sink.written l.sink) (encode_lower l.bytes) (encode_lower l.rest);
+  transmitting : Transmission (g.K.Sink.written l.fn.sink) (g.K.Sink.written l.sink) (encode_lower l.bytes) (encode_lower l.rest);
   same : g.K.Sink.faults l.sink ≡ g.K.Sink.faults l.fn.sink;
 }
 

@@ -1,5 +1,5 @@
 use Rattle.link_replay.proofs.Prelude.{◌++◌, codes, err_from_is_err_and, digits_or_dash}
-use Rattle.link_replay.proofs.Saying.{wrote_stop, wrote_then}
+use Rattle.link_replay.proofs.Transmission.{wrote_stop, wrote_then}
 use Rattle.link_replay.proofs.report.hex_text.write_text_line.Goals as goal
 
 pub returns-in_err-write_word-clause-wrote : goal.returns-in_err-write_word-clause-wrote

@@ -1,6 +1,6 @@
 -- The line is that of the world's clients and datagrams.
 use Rattle.link_replay.proofs.Prelude.{◌≡◌, ℕ, List, map, ap, subst, ◌∙◌, on_err_weaker, on_ok_weaker, Appends, AppendsPrefix, CodeSent, CodeSide, code_side_shown, World, LinkRepresents, Link, summary_of, tally_line, tally_of, Tally}
-use Rattle.link_replay.proofs.Saying.{wrote_by}
+use Rattle.link_replay.proofs.Transmission.{wrote_by}
 use Rattle.link_replay.proofs.Shown.{tally_reported}
 use Rattle.link_replay.proofs.world.WorldOf.summary.Goals as goal
 

@@ -47,7 +47,7 @@ returns-clause-delivered c = λ w h t.
     let read : c.as_slice-2.result.now ≡ c.receive.new.area = c.as_slice-2.ensures.value ∙ back.is in
     Sending.done_at link after w c.args.number n c.index_mut.result.now (handed w c.args.number c.args.datagram.now) is h
     (there_is c.args.sides.now.items n c.index_mut.result.now c.index_mut.ensures.value (omega arith))
-    (λ s g o. subst (λ (x : World). LinkRepresents after x) (Sending.heard_handed w c.args.number n s c.args.datagram.now is g)
+    (λ s g o. subst (λ (x : World). LinkRepresents after x) (Sending.received_handed w c.args.number n s c.args.datagram.now is g)
     (Sending.step_posted link w c.args.number n c.index_mut.result.now c.receive.new.self s is h g o c.receive.ensures.setup (client_hands s.client (client_receives s.client.setup c.args.datagram.now)) c.in_ok-len.len c.receive.new.area after c.args.tick
     (c.in_ok-len.ensures.step s o)
     (Sending.posted_as c.args.number c.args.tick c.in_ok-len.len _ c.receive.new.area _ (set c.args.sides.now.items n c.receive.new.self) c.args.sent.now.items c.post_prefix.new.sent.items read c.as_slice.ensures.value c.in_ok-post_prefix.ensures.posted) t))

@@ -1,10 +1,10 @@
 use Rattle.telnet_shell.proofs.Opened.{room, acked_after}
-use Rattle.telnet_shell.proofs.Prelude.{refl, ◌+◌, ◌≤◌, length, sym, subst, Shell, left_said}
+use Rattle.telnet_shell.proofs.Prelude.{refl, ◌+◌, ◌≤◌, length, sym, subst, Shell, replies_left}
 use Rattle.telnet_shell.proofs.shell.ShellApp.acked.Goals as goal
 
 pub advance-self-inside-requires : goal.advance-self-inside-requires
 advance-self-inside-requires c =
-    subst (λ (a : Shell). a.at + c.args.count ≤ length (left_said a.queue a.capture)) (sym c.self.view_is) (room c.args.self.now c.args._shared.now.site c.args.count c.requires)
+    subst (λ (a : Shell). a.at + c.args.count ≤ length (replies_left a.queue a.capture)) (sym c.self.view_is) (room c.args.self.now c.args._shared.now.site c.args.count c.requires)
 
 pub returns-clause-part : goal.returns-clause-part
 returns-clause-part c = rw (← c.self.view_is) (λ p s. record {

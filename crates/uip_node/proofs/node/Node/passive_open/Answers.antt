@@ -1,7 +1,7 @@
 -- The slot that a plain SYN takes.
 use Rattle.uip_node.proofs.Prelude.{◌<◌, List, ◌∷◌, Some, None, ap, arith, sym, subst, ◌∙◌, length, refl, plain, sockets_of, HistoryEntry, NoSlot, Arrived, connection_in, AllWellFormed, slot_to_take}
 use Rattle.uip_node.proofs.Finding.{opens_by, slot_within}
-use Rattle.uip_node.proofs.Stepping.{opened, stands_later}
+use Rattle.uip_node.proofs.Stepping.{opened, represents_later}
 use Rattle.uip_node.proofs.node.Node.passive_open.Goals as goal
 
 pub returns-in-Some-clause-step : goal.returns-in-Some-clause-step
@@ -27,6 +27,6 @@ returns-in-None-clause-step g c = rw (← c.self.view_is) (λ n text h.
     (record { addr = now.addr; packet = now.packet; table = now.table; counts = record { net = c.turn_away.new.net; ticks = now.ticks; ident = now.ident }; shared = now.shared })
     None h.slots c.self.invariant.kept (sym c.slot_for_syn.ensures ∙ c.in-None.is)
     (record {
-      represented = stands_later g.A.App _ now.packet _ n _ after after h h.iss (record { net = c.turn_away.ensures n.history (Arrived s seg) h.counts.net; ticks = h.counts.ticks; ident = h.counts.ident });
+      represented = represents_later g.A.App _ now.packet _ n _ after after h h.iss (record { net = c.turn_away.ensures n.history (Arrived s seg) h.counts.net; ticks = h.counts.ticks; ident = h.counts.ident });
       sent = refl;
     }))

@@ -189,8 +189,8 @@ goes_on line xs ys h m =
       ),
     )
 
-pub hears_joined : (line : Line) (xs ys : List ℕ) → Joins line xs ys
-hears_joined line xs ys =
+pub receives_joined : (line : Line) (xs ys : List ℕ) → Joins line xs ys
+receives_joined line xs ys =
     elim line.done as (λ d. line.done ≡ d → Joins line xs ys) [
       | true ↦ λ h.
           let first : after line xs ≡ line = (takes_nothing line xs h).1 in (

@@ -8,7 +8,7 @@ use Rattle.generators.specs.declared.capture.Capture.TheVariants.{Empty, Hits, T
 use Rattle.app_events.specs.Prelude.{AppState, Snapshot}
 use Rattle.telnet_shell.specs.declared.command.Command.{Command}
 use Rattle.telnet_shell.specs.Reading.{commands_in}
-use Rattle.telnet_shell.specs.Transcript.{function_of, needs_capture, said_with, transcript}
+use Rattle.telnet_shell.specs.Transcript.{function_of, needs_capture, reply_with, transcript}
 
 abbrev pub is_captured : Capture → Bool
 is_captured Empty = false
@@ -21,9 +21,9 @@ is_captured (Rows rows) = true
 abbrev pub stops_at : Command → Capture → Bool
 stops_at command capture = needs_capture command && not (is_captured capture)
 
-abbrev pub left_said : List Command → Capture → List ℕ
-left_said [] capture = []
-left_said (command ∷ more) capture = if stops_at command capture then [] else said_with command capture ++ transcript more []
+abbrev pub replies_left : List Command → Capture → List ℕ
+replies_left [] capture = []
+replies_left (command ∷ more) capture = if stops_at command capture then [] else reply_with command capture ++ transcript more []
 
 -- the function whose snapshot the first command waits for
 abbrev pub due : List Command → Capture → Option Function
@@ -33,13 +33,13 @@ due (command ∷ more) capture = if stops_at command capture then Some (function
 -- the length of the text of the first command
 abbrev pub prefix_size : List Command → Capture → ℕ
 prefix_size [] capture = 0
-prefix_size (command ∷ more) capture = if stops_at command capture then 0 else length (said_with command capture)
+prefix_size (command ∷ more) capture = if stops_at command capture then 0 else length (reply_with command capture)
 
 -- This number of bytes of the first command is acknowledged, and not all.
 abbrev pub IsLeading : List Command → Capture → ℕ → Type 0
 IsLeading [] capture at = at ≡ 0
 IsLeading (command ∷ more) capture at =
-    (stops_at command capture ≡ true → at ≡ 0) × (stops_at command capture ≡ false → at < length (said_with command capture))
+    (stops_at command capture ≡ true → at ≡ 0) × (stops_at command capture ≡ false → at < length (reply_with command capture))
 
 -- The snapshot is that of the first command.
 abbrev pub Shows : List Command → Capture → List Snapshot → Type 0
@@ -67,10 +67,10 @@ pub record IsTrailing (queue : List Command) (capture : Capture) (at : ℕ) (par
 -- The text of the first command is within the first bytes.
 abbrev pub is_past : List Command → Capture → ℕ → Bool
 is_past [] capture at = false
-is_past (command ∷ more) capture at = not (stops_at command capture) && nat_le (length (said_with command capture)) at
+is_past (command ∷ more) capture at = not (stops_at command capture) && nat_le (length (reply_with command capture)) at
 
 -- The first command is dropped.
 abbrev pub Passes : List Command → Capture → ℕ → List Command → Capture → ℕ → Type 0
 Passes [] capture at queue held place = ⊥
 Passes (command ∷ more) capture at queue held place =
-    (queue ≡ more) × (held ≡ Empty) × (at ≡ length (said_with command capture) + place)
+    (queue ≡ more) × (held ≡ Empty) × (at ≡ length (reply_with command capture) + place)

@@ -1,5 +1,5 @@
 use Rattle.udp_resolver.proofs.Prelude.{◌≡◌, ◌++◌, List, ℕ, drop, Appends, lines_by}
-use Rattle.udp_resolver.proofs.lines.tell_all.Given as goal
+use Rattle.udp_resolver.proofs.lines.report_all.Given as goal
 
 abbrev pub invariant-loop-at : goal.invariant-loop-at
 invariant-loop-at g l = record {

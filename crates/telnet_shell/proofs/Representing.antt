@@ -11,12 +11,12 @@ pub own_is : (a : Shell) (p : AppState) → ShellRepresents a p → (p.own == 1)
 own_is a p s = ap (λ (n : ℕ). n == 1) s.lost ∙ one_or_none a.lost
 
 -- what a byte does that is not looked at
-pub hear_lost : (a : Shell) (p : AppState) (byte : ℕ) → a.lost ≡ true → ShellRepresents a p → ShellRepresents a (receive_byte p byte)
-hear_lost a p byte lost s =
+pub receive_lost : (a : Shell) (p : AppState) (byte : ℕ) → a.lost ≡ true → ShellRepresents a p → ShellRepresents a (receive_byte p byte)
+receive_lost a p byte lost s =
     subst (λ (q : AppState). ShellRepresents a q) (sym (ap (λ (b : Bool). if b then p else if nat_lt 32 (length (waiting (with_byte p byte))) then record p { own = 1 } else with_byte p byte) (own_is a p s ∙ lost))) s
 
-hears_it : (a : Shell) (p : AppState) (byte : ℕ) (queue : List Command) → a.lost ≡ false → ShellRepresents a p → waiting (with_byte p byte) ≡ queue → length queue ≤ 32 → receive_byte p byte ≡ with_byte p byte
-hears_it a p byte queue lost s w h =
+receives_it : (a : Shell) (p : AppState) (byte : ℕ) (queue : List Command) → a.lost ≡ false → ShellRepresents a p → waiting (with_byte p byte) ≡ queue → length queue ≤ 32 → receive_byte p byte ≡ with_byte p byte
+receives_it a p byte queue lost s w h =
     ap (λ (b : Bool). if b then p else if nat_lt 32 (length (waiting (with_byte p byte))) then record p { own = 1 } else with_byte p byte) (own_is a p s ∙ lost)
     ∙ ap (λ (cs : List Command). if nat_lt 32 (length cs) then record p { own = 1 } else with_byte p byte) w
     ∙ ap (λ (b : Bool). if b then record p { own = 1 } else with_byte p byte) (le-ltb 32 (length queue) h)
@@ -49,8 +49,8 @@ quits delivered byte cs e =
     ∙ quit_joins (all_commands delivered) cs
 
 -- after `quit` nothing counts
-pub hear_done : (a : Shell) (p : AppState) (byte : ℕ) → a.lost ≡ false → a.done ≡ true → length a.queue ≤ 32 → ShellRepresents a p → ShellRepresents a (receive_byte p byte)
-hear_done a p byte lost done room s =
+pub receive_done : (a : Shell) (p : AppState) (byte : ℕ) → a.lost ≡ false → a.done ≡ true → length a.queue ≤ 32 → ShellRepresents a p → ShellRepresents a (receive_byte p byte)
+receive_done a p byte lost done room s =
     let over : has_quit (all_commands p.input) ≡ true = sym s.done ∙ done in
     let cs : List Command = commands (line_after [] (tokens Text p.input)) (tokens_at (awaits_after Text p.input) byte) in
     let none : commands_in (p.input ++ byte ∷ []) ≡ commands_in p.input ++ [] =
@@ -58,7 +58,7 @@ hear_done a p byte lost done room s =
     ∙ ap (λ (b : Bool). commands_in p.input ++ (if b then [] else until_quit (commands (line_after [] (tokens Text p.input)) (tokens_at (awaits_after Text p.input) byte)))) over in
     let both = come a.queue [] a.capture a.at p byte none s.trailing s.place in
     let trailing : IsTrailing a.queue a.capture a.at (with_byte p byte) = subst (λ (q : List Command). IsTrailing q a.capture a.at (with_byte p byte)) (append-nil a.queue) both.0 in
-    subst (λ (q : AppState). ShellRepresents a q) (sym (hears_it a p byte a.queue lost s (waiting_is a.queue a.capture a.at (with_byte p byte) trailing s.place) room)) (record {
+    subst (λ (q : AppState). ShellRepresents a q) (sym (receives_it a p byte a.queue lost s (waiting_is a.queue a.capture a.at (with_byte p byte) trailing s.place) room)) (record {
       polls = s.polls;
       lost = s.lost;
       done = done ∙ sym (quits p.input byte (commands (line_after [] (tokens Text p.input)) (tokens_at (awaits_after Text p.input) byte)) refl
@@ -76,18 +76,18 @@ is_open : (a : Shell) → a.lost ≡ false → a.done ≡ false → (a.lost || a
 is_open a lost done = ap (λ (b : Bool). b || a.done) lost ∙ done
 
 -- no command comes
-pub hear_none : (a : Shell) (p : AppState) (byte : ℕ) (kept : List ℕ) (over : Bool) (iac : List ℕ) → a.lost ≡ false → a.done ≡ false → length a.queue ≤ 32
+pub receive_none : (a : Shell) (p : AppState) (byte : ℕ) (kept : List ℕ) (over : Bool) (iac : List ℕ) → a.lost ≡ false → a.done ≡ false → length a.queue ≤ 32
     → ((delivered : List ℕ) → IsOpen a.line a.over a.iac delivered → IsOpen kept over iac (delivered ++ byte ∷ []))
     → ((delivered : List ℕ) → IsOpen a.line a.over a.iac delivered → [] ≡ commands (line_after [] (tokens Text delivered)) (tokens_at (awaits_after Text delivered) byte))
     → ShellRepresents a p → ShellRepresents (record a { line = kept; over = over; iac = iac }) (receive_byte p byte)
-hear_none a p byte kept over iac lost done room goes decodes s =
+receive_none a p byte kept over iac lost done room goes decodes s =
     let delivered = s.delivers_text (is_open a lost done) in
     let going : has_quit (all_commands p.input) ≡ false = sym s.done ∙ done in
     let none : commands_in (p.input ++ byte ∷ []) ≡ commands_in p.input ++ [] =
     counted p.input byte [] (decodes p.input delivered) ∙ ap (λ (b : Bool). commands_in p.input ++ (if b then [] else [])) going in
     let both = come a.queue [] a.capture a.at p byte none s.trailing s.place in
     let trailing : IsTrailing a.queue a.capture a.at (with_byte p byte) = subst (λ (q : List Command). IsTrailing q a.capture a.at (with_byte p byte)) (append-nil a.queue) both.0 in
-    subst (λ (q : AppState). ShellRepresents (record a { line = kept; over = over; iac = iac }) q) (sym (hears_it a p byte a.queue lost s (waiting_is a.queue a.capture a.at (with_byte p byte) trailing s.place) room)) (record {
+    subst (λ (q : AppState). ShellRepresents (record a { line = kept; over = over; iac = iac }) q) (sym (receives_it a p byte a.queue lost s (waiting_is a.queue a.capture a.at (with_byte p byte) trailing s.place) room)) (record {
       polls = s.polls;
       lost = s.lost;
       done = done ∙ sym (quits p.input byte [] (decodes p.input delivered) ∙ ap (λ (b : Bool). b || false) going);
@@ -97,11 +97,11 @@ hear_none a p byte kept over iac lost done room goes decodes s =
     })
 
 -- a command comes, and the queue is full
-pub hear_full : (a : Shell) (p : AppState) (byte : ℕ) (c : Command) (kept : List ℕ) (over : Bool) (iac : List ℕ) → a.lost ≡ false → a.done ≡ false
+pub receive_full : (a : Shell) (p : AppState) (byte : ℕ) (c : Command) (kept : List ℕ) (over : Bool) (iac : List ℕ) → a.lost ≡ false → a.done ≡ false
     → (full : Bool) → full ≡ true → full ≡ (length a.queue == 32)
     → ((delivered : List ℕ) → IsOpen a.line a.over a.iac delivered → c ∷ [] ≡ commands (line_after [] (tokens Text delivered)) (tokens_at (awaits_after Text delivered) byte))
     → ShellRepresents a p → ShellRepresents (record a { line = kept; over = over; iac = iac; lost = true }) (receive_byte p byte)
-hear_full a p byte c kept over iac lost done full is count decodes s =
+receive_full a p byte c kept over iac lost done full is count decodes s =
     let delivered = s.delivers_text (is_open a lost done) in
     let going : has_quit (all_commands p.input) ≡ false = sym s.done ∙ done in
     let one : commands_in (p.input ++ byte ∷ []) ≡ commands_in p.input ++ until_quit (c ∷ []) =
@@ -120,13 +120,13 @@ hear_full a p byte c kept over iac lost done full is count decodes s =
     })
 
 -- a command comes, and there is room
-pub hear_command : (a : Shell) (p : AppState) (byte : ℕ) (c : Command) (kept : List ℕ) (over : Bool) (iac : List ℕ) (queue : List Command) (quit : Bool) → a.lost ≡ false → a.done ≡ false
+pub receive_command : (a : Shell) (p : AppState) (byte : ℕ) (c : Command) (kept : List ℕ) (over : Bool) (iac : List ℕ) (queue : List Command) (quit : Bool) → a.lost ≡ false → a.done ≡ false
     → (full : Bool) → full ≡ false → full ≡ (length a.queue == 32) → length a.queue ≤ 32
     → ((delivered : List ℕ) → IsOpen a.line a.over a.iac delivered → IsOpen kept over iac (delivered ++ byte ∷ []))
     → ((delivered : List ℕ) → IsOpen a.line a.over a.iac delivered → c ∷ [] ≡ commands (line_after [] (tokens Text delivered)) (tokens_at (awaits_after Text delivered) byte))
     → queue ≡ a.queue ++ c ∷ [] → quit ≡ is_quit c
     → ShellRepresents a p → ShellRepresents (record a { line = kept; over = over; iac = iac; queue = queue; done = quit }) (receive_byte p byte)
-hear_command a p byte c kept over iac queue quit lost done full is count room goes decodes pushed quits_is s =
+receive_command a p byte c kept over iac queue quit lost done full is count room goes decodes pushed quits_is s =
     let delivered = s.delivers_text (is_open a lost done) in
     let going : has_quit (all_commands p.input) ≡ false = sym s.done ∙ done in
     let one : commands_in (p.input ++ byte ∷ []) ≡ commands_in p.input ++ c ∷ [] =
@@ -139,7 +139,7 @@ hear_command a p byte c kept over iac queue quit lost done full is count room go
     (let e : length queue ≡ length a.queue + 1 = ap (λ (q : List Command). length q) pushed ∙ length-append a.queue (c ∷ []) in
     let d = eqb-false (length a.queue) 32 (sym count ∙ is) in omega (arith, e, d, room)) in
     subst (λ (q : AppState). ShellRepresents (record a { line = kept; over = over; iac = iac; queue = queue; done = quit }) q)
-    (sym (hears_it a p byte queue lost s (waiting_is queue a.capture a.at (with_byte p byte) trailing place) size)) (record {
+    (sym (receives_it a p byte queue lost s (waiting_is queue a.capture a.at (with_byte p byte) trailing place) size)) (record {
       polls = s.polls;
       lost = s.lost;
       done = quits_is ∙ sym (quits p.input byte (c ∷ []) (decodes p.input delivered) ∙ ap (λ (b : Bool). b || has_quit (c ∷ [])) going ∙ only (is_quit c));

@@ -2,7 +2,7 @@
 use Rattle.std.specs.Prelude.{◌≡◌, ℕ, ◌==◌, ◌&&◌, Bool, true, List, [], length, min, nat_lt, if◌then◌else◌}
 use Rattle.app_events.specs.declared.want.Want.{Want}
 use Rattle.app_events.specs.declared.want.Want.TheVariants.{Nothing, Send, Close}
-use Rattle.web_pages.specs.Prelude.{Say, reach_by, text_by}
+use Rattle.web_pages.specs.Prelude.{ScriptPiece, reach_by, text_by}
 use Rattle.web_pages.specs.declared.TheConstants.{LARGEST_SEGMENT}
 use Rattle.httpd.specs.declared.reply.Due.{Due}
 use Rattle.httpd.specs.declared.thread.Thread.{Thread}
@@ -30,6 +30,6 @@ IsNotDue reply thread = length (left_text reply thread) ≡ 0 → left_whole rep
 
 -- The rest is a call and then the rest of the script.
 pub record IsDueReply {F : Type 0} (reply : FileReply F) (thread : Thread) (due : Due F) : Type 0 where
-  pub pieces : List (Say F)
+  pub pieces : List (ScriptPiece F)
   pub history : IsPast reply.functions reply.files 0 (left_from reply thread) pieces
   pub call : SeesCall reply pieces due.function due.argument.now due.next

@@ -5,14 +5,14 @@ use Rattle.link_replay.proofs.Listing.{partner}
 abbrev pub addr_of : Side → Addr
 addr_of side = side.client.setup.addr
 
-if_heard : (b : Bool) (s t : PlainSegment) → (if b then Some s else None) ≡ Some t → s ≡ t
-if_heard true s t e = cc
-if_heard false s t e = absurd cc
+if_received : (b : Bool) (s t : PlainSegment) → (if b then Some s else None) ≡ Some t → s ≡ t
+if_received true s t e = cc
+if_received false s t e = absurd cc
 
 -- what a client receives arrived at its address
-pub heard_arrived : (setup : Setup) (event : Event) (s : PlainSegment) → received_by setup event ≡ Some s → (sockets : Sockets) × (event ≡ Arrived sockets s)
-heard_arrived setup (Arrived sockets t) s e = (sockets, ap (λ x. Arrived sockets x) (if_heard (same_sockets sockets (server_of setup)) t s e))
-heard_arrived setup _ s e = absurd cc
+pub received_arrived : (setup : Setup) (event : Event) (s : PlainSegment) → received_by setup event ≡ Some s → (sockets : Sockets) × (event ≡ Arrived sockets s)
+received_arrived setup (Arrived sockets t) s e = (sockets, ap (λ x. Arrived sockets x) (if_received (same_sockets sockets (server_of setup)) t s e))
+received_arrived setup _ s e = absurd cc
 
 -- a datagram of a client
 pub client_kind : (w : World) (number : ℕ) (content : Content) (bytes : List ℕ) (kind : Kind)
@@ -33,7 +33,7 @@ node_kind w number (OfSegment id s) bytes own kind found reads server read by =
     let side = by.0 in
     let here : Some own ≡ Some (addr_of side) = found ∙ ap (λ o. option_map addr_of o) by.1 in
     let same : addr_of side ≡ own = cc in
-    let arrived = heard_arrived side.client.setup (event_of side.client.setup.addr bytes) s (read side by.1 (server side by.1)) in
+    let arrived = received_arrived side.client.setup (event_of side.client.setup.addr bytes) s (read side by.1 (server side by.1)) in
     reads arrived.0 s (subst (λ (a : Addr). event_of a bytes ≡ Arrived arrived.0 s) same arrived.1)
 node_kind w number (OfPing datagram) bytes own kind found reads server read by = absurd by
 node_kind w number (OfEcho request) bytes own kind found reads server read by =

@@ -1,6 +1,6 @@
 -- The text that a value of the web server can send, for each state that it represents.
 -- [add: piece] What a value of the web server can send in the piece.
-use Rattle.httpd.proofs.Prelude.{◌≡◌, ℕ, ◌+◌, ◌≤◌, Bool, true, false, List, [], ◌++◌, Option, None, Some, length, drop, refl, sym, ap, subst, ◌∙◌, arith, true≢false, append-nil, length-drop, ∥∥₁_elim, ∥∥₁_map, drop-drop, le_prop, Snapshot, AppState, text_left, IsRepresented, CanSay, File, FileId, SiteContent, files_of, ScriptFunctions, reply_pieces_by, text_by, web_spec_by, Pages, Stage, Thread, Head, Kind, Body, Inside, Making, End, FileReply, body, is_scripted, left_from, reply_by, Fits, IsBodyPlace, IsFound, IsInner, KeepsOn, IsPast, PagesRepresent, IsLeft, IsReplying, IsRepresentedIn, left_in, left_of_value}
+use Rattle.httpd.proofs.Prelude.{◌≡◌, ℕ, ◌+◌, ◌≤◌, Bool, true, false, List, [], ◌++◌, Option, None, Some, length, drop, refl, sym, ap, subst, ◌∙◌, arith, true≢false, append-nil, length-drop, ∥∥₁_elim, ∥∥₁_map, drop-drop, le_prop, Snapshot, AppState, text_left, IsRepresented, CanSupply, File, FileId, SiteContent, files_of, ScriptFunctions, reply_pieces_by, text_by, web_spec_by, Pages, Stage, Thread, Head, Kind, Body, Inside, Making, End, FileReply, body, is_scripted, left_from, reply_by, Fits, IsBodyPlace, IsFound, IsInner, KeepsOn, IsPast, PagesRepresent, IsLeft, IsReplying, IsRepresentedIn, left_in, left_of_value}
 use Rattle.httpd.specs.declared.stage.Stage.TheVariants as stage
 
 abbrev pub means : {F : Type 0} → ScriptFunctions F → SiteContent → Rattle.app_events.specs.AppSpec.AppSpec
@@ -54,12 +54,12 @@ reply_fits g text a site found e has =
 pub reply_found : {F R : Type 0} (g : ScriptFunctions F) (text : R → List ℕ) (a : Pages R) (site : SiteContent) (found : Option FileId) → a.stage ≡ stage.Reply found → IsRepresented (PagesRepresent g text) a site → IsFound (files_of site) found
 reply_found g text a site found e has = found_reported (files_of site) found (∥∥₁_map has (λ c. (replying g text a site c.0 found e c.1).1.there))
 
-pub some_part : {F R : Type 0} (g : ScriptFunctions F) (text : R → List ℕ) (a : Pages R) (site : SiteContent) (n : ℕ) → CanSay (means g) (PagesRepresent g text) a site n → IsRepresented (PagesRepresent g text) a site
+pub some_part : {F R : Type 0} (g : ScriptFunctions F) (text : R → List ℕ) (a : Pages R) (site : SiteContent) (n : ℕ) → CanSupply (means g) (PagesRepresent g text) a site n → IsRepresented (PagesRepresent g text) a site
 some_part g text a site n can = ∥∥₁_map can (λ c. (c.0, c.1))
 
 -- this much can be sent
-pub can_say : {F R : Type 0} (g : ScriptFunctions F) (text : R → List ℕ) (a : Pages R) (site : SiteContent) (n : ℕ) (s : Stage) → a.stage ≡ s → CanSay (means g) (PagesRepresent g text) a site n → n ≤ length (left_in g text a site s)
-can_say g text a site n s e can =
+pub can_supply : {F R : Type 0} (g : ScriptFunctions F) (text : R → List ℕ) (a : Pages R) (site : SiteContent) (n : ℕ) (s : Stage) → a.stage ≡ s → CanSupply (means g) (PagesRepresent g text) a site n → n ≤ length (left_in g text a site s)
+can_supply g text a site n s e can =
     ∥∥₁_elim can le_prop (λ c. subst (λ t. n ≤ length t) (left_of_value g text a site c.0 c.1 ∙ ap (left_in g text a site) e) c.2)
 
 -- if no reply is being sent, nothing is left
@@ -69,9 +69,9 @@ quiet g text a site stage.Target never = refl
 quiet g text a site stage.Refused never = refl
 quiet g text a site (stage.Reply found) never = absurd (never found refl)
 
-pub quiet_zero : {F R : Type 0} (g : ScriptFunctions F) (text : R → List ℕ) (a : Pages R) (site : SiteContent) (n : ℕ) → ((found : Option FileId) → a.stage ≡ stage.Reply found → ⊥) → CanSay (means g) (PagesRepresent g text) a site n → n ≡ 0
+pub quiet_zero : {F R : Type 0} (g : ScriptFunctions F) (text : R → List ℕ) (a : Pages R) (site : SiteContent) (n : ℕ) → ((found : Option FileId) → a.stage ≡ stage.Reply found → ⊥) → CanSupply (means g) (PagesRepresent g text) a site n → n ≡ 0
 quiet_zero g text a site n never can =
-    let most : n ≤ length (left_in g text a site a.stage) = can_say g text a site n a.stage refl can in
+    let most : n ≤ length (left_in g text a site a.stage) = can_supply g text a site n a.stage refl can in
     let none : length (left_in g text a site a.stage) ≡ 0 = ap length (quiet g text a site a.stage never) in
     omega (arith, most, none)
 
@@ -117,6 +117,6 @@ nothing_acked g text a site p n stage.Target never e (received, none) = (receive
 nothing_acked g text a site p n stage.Refused never e (refused, none) = (refused, record { snapshots = none.snapshots; acked = omega (arith, none.acked, e) })
 nothing_acked g text a site p n (stage.Reply found) never e represented = absurd (never found refl)
 
-pub quiet_acked : {F R : Type 0} (g : ScriptFunctions F) (text : R → List ℕ) (a : Pages R) (site : SiteContent) (p : AppState) (n : ℕ) → ((found : Option FileId) → a.stage ≡ stage.Reply found → ⊥) → CanSay (means g) (PagesRepresent g text) a site n → PagesRepresent g text a site p
+pub quiet_acked : {F R : Type 0} (g : ScriptFunctions F) (text : R → List ℕ) (a : Pages R) (site : SiteContent) (p : AppState) (n : ℕ) → ((found : Option FileId) → a.stage ≡ stage.Reply found → ⊥) → CanSupply (means g) (PagesRepresent g text) a site n → PagesRepresent g text a site p
     → PagesRepresent g text (record a { polls = 0 }) site (record p { acked = p.acked + n; polls = 0 })
 quiet_acked g text a site p n never can s = record { polls = refl; represented = nothing_acked g text a site p n a.stage never (quiet_zero g text a site n never can) s.represented }

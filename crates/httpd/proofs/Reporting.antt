@@ -1,5 +1,5 @@
 -- The states after a piece was delivered.
-use Rattle.httpd.proofs.Prelude.{◌≡◌, ℕ, ◌≤◌, List, ◌++◌, Option, None, Some, length, drop, refl, sym, ap, subst, ◌∙◌, arith, AppState, File, file_named, FileId, SiteContent, files_of, Wanted, wanted, Name, NotYet, Refused, ScriptFunctions, reply_pieces_by, reply_to_by, reach_by, text_by, hits_by, more_by, Pages, Stage, Head, FileReply, calls_in, found_file, left_from, reply_by, Fits, IsFound, KeepsDirective, ReceivesMethod, ReceivesTarget, IsDecided, PagesRepresent, IsLeft, IsReplying, SaysNothing, IsRepresentedIn}
+use Rattle.httpd.proofs.Prelude.{◌≡◌, ℕ, ◌≤◌, List, ◌++◌, Option, None, Some, length, drop, refl, sym, ap, subst, ◌∙◌, arith, AppState, File, file_named, FileId, SiteContent, files_of, Wanted, wanted, Name, NotYet, Refused, ScriptFunctions, reply_pieces_by, reply_to_by, reach_by, text_by, hits_by, more_by, Pages, Stage, Head, FileReply, calls_in, found_file, left_from, reply_by, Fits, IsFound, KeepsDirective, ReceivesMethod, ReceivesTarget, IsDecided, PagesRepresent, IsLeft, IsReplying, SendsNothing, IsRepresentedIn}
 use Rattle.httpd.specs.declared.stage.Stage.TheVariants as stage
 
 -- from the start of its head a reply generates its pieces
@@ -8,7 +8,7 @@ unfolding left_from
 reply_start g files None made = refl
 reply_start g files (Some file) made = refl
 
-prefix_left : {F : Type 0} (r : FileReply F) (name : List ℕ) (p : AppState) → r.file ≡ file_named r.files name → SaysNothing p → IsLeft r (Head 0) name p
+prefix_left : {F : Type 0} (r : FileReply F) (name : List ℕ) (p : AppState) → r.file ≡ file_named r.files name → SendsNothing p → IsLeft r (Head 0) name p
 prefix_left r name p e none =
     let pieces : left_from r (Head 0) ≡ reply_pieces_by r.functions.function_table.named r.files name = reply_start r.functions r.files r.file r.made ∙ ap (reply_to_by r.functions.function_table.named r.files) e in
     record {
@@ -23,7 +23,7 @@ pub prefix_fits : {F : Type 0} (r : FileReply F) → Fits r (Head 0)
 unfolding Fits
 prefix_fits r = omega arith
 
-begins : {F R : Type 0} (g : ScriptFunctions F) (text : R → List ℕ) (a : Pages R) (site : SiteContent) (p : AppState) (found : Option FileId) (name : List ℕ) → a.thread ≡ Head 0 → SaysNothing p → wanted p.input ≡ Name name → IsFound (files_of site) found
+begins : {F R : Type 0} (g : ScriptFunctions F) (text : R → List ℕ) (a : Pages R) (site : SiteContent) (p : AppState) (found : Option FileId) (name : List ℕ) → a.thread ≡ Head 0 → SendsNothing p → wanted p.input ≡ Name name → IsFound (files_of site) found
     → found_file (files_of site) found ≡ file_named (files_of site) name → IsReplying g text a site name found p
 begins g text a site p found name e none is there file = record {
   wanted = is;
@@ -35,30 +35,30 @@ begins g text a site p found name e none is there file = record {
 }
 
 -- where a stage was decided
-pub decided_stands : {F R : Type 0} (g : ScriptFunctions F) (text : R → List ℕ) (a : Pages R) (site : SiteContent) (p : AppState) (s : Stage) → a.thread ≡ Head 0 → SaysNothing p → IsDecided (files_of site) a.line p.input s → IsRepresentedIn g text a site p s
-decided_stands g text a site p stage.Method e none is = (is, none)
-decided_stands g text a site p stage.Target e none is = (is, none)
-decided_stands g text a site p stage.Refused e none is = (is, none)
-decided_stands g text a site p (stage.Reply found) e none is = (is.name, begins g text a site p found is.name e none is.wanted is.there is.file)
+pub decided_represents : {F R : Type 0} (g : ScriptFunctions F) (text : R → List ℕ) (a : Pages R) (site : SiteContent) (p : AppState) (s : Stage) → a.thread ≡ Head 0 → SendsNothing p → IsDecided (files_of site) a.line p.input s → IsRepresentedIn g text a site p s
+decided_represents g text a site p stage.Method e none is = (is, none)
+decided_represents g text a site p stage.Target e none is = (is, none)
+decided_represents g text a site p stage.Refused e none is = (is, none)
+decided_represents g text a site p (stage.Reply found) e none is = (is.name, begins g text a site p found is.name e none is.wanted is.there is.file)
 
 abbrev pub with_more : AppState → List ℕ → AppState
 with_more p piece = record p { input = p.input ++ piece; polls = 0 }
 
-still_nothing : (p : AppState) (piece : List ℕ) → SaysNothing p → SaysNothing (with_more p piece)
+still_nothing : (p : AppState) (piece : List ℕ) → SendsNothing p → SendsNothing (with_more p piece)
 still_nothing p piece none = record { snapshots = none.snapshots; acked = none.acked }
 
-pub method_heard : {F R : Type 0} (g : ScriptFunctions F) (text : R → List ℕ) (a : Pages R) (site : SiteContent) (p : AppState) → a.stage ≡ stage.Method → PagesRepresent g text a site p → ReceivesMethod a.line p.input × SaysNothing p
-method_heard g text a site p e s = subst (λ st. IsRepresentedIn g text a site p st) e s.represented
+pub method_received : {F R : Type 0} (g : ScriptFunctions F) (text : R → List ℕ) (a : Pages R) (site : SiteContent) (p : AppState) → a.stage ≡ stage.Method → PagesRepresent g text a site p → ReceivesMethod a.line p.input × SendsNothing p
+method_received g text a site p e s = subst (λ st. IsRepresentedIn g text a site p st) e s.represented
 
-pub target_heard : {F R : Type 0} (g : ScriptFunctions F) (text : R → List ℕ) (a : Pages R) (site : SiteContent) (p : AppState) → a.stage ≡ stage.Target → PagesRepresent g text a site p → ReceivesTarget a.line p.input × SaysNothing p
-target_heard g text a site p e s = subst (λ st. IsRepresentedIn g text a site p st) e s.represented
+pub target_received : {F R : Type 0} (g : ScriptFunctions F) (text : R → List ℕ) (a : Pages R) (site : SiteContent) (p : AppState) → a.stage ≡ stage.Target → PagesRepresent g text a site p → ReceivesTarget a.line p.input × SendsNothing p
+target_received g text a site p e s = subst (λ st. IsRepresentedIn g text a site p st) e s.represented
 
-pub refused_heard : {F R : Type 0} (g : ScriptFunctions F) (text : R → List ℕ) (a : Pages R) (site : SiteContent) (p : AppState) → a.stage ≡ stage.Refused → PagesRepresent g text a site p → (wanted p.input ≡ Refused) × SaysNothing p
-refused_heard g text a site p e s = subst (λ st. IsRepresentedIn g text a site p st) e s.represented
+pub refused_received : {F R : Type 0} (g : ScriptFunctions F) (text : R → List ℕ) (a : Pages R) (site : SiteContent) (p : AppState) → a.stage ≡ stage.Refused → PagesRepresent g text a site p → (wanted p.input ≡ Refused) × SendsNothing p
+refused_received g text a site p e s = subst (λ st. IsRepresentedIn g text a site p st) e s.represented
 
 -- a request that a piece may decide
-pub heard_stands : {F R : Type 0} (g : ScriptFunctions F) (text : R → List ℕ) (a b : Pages R) (site : SiteContent) (p : AppState) (piece : List ℕ) → SaysNothing p → b.thread ≡ Head 0 → b.polls ≡ 0 → IsDecided (files_of site) b.line (p.input ++ piece) b.stage → PagesRepresent g text b site (with_more p piece)
-heard_stands g text a b site p piece none e polls is = record { polls = polls; represented = decided_stands g text b site (with_more p piece) b.stage e (still_nothing p piece none) is }
+pub received_represents : {F R : Type 0} (g : ScriptFunctions F) (text : R → List ℕ) (a b : Pages R) (site : SiteContent) (p : AppState) (piece : List ℕ) → SendsNothing p → b.thread ≡ Head 0 → b.polls ≡ 0 → IsDecided (files_of site) b.line (p.input ++ piece) b.stage → PagesRepresent g text b site (with_more p piece)
+received_represents g text a b site p piece none e polls is = record { polls = polls; represented = decided_represents g text b site (with_more p piece) b.stage e (still_nothing p piece none) is }
 
 -- a request that was decided
 pub reply_stays : {F R : Type 0} (g : ScriptFunctions F) (text : R → List ℕ) (a : Pages R) (site : SiteContent) (p : AppState) (piece : List ℕ) (found : Option FileId) → a.stage ≡ stage.Reply found → PagesRepresent g text a site p → PagesRepresent g text (record a { polls = 0 }) site (with_more p piece)
@@ -81,7 +81,7 @@ reply_stays g text a site p piece found e s =
 
 pub refused_stays : {F R : Type 0} (g : ScriptFunctions F) (text : R → List ℕ) (a : Pages R) (site : SiteContent) (p : AppState) (piece : List ℕ) → a.stage ≡ stage.Refused → PagesRepresent g text a site p → PagesRepresent g text (record a { polls = 0 }) site (with_more p piece)
 refused_stays g text a site p piece e s =
-    let is = refused_heard g text a site p e s in
+    let is = refused_received g text a site p e s in
     record {
       polls = refl;
       represented = subst (λ st. IsRepresentedIn g text (record a { polls = 0 }) site (with_more p piece) st) (sym e)

@@ -1,6 +1,6 @@
 use Rattle.udp_resolver.proofs.Prelude.{◌≡◌, ◌+◌, ◌++◌, ◌∙◌, None, sym, ap, drop, get_or, Appends-then, appends_by, on_err, sink_view, writes_broken, writes_by, fate_by, line_of, lines_by}
 use Rattle.udp_resolver.proofs.StepLaws.{line_moves, line_some, some_moves}
-use Rattle.udp_resolver.proofs.lines.tell_all.Goals as goal
+use Rattle.udp_resolver.proofs.lines.report_all.Goals as goal
 
 pub loop-at-preserved : goal.loop-at-preserved
 loop-at-preserved g c =

@@ -1,6 +1,6 @@
 use Rattle.uipd.proofs.Prelude.{Some, None, ap, ◌∙◌, codes, bytes_eq}
 use Rattle.uipd.proofs.WordLaws.{last_reported}
-use Rattle.uipd.proofs.words.says_tty.Goals as goal
+use Rattle.uipd.proofs.words.ends_in_tty.Goals as goal
 
 pub returns-in-Some : goal.returns-in-Some
 returns-in-Some c =

@@ -4,7 +4,7 @@ use Rattle.site_image.specs.Prelude.{File}
 use Rattle.app_events.specs.Prelude.{AppSpec}
 use Rattle.web_pages.specs.Prelude.{is_served, web_spec}
 use Rattle.telnet_shell.specs.declared.shell.TheConstants.{TELNET_PORT}
-use Rattle.telnet_shell.specs.ShellMeaning.{shell_spec}
+use Rattle.telnet_shell.specs.ShellSpec.{shell_spec}
 
 -- Pages are served at port 80, and the shell at port 23.
 abbrev pub is_served_at : ℕ → Bool

@@ -1,7 +1,7 @@
 -- A client's code receives in a datagram what the world defines.
 use Rattle.link_world.proofs.Prelude.{ℕ, List, Option, Some, None, Result, Ok, Err, take, option_map_or, ◌≡◌, refl, head_or_fate, payload_of, IpFate, IpHead, Proto, Icmp, echo_fate, IcmpFate, segment_or_fate, TcpFate, Segment, EchoAsked, IcmpRefused, by_head, by_proto, by_segment, Setup, received_in, received_by_proto, received_by_head, client_receives}
 use Rattle.uip_ipv4.specs.declared.proto.Proto.TheVariants.{Tcp}
-use Rattle.link_world.specs.Bytes.{received_by, receives_datagram as world_hears}
+use Rattle.link_world.specs.Bytes.{received_by, receives_datagram as world_receives}
 
 of_segment : (setup : Setup) (head : IpHead) (bytes : List ℕ) (r : Result Segment TcpFate) → received_in setup head bytes r ≡ received_by setup (by_segment head bytes r)
 of_segment setup head bytes (Ok s) = refl
@@ -20,5 +20,5 @@ of_head setup bytes (Ok head) = of_proto head.proto setup head bytes
 of_head setup bytes (Err fate) = refl
 
 -- what the client's code receives is what the world defines
-pub same_hearing : (setup : Setup) (bytes : List ℕ) → client_receives setup bytes ≡ world_hears setup bytes
-same_hearing setup bytes = of_head setup bytes (head_or_fate bytes setup.addr.0)
+pub same_receiving : (setup : Setup) (bytes : List ℕ) → client_receives setup bytes ≡ world_receives setup bytes
+same_receiving setup bytes = of_head setup bytes (head_or_fate bytes setup.addr.0)

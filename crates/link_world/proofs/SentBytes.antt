@@ -2,7 +2,7 @@
 use Rattle.link_world.proofs.Prelude.{All, ℕ, List, PlainSegment, AppSpec, IsByte, IsPaged, Pages, Now, Sockets, Connection, closed, asked, accepted, on_segment, on_tick, HasBytes, SendsBytes, DeliveredBytes, asked_bytes, on_segment_bytes, on_tick_bytes, page_bytes, FitConn, all_nil}
 
 -- H holds of a connection that is CLOSED or new, and of one after each event that brings bytes. If it holds, bytes are sent.
-pub record SaysBytesWhere (m : AppSpec) (H : Connection → Type 0) : Type 0 where
+pub record SendsBytesWhere (m : AppSpec) (H : Connection → Type 0) : Type 0 where
   pub closed_knows : H closed
   pub accepted_knows : (iss : ℕ) (sockets : Sockets) (s : PlainSegment) → H (accepted iss sockets s)
   pub segment_knows : (at : Connection → Now) (c : Connection) (numbers : List ℕ) (s : PlainSegment) → All IsByte s.text → H c → H (asked m at (on_segment m c numbers s)).connection
@@ -10,8 +10,8 @@ pub record SaysBytesWhere (m : AppSpec) (H : Connection → Type 0) : Type 0 whe
   pub says : (c : Connection) → FitConn c → H c → All IsByte (m.output c.part)
 
 -- where pages are bytes, each connection received bytes
-pub pages_say_bytes : (m : AppSpec) (pages : Pages) → IsPaged m pages → HasBytes pages → SaysBytesWhere m DeliveredBytes
-pages_say_bytes m pages lawful page = (let bytes : SendsBytes m = page_bytes m pages lawful page in record {
+pub pages_send_bytes : (m : AppSpec) (pages : Pages) → IsPaged m pages → HasBytes pages → SendsBytesWhere m DeliveredBytes
+pages_send_bytes m pages lawful page = (let bytes : SendsBytes m = page_bytes m pages lawful page in record {
   closed_knows = all_nil IsByte;
   accepted_knows = λ iss sockets s. all_nil IsByte;
   segment_knows = λ at c numbers s are h. asked_bytes m bytes at (on_segment m c numbers s) (on_segment_bytes m bytes c numbers s are h);
