@@ -9,6 +9,7 @@
     python3 dev.py wrap PAGE ..       wraps the prose of Markdown pages at 100 columns, but no code, table or generated list
     python3 dev.py words [write]      counts words that the prose is losing: status 1 if a count has risen; `write` stores the counts
     python3 dev.py words at COMMIT    the sums at a commit; words in PLACE: the lines of a page or crate that have one of the words
+    python3 dev.py counts             lines of imports, and clauses of over 200 characters; `docs` fails if they are above their limits
     python3 dev.py names              types of src/ that two crates define
     python3 dev.py calls              public calls that have neither a caller, nor a test, nor an edit
     python3 dev.py add NAME           the places that a new counter, state, command .. takes: the tags `[add: NAME]` of the sources
@@ -28,6 +29,7 @@ sys.path.insert(0, os.path.join(os.path.dirname(os.path.abspath(__file__)), "dev
 import add  # noqa: E402
 import calls  # noqa: E402
 import checks  # noqa: E402
+import counts  # noqa: E402
 import documents  # noqa: E402
 import flash  # noqa: E402
 import gate  # noqa: E402
@@ -59,6 +61,7 @@ PLAIN = {
     "layers": lambda: checks.layers(Crates()),
     "docs": lambda: sys.exit(documents.docs(Crates())),
     "names": calls.type_names,
+    "counts": counts.show,
     "calls": lambda: print_calls(Crates()),
     "ci": gate.ci,
     "gate": lambda: gate.show(None),

@@ -6,6 +6,7 @@ import sys
 
 import add
 import calls
+import counts
 import words
 from repository import TOP, read, tracked
 
@@ -195,7 +196,7 @@ def see_kit():
 def docs(crates):
     documents = Documents(crates)
     documents.see_all()
-    faults = documents.faults + add.faults(crates) + calls.faults(crates) + words.faults()
+    faults = documents.faults + add.faults(crates) + calls.faults(crates) + words.faults() + counts.faults()
     for line in faults:
         print(line)
     failed = bool(faults)

@@ -161,6 +161,28 @@ def gate(trial):
     trial.see("1 of 2 crates proved, 1 edits tried" in out and "no times" in out, f"a log without times: {out}")
 
 
+def shape(trial):
+    """Lines of imports, and clauses that are too long."""
+    lines = sum(text.count("\n") for path, text in FILES.items() if path.endswith((".rt", ".antt")))
+    uses = f"imports: 2 of {lines} lines, {200 / lines:.2f} %; with 0 of clauses"
+    out = trial.run("counts")[1]
+    trial.see(uses in out and "clauses: 0 of 0 have" in out, f"counts: {out}")
+    spec = FILES["crates/low/specs/Low.antt"]
+    trial.write("crates/low/specs/Low.antt", spec + "use A.{a}\nunfoldable pub use B.{b}\npub use C.{c}\n" + "x : N\n" * 30)
+    code = "\nghost use D.{d};\n\nfn long()\n    requires { a }\n    ensures both { b + {" + "c" * 95 + "} +\n        " + "d" * 95 + " }\n{\n}\n"
+    trial.write("crates/low/src/low.rt", FILES["crates/low/src/low.rt"] + code)
+    out = trial.run("counts")[1]
+    trial.see("imports: 5 of " in out and "with 1 of clauses" in out and "clauses: 0 of 2 have" in out, f"counts with more: {out}")
+    trial.see("are imports" not in trial.run("docs")[1], "docs with few imports")
+    trial.write("crates/low/specs/Low.antt", spec + "use A.{a}\n" * 60)
+    trial.write("crates/low/src/low.rt", FILES["crates/low/src/low.rt"] + code.replace("d" * 95, "d" * 105) * 37)
+    out = trial.run("docs")[1]
+    trial.see("lines are imports, more than 9 %" in out and "crates: 37 clauses have over 200 characters, and 36 may" in out
+              and out.count("both, ") == 37, f"docs with a bad shape: {out}")
+    trial.write("crates/low/specs/Low.antt", spec)
+    trial.write("crates/low/src/low.rt", FILES["crates/low/src/low.rt"])
+
+
 def further(trial):
     trial.see("the kit here is rattle-kit-13x" in trial.run("docs")[1], "a kit that is not named")
     trial.write("CONTRIBUTING.md", "The letters are 13b and 13x.\n")
@@ -175,7 +197,7 @@ def further(trial):
 def main():
     with tempfile.TemporaryDirectory() as room:
         trial = Trial(room)
-        for part in (words, tags, calls, gate, further):
+        for part in (words, tags, calls, gate, shape, further):
             part(trial)
     print(f"dev.py: {trial.count} expectations, {trial.failed} failed")
     sys.exit(1 if trial.failed else 0)

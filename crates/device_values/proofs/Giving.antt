@@ -50,8 +50,8 @@ module _ (n : ℕ) (lt : n < 16) (text : List ℕ) (short : length text ≤ 32) 
   abbrev prefix : List ℕ
   prefix = take (33 * n) own
 
-  abbrev the_rest_after : List ℕ
-  the_rest_after = drop (33 * n + 33) own
+  abbrev behind : List ℕ
+  behind = drop (33 * n + 33) own
 
   abbrev zeros : List ℕ
   zeros = replicate (32 - length text) 0
@@ -71,21 +71,21 @@ module _ (n : ℕ) (lt : n < 16) (text : List ℕ) (short : length text ≤ 32) 
   head_long : length (prefix ++ row) ≡ 33 * n + 33
   head_long = omega (arith, length-append prefix row, prefix_long, row_long)
 
-  from_prefix : value_given n text own ≡ prefix ++ (row ++ the_rest_after)
-  from_prefix = append_assoc prefix row the_rest_after
+  from_prefix : value_given n text own ≡ prefix ++ (row ++ behind)
+  from_prefix = append_assoc prefix row behind
 
   len_shown : get_or (value_given n text own) (33 * n) 0 ≡ length text
   len_shown =
-      ap (λ (l : List ℕ). get_or l (33 * n) 0) from_prefix ∙ ap (λ k. get_or (prefix ++ (row ++ the_rest_after)) k 0) (sym prefix_long)
-      ∙ get_or-append_seam prefix (length text) ((text ++ zeros) ++ the_rest_after) 0
+      ap (λ (l : List ℕ). get_or l (33 * n) 0) from_prefix ∙ ap (λ k. get_or (prefix ++ (row ++ behind)) k 0) (sym prefix_long)
+      ∙ get_or-append_seam prefix (length text) ((text ++ zeros) ++ behind) 0
 
   bytes_shown : bytes_at (value_given n text own) n ≡ text ++ zeros
   bytes_shown =
       let here : 33 * n + 1 ≡ length prefix + 1 = omega (arith, prefix_long) in
       ap (λ (l : List ℕ). take 32 (drop (33 * n + 1) l)) from_prefix
-      ∙ ap (λ k. take 32 (drop k (prefix ++ (row ++ the_rest_after)))) here
-      ∙ ap (λ (l : List ℕ). take 32 l) (drop-append-add prefix (row ++ the_rest_after) 1)
-      ∙ take_at (text ++ zeros) the_rest_after 32 padded_long
+      ∙ ap (λ k. take 32 (drop k (prefix ++ (row ++ behind)))) here
+      ∙ ap (λ (l : List ℕ). take 32 l) (drop-append-add prefix (row ++ behind) 1)
+      ∙ take_at (text ++ zeros) behind 32 padded_long
 
   shown : value_of (value_given n text own) n ≡ text
   shown =
@@ -104,12 +104,12 @@ module _ (n : ℕ) (lt : n < 16) (text : List ℕ) (short : length text ≤ 32) 
           let less : other < n = ltb-true other n e in
           let within : 33 * other + 33 ≤ length prefix = omega (arith, less, prefix_long) in
           ap (λ (l : List ℕ). value_of l other) from_prefix
-          ∙ same_in_prefix prefix (row ++ the_rest_after) (drop (33 * n) own) other within
+          ∙ same_in_prefix prefix (row ++ behind) (drop (33 * n) own) other within
           ∙ ap (λ (l : List ℕ). value_of l other) (take-append-drop (33 * n) own)
       by_place false true e f =
           let more : n < other = ltb-true n other f in
           let kept : length (take (33 * n + 33) own) ≡ 33 * n + 33 = length-take-le (33 * n + 33) own (omega (arith, lt, long)) in
-          same_after (prefix ++ row) (take (33 * n + 33) own) the_rest_after other (omega (arith, head_long, kept)) (omega (arith, head_long, more))
+          same_after (prefix ++ row) (take (33 * n + 33) own) behind other (omega (arith, head_long, kept)) (omega (arith, head_long, more))
           ∙ ap (λ (l : List ℕ). value_of l other) (take-append-drop (33 * n + 33) own)
       by_place false false e f =
           let one : n ≤ other = ltb-false other n e in
@@ -117,7 +117,7 @@ module _ (n : ℕ) (lt : n < 16) (text : List ℕ) (short : length text ≤ 32) 
           absurd (apart (omega (arith, one, two)))
 
   long_given : length (value_given n text own) ≡ 528
-  long_given = omega (arith, length-append (prefix ++ row) the_rest_after, head_long, length-drop (33 * n + 33) own, long, lt)
+  long_given = omega (arith, length-append (prefix ++ row) behind, head_long, length-drop (33 * n + 33) own, long, lt)
 
 pub given_is_shown : GivenIsShown
 given_is_shown n lt text short bytes own long = record {

@@ -83,12 +83,12 @@ pub framed_is : (head room frame new_head new_room : List ℕ) (len : ℕ) → l
     → take (2 + len) (new_head ++ new_room) ≡ framed frame
 framed_is head room frame new_head new_room len two e p =
     let word = word_bytes len in
-    let the_rest_after = drop (0 + length frame) room in
+    let behind = drop (0 + length frame) room in
     let first : new_head ≡ word = e ∙ ap (λ l. word ++ l) (drop_all 2 head (omega (arith, two))) ∙ append-nil word in
     ap (λ l. take (2 + len) (l ++ new_room)) first ∙ ap (λ l. take (2 + len) (word ++ l)) p.there
-    ∙ take-append-add word (frame ++ the_rest_after) len
-    ∙ ap (λ n. word ++ take n (frame ++ the_rest_after)) p.size
-    ∙ ap (λ l. word ++ l) (take-append_seam frame the_rest_after)
+    ∙ take-append-add word (frame ++ behind) len
+    ∙ ap (λ n. word ++ take n (frame ++ behind)) p.size
+    ∙ ap (λ l. word ++ l) (take-append_seam frame behind)
     ∙ ap (λ n. word_bytes n ++ frame) p.size
 
 -- the payload of a frame in an area

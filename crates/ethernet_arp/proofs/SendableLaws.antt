@@ -45,11 +45,11 @@ echo_fits head bytes total most =
     choose P (nat_lt (length message) 8) _ _ (λ e. tt)
     (λ e. let size = short_no (payload_of head bytes) e in
     let cut = length-take (head.total - 20) (drop 20 bytes) in
-    let the_rest_after = length-drop 20 bytes in
+    let behind = length-drop 20 bytes in
     let prefix = length-take head.total bytes in
     choose P (not (checksum_of message == 0)) _ _ (λ f. tt)
     (λ f. choose P (not (slice_index message 0 == 8) || not (slice_index message 1 == 0)) _ _ (λ g. tt)
-    (λ g. (omega (arith, total, most, size, cut, the_rest_after, prefix), omega (arith, total, most, prefix)))))
+    (λ g. (omega (arith, total, most, size, cut, behind, prefix), omega (arith, total, most, prefix)))))
 
 proto_fits : (proto : Proto) (head : IpHead) (bytes : List ℕ) → head.total ≤ length bytes → length bytes ≤ 1500 → length head.source.0 ≡ 4 → EventFits (by_proto proto head bytes)
 proto_fits Icmp head bytes total most h = echo_fits head bytes total most

@@ -386,8 +386,8 @@ moved_prefix_is addr e es p size h =
     ∙ ap (λ l. e ∷ l) (moved_is addr es p (omega (arith, size)) (h ∙ ap (λ n. min n 7) (sym (place_is addr es)) ∙ ap (λ n. min (place_in addr es) n) (omega (arith, size))))
 
 -- what an entry has is known
-reported_as : (acts : List Act) (e : Entry) (prefix : List (List ℕ)) → e.age < 2400 → length prefix < 8 → Remembers acts prefix e → Some e.mac.0 ≡ known acts e.addr.0
-reported_as acts e prefix young few r =
+tells : (acts : List Act) (e : Entry) (prefix : List (List ℕ)) → e.age < 2400 → length prefix < 8 → Remembers acts prefix e → Some e.mac.0 ≡ known acts e.addr.0
+tells acts e prefix young few r =
     let l = r.learning in
     let ticks : ticks_in l.later < 2400 = (let a = r.age in omega arith) in
     let others : length (addresses_of l.later) < 8 = (let s = r.others.size in omega arith) in
@@ -403,7 +403,7 @@ found_is acts addr (x ∷ es) prefix n none size r e below =
       | true ↦ λ h k.
           let it = live_entry addr x h in
           subst (λ (m : ℕ). Some (get_or (x ∷ es) m none).mac.0 ≡ known acts addr) (sym k)
-          (subst (λ (l : List ℕ). Some x.mac.0 ≡ known acts l) it.1 (reported_as acts x prefix it.0 (omega (arith, size)) (r.0 it.0)))
+          (subst (λ (l : List ℕ). Some x.mac.0 ≡ known acts l) it.1 (tells acts x prefix it.0 (omega (arith, size)) (r.0 it.0)))
       | false ↦ λ h k.
           subst (λ (m : ℕ). Some (get_or (x ∷ es) m none).mac.0 ≡ known acts addr) (sym k)
           (found_is acts addr es (x.addr.0 ∷ prefix) (place_in addr es) none (omega (arith, size)) r.1 refl (omega (arith, below, k)))

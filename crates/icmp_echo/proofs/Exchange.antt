@@ -26,8 +26,8 @@ addresses_exchanged d source target once twice h s t first second =
     let rest : drop (12 + length target) d ≡ drop 16 d = ap (λ k. drop (12 + k) d) t_len in
     let once_is : once ≡ prefix ++ drop 16 d = first ∙ ap (λ l. prefix ++ l) rest in
     let kept : take 16 once ≡ prefix = ap (λ l. take 16 l) once_is ∙ take_at prefix (drop 16 d) 16 prefix_count in
-    let the_rest_after : drop (16 + length source) once ≡ drop 20 d =
+    let behind : drop (16 + length source) once ≡ drop 20 d =
     ap (λ k. drop (16 + k) once) s_len ∙ sym (drop-drop 4 16 once)
     ∙ ap (λ l. drop 4 l) (ap (λ l. drop 16 l) once_is ∙ drop_at prefix (drop 16 d) 16 prefix_count) ∙ drop-drop 4 16 d in
-    second ∙ ap (λ l. (l ++ source) ++ drop (16 + length source) once) kept ∙ ap (λ l. (prefix ++ source) ++ l) the_rest_after
+    second ∙ ap (λ l. (l ++ source) ++ drop (16 + length source) once) kept ∙ ap (λ l. (prefix ++ source) ++ l) behind
     ∙ ap (λ l. ((take 12 d ++ l) ++ source) ++ drop 20 d) t_is ∙ ap (λ l. ((take 12 d ++ slice_range d 16 20) ++ l) ++ drop 20 d) s_is

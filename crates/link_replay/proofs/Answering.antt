@@ -3,7 +3,7 @@
 -- [add: function] Function: the texts that its script needs.
 use Rattle.link_replay.proofs.Prelude.{div_ceil, ◌≡◌, ◌≢◌, ℕ, suc, ◌+◌, ◌-◌, ◌<◌, ◌≤◌, ◌==◌, min, Bool, true, false, if◌then◌else◌, ◌&&◌, not, ◌⊎◌, inl, inr, List, [], ◌∷◌, ◌++◌, length, decimal, replicate, flat_map, refl, sym, ap, ◌∙◌, subst, arith, nat_lt, nat_le, length-append, true≢false, and_parts, eqb-true, ltb-true, leb-true, le-leb, cases_lt, common_steps, length-replicate, sum_by-cons, AppState, Snapshot, IsSnapshot, Row, Want, Nothing, Send, Close, Abort, Function, FileStats, TcpConnections, NetStats, Ticks, Unknown, length_at_most, takes_capture, File, in_ten_places, counter_line, row_parts, row_text, uip, Wanted, wanted, NotYet, Refused, Name, name_stays, ScriptPiece, Plain, Made, made_text, hits_of, page_text, reach_end, page_for, whole_for, page, is_page_whole, silent_text, silent_end, stopped_text, made_first, made_end, newdata_grows, with_capture, web_spec, web_want, is_acknowledged, waits_for_capture, left_of, silent_none, text_bound, uip_short, GoesOnBy, AnswersIn, AnswersPolled, prefix_length, both_ways, ltb-zero, not-true, all_nil, all_cons, most_of, texts_for, pieces_for}
 use Rattle.std.proofs.lemmas.Bool.{eq-eqb}
-use Rattle.link_replay.proofs.TextCounts.{left_in, the_rest_after, counted, shorter, one_less}
+use Rattle.link_replay.proofs.TextCounts.{left_in, behind, counted, shorter, one_less}
 
 not_twenty : (n : ℕ) → n < 20 → (n == 20) ≡ false
 not_twenty n l = grind (arith, common_steps)
@@ -100,7 +100,7 @@ module _ (files : List File) where
     past_piece : (n output a : ℕ) (after before : List ℕ) → a ≡ n + output → Fewer after before output → Fewer (n ∷ after) (n ∷ before) a
     past_piece n output a after before e h =
         let rest : a - n ≡ output = omega (arith, e) in
-        omega (arith, the_rest_after mss some n a after (omega (arith, e)), the_rest_after mss some n a before (omega (arith, e)), ap (λ k. left_in mss some after k) rest, ap (λ k. left_in mss some before k) rest, h)
+        omega (arith, behind mss some n a after (omega (arith, e)), behind mss some n a before (omega (arith, e)), ap (λ k. left_in mss some after k) rest, ap (λ k. left_in mss some before k) rest, h)
 
     fewer_left : (pieces : List (ScriptPiece Function)) (captures : List Snapshot) (capture : Snapshot) (a : ℕ) → IsSnapshot capture → reach_end pieces captures ≡ false → a ≡ length (page_text files pieces captures) →
         Fewer (sizes pieces (captures ++ capture ∷ [])) (sizes pieces captures) a

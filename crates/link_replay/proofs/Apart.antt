@@ -30,9 +30,9 @@ not_silent x xs e = absurd (let z : length (x ∷ xs) ≡ 0 = ltb-zero (length (
 -- ---- a capture makes a page longer
 
 module _ (files : List File) where
-  the_rest_after : (f : Function) (argument : List ℕ) (more : List (ScriptPiece Function)) (first : Snapshot) (later : List Snapshot) (new : Snapshot) → length (page_text files more later) < length (page_text files more (later ++ new ∷ []))
+  behind : (f : Function) (argument : List ℕ) (more : List (ScriptPiece Function)) (first : Snapshot) (later : List Snapshot) (new : Snapshot) → length (page_text files more later) < length (page_text files more (later ++ new ∷ []))
       → length (made_text files f argument first ++ page_text files more later) < length (made_text files f argument first ++ page_text files more (later ++ new ∷ []))
-  the_rest_after f argument more first later new l =
+  behind f argument more first later new l =
       let output : List ℕ = made_text files f argument first in
       omega (arith, l, length-append output (page_text files more later), length-append output (page_text files more (later ++ new ∷ [])))
 
@@ -50,10 +50,10 @@ module _ (files : List File) where
   grows (Made Ticks argument ∷ more) [] new g h =
       omega (arith, ten_places new.now.ticks, length-append (made_text files Ticks argument new) (page_text files more []))
   grows (Made Unknown argument ∷ more) [] new g h = grows more [] new g h
-  grows (Made FileStats argument ∷ more) (first ∷ later) new g h = the_rest_after FileStats argument more first later new (grows more later new g h)
-  grows (Made TcpConnections argument ∷ more) (first ∷ later) new g h = the_rest_after TcpConnections argument more first later new (grows more later new g h)
-  grows (Made NetStats argument ∷ more) (first ∷ later) new g h = the_rest_after NetStats argument more first later new (grows more later new g h)
-  grows (Made Ticks argument ∷ more) (first ∷ later) new g h = the_rest_after Ticks argument more first later new (grows more later new g h)
+  grows (Made FileStats argument ∷ more) (first ∷ later) new g h = behind FileStats argument more first later new (grows more later new g h)
+  grows (Made TcpConnections argument ∷ more) (first ∷ later) new g h = behind TcpConnections argument more first later new (grows more later new g h)
+  grows (Made NetStats argument ∷ more) (first ∷ later) new g h = behind NetStats argument more first later new (grows more later new g h)
+  grows (Made Ticks argument ∷ more) (first ∷ later) new g h = behind Ticks argument more first later new (grows more later new g h)
   grows (Made Unknown argument ∷ more) (first ∷ later) new g h = grows more (first ∷ later) new g h
 
   -- ---- a connection that is not at the end of its page

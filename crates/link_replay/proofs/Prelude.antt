@@ -23,7 +23,7 @@ pub use Rattle.link_replay.specs.declared.report.tally.Tally.{Tally}
 pub use Rattle.link_replay.specs.declared.commands.output_form.OutputForm.{OutputForm}
 pub use Rattle.link_replay.specs.declared.commands.output_form.OutputForm.TheVariants.{Report, Summary}
 pub use Rattle.link_schedule.proofs.Keeping.{kept_where_read, lines_keep, of_words}
-pub use Rattle.link_schedule.proofs.Kept.{anything, the_rest_after, either, tested, within_range}
+pub use Rattle.link_schedule.proofs.Kept.{anything, behind, either, tested, within_range}
 pub use Rattle.link_schedule.specs.Answer.{ReadsSchedule}
 pub use Rattle.link_schedule.specs.Clients.{Plan, got, is_target, plan_of, plan_with, raw, request_of, side_of}
 pub use Rattle.link_schedule.specs.Events.{event_of_words}

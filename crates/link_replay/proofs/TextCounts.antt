@@ -32,15 +32,15 @@ module _ (mss : ℕ) (some : 0 < mss) where
   pub inside : (n a : ℕ) (ns : List ℕ) → a < n → left_in (n ∷ ns) a ≡ div_ceil (n - a) mss + left_in ns 0
   inside n a ns h = ap (λ b. if b then div_ceil (n - a) mss + left_in ns 0 else left_in ns (a - n)) (lt-ltb a n h)
 
-  pub the_rest_after : (n a : ℕ) (ns : List ℕ) → n ≤ a → left_in (n ∷ ns) a ≡ left_in ns (a - n)
-  the_rest_after n a ns h = ap (λ b. if b then div_ceil (n - a) mss + left_in ns 0 else left_in ns (a - n)) (le-ltb a n h)
+  pub behind : (n a : ℕ) (ns : List ℕ) → n ≤ a → left_in (n ∷ ns) a ≡ left_in ns (a - n)
+  behind n a ns h = ap (λ b. if b then div_ceil (n - a) mss + left_in ns 0 else left_in ns (a - n)) (le-ltb a n h)
 
   -- from the start the most are left
   from_start : (n : ℕ) (ns : List ℕ) → left_in ns 0 ≤ left_in (n ∷ ns) 0
   from_start n ns =
       elim (cases_lt 0 n) [
         | inl h ↦ omega (arith, inside n 0 ns h)
-        | inr h ↦ (let e : 0 - n ≡ 0 = omega (arith, h) in omega (arith, the_rest_after n 0 ns h, ap (λ k. left_in ns k) e))
+        | inr h ↦ (let e : 0 - n ≡ 0 = omega (arith, h) in omega (arith, behind n 0 ns h, ap (λ k. left_in ns k) e))
       ]
 
   pub most_at_start : (ns : List ℕ) (a : ℕ) → left_in ns a ≤ left_in ns 0
@@ -48,7 +48,7 @@ module _ (mss : ℕ) (some : 0 < mss) where
   most_at_start (n ∷ ns) a =
       elim (cases_lt a n) [
         | inl h ↦ omega (arith, inside n a ns h, inside n 0 ns (omega (arith, h)), ceil_rises (n - a) (n - 0) (omega arith))
-        | inr h ↦ omega (arith, the_rest_after n a ns h, most_at_start ns (a - n), from_start n ns)
+        | inr h ↦ omega (arith, behind n a ns h, most_at_start ns (a - n), from_start n ns)
       ]
 
   -- all of them, counted
@@ -56,7 +56,7 @@ module _ (mss : ℕ) (some : 0 < mss) where
   counted n ns =
       elim (cases_lt 0 n) [
         | inl h ↦ (let e : n - 0 ≡ n = omega arith in omega (arith, inside n 0 ns h, ap (λ k. div_ceil k mss) e))
-        | inr h ↦ (let e : 0 - n ≡ 0 = omega (arith, h) in omega (arith, the_rest_after n 0 ns h, ap (λ k. left_in ns k) e))
+        | inr h ↦ (let e : 0 - n ≡ 0 = omega (arith, h) in omega (arith, behind n 0 ns h, ap (λ k. left_in ns k) e))
       ]
 
   -- a piece that turned out no longer
@@ -64,7 +64,7 @@ module _ (mss : ℕ) (some : 0 < mss) where
   shorter len most ns h =
       elim (cases_lt 0 len) [
         | inl l ↦ omega (arith, inside len 0 ns l, inside most 0 ns (omega (arith, l, h)), ceil_rises (len - 0) (most - 0) (omega (arith, h)))
-        | inr l ↦ (let e : 0 - len ≡ 0 = omega (arith, l) in omega (arith, the_rest_after len 0 ns l, ap (λ k. left_in ns k) e, from_start most ns))
+        | inr l ↦ (let e : 0 - len ≡ 0 = omega (arith, l) in omega (arith, behind len 0 ns l, ap (λ k. left_in ns k) e, from_start most ns))
       ]
 
   -- Text of x bytes is acknowledged, a whole text or all the output: one text less is left.
@@ -77,7 +77,7 @@ module _ (mss : ℕ) (some : 0 < mss) where
               let is : x ≡ mss = elim whole [ inl e ↦ e | inr e ↦ absurd (let z : ⊥ = omega (arith, e, i) in z) ] in
               let e : n - a ≡ n - (a + x) + mss = omega (arith, is, i) in
               omega (arith, inside n (a + x) ns i, inside n a ns h, ceil_step (n - (a + x)), ap (λ k. div_ceil k mss) e)
-          | inr i ↦ omega (arith, the_rest_after n (a + x) ns i, inside n a ns h, most_at_start ns (a + x - n), ceil_some (n - a) (omega (arith, h)))
+          | inr i ↦ omega (arith, behind n (a + x) ns i, inside n a ns h, most_at_start ns (a + x - n), ceil_some (n - a) (omega (arith, h)))
         ]
-        | inr h ↦ (let e : a + x - n ≡ a - n + x = omega (arith, h) in omega (arith, the_rest_after n (a + x) ns (omega (arith, h)), ap (λ k. left_in ns k) e, the_rest_after n a ns h, rest h))
+        | inr h ↦ (let e : a + x - n ≡ a - n + x = omega (arith, h) in omega (arith, behind n (a + x) ns (omega (arith, h)), ap (λ k. left_in ns k) e, behind n a ns h, rest h))
       ]

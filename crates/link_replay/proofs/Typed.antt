@@ -1,5 +1,5 @@
 -- The clients of a text that reads have the ranges of their types.
-use Rattle.link_replay.proofs.Prelude.{All, list_all, list_any, slice_split, option_map_or, IfSome, codes, bytes_eq, ◌≡◌, ℕ, ◌<◌, ◌&&◌, Bool, true, false, cond, List, [], ◌∷◌, ◌++◌, length, Option, Some, None, Result, Ok, Err, IfOk, refl, subst, arith, eqb, leb, ltb, and_parts, leb-true, ltb-true, All-append, All-cons, All-nil, quad_of, Addr, IsAddr, IsByte, decode_of, FromHexError, Plan, got, is_target, plan_of, plan_with, raw, request_of, side_of, event_of_words, Keeps, is_between, address, within, BadText, SchedulePlan, meets, nothing_yet, read_lines, read_text, with_plan, with_event, with_line, ClientSide, Why, Clients, Form, Long, Ports, kept_where_read, lines_keep, of_words, anything, the_rest_after, either, tested, within_range}
+use Rattle.link_replay.proofs.Prelude.{All, list_all, list_any, slice_split, option_map_or, IfSome, codes, bytes_eq, ◌≡◌, ℕ, ◌<◌, ◌&&◌, Bool, true, false, cond, List, [], ◌∷◌, ◌++◌, length, Option, Some, None, Result, Ok, Err, IfOk, refl, subst, arith, eqb, leb, ltb, and_parts, leb-true, ltb-true, All-append, All-cons, All-nil, quad_of, Addr, IsAddr, IsByte, decode_of, FromHexError, Plan, got, is_target, plan_of, plan_with, raw, request_of, side_of, event_of_words, Keeps, is_between, address, within, BadText, SchedulePlan, meets, nothing_yet, read_lines, read_text, with_plan, with_event, with_line, ClientSide, Why, Clients, Form, Long, Ports, kept_where_read, lines_keep, of_words, anything, behind, either, tested, within_range}
 use Rattle.link_replay.proofs.HexBytes.{decoded_bytes}
 use Rattle.link_replay.proofs.Quads.{quad_is_addr}
 
@@ -18,10 +18,10 @@ addressed_typed None p = tt
 
 side_typed : (addr port mss seg : List ℕ) → IfOk (side_of addr port mss seg) SideTyped
 side_typed addr port mss seg =
-    the_rest_after IsAddr SideTyped (address addr) _ (addressed_typed (quad_of addr) (quad_is_addr addr))
-    (λ a is. the_rest_after (λ p. Unit {0}) SideTyped (within 1 65535 port) _ (anything (within 1 65535 port))
-    (λ p u. the_rest_after (λ m. is_between 0 65535 m ≡ true) SideTyped (within 0 65535 mss) _ (within_range 0 65535 mss)
-    (λ m range. the_rest_after (λ s. Unit {0}) SideTyped (within 1 1460 seg) _ (anything (within 1 1460 seg))
+    behind IsAddr SideTyped (address addr) _ (addressed_typed (quad_of addr) (quad_is_addr addr))
+    (λ a is. behind (λ p. Unit {0}) SideTyped (within 1 65535 port) _ (anything (within 1 65535 port))
+    (λ p u. behind (λ m. is_between 0 65535 m ≡ true) SideTyped (within 0 65535 mss) _ (within_range 0 65535 mss)
+    (λ m range. behind (λ s. Unit {0}) SideTyped (within 1 1460 seg) _ (anything (within 1 1460 seg))
     (λ s v. (is, (let most = leb-true m 65535 (and_parts (leb 0 m) (leb m 65535) range).1 in omega (arith, most)))))))
 
 -- bytes that pass a test
@@ -56,8 +56,8 @@ request_typed how what =
 
 with_typed : (addr port mss seg how what : List ℕ) → IfOk (plan_with addr port mss seg how what) HasTypes
 with_typed addr port mss seg how what =
-    the_rest_after SideTyped HasTypes (side_of addr port mss seg) _ (side_typed addr port mss seg)
-    (λ side typed. the_rest_after (All IsByte) HasTypes (request_of how what) _ (request_typed how what)
+    behind SideTyped HasTypes (side_of addr port mss seg) _ (side_typed addr port mss seg)
+    (λ side typed. behind (All IsByte) HasTypes (request_of how what) _ (request_typed how what)
     (λ request bytes. record { addr = typed.0; offered = typed.1; all_bytes = bytes }))
 
 plan_typed : (words : List (List ℕ)) → IfOk (plan_of words) HasTypes
@@ -76,13 +76,13 @@ client_typed above plan typed is =
 
 event_typed : (number : ℕ) (above : SchedulePlan) (words : List (List ℕ)) → Typed above → IfOk (with_event number above words) Typed
 event_typed number above words typed =
-    the_rest_after (λ event. Unit {0}) Typed (event_of_words (length above.clients) words) (λ event. Ok (with_line above number event))
+    behind (λ event. Unit {0}) Typed (event_of_words (length above.clients) words) (λ event. Ok (with_line above number event))
     (anything (event_of_words (length above.clients) words)) (λ event u. typed)
 
 lines_typed : (number : ℕ) (above : SchedulePlan) (lines : List (List ℕ)) → Typed above → IfOk (read_lines number above lines) Typed
 lines_typed number above lines typed =
     lines_keep Typed
-    (λ above words typed. the_rest_after HasTypes Typed (plan_of words) (with_plan above) (plan_typed words) (λ plan is. client_typed above plan typed is))
+    (λ above words typed. behind HasTypes Typed (plan_of words) (with_plan above) (plan_typed words) (λ plan is. client_typed above plan typed is))
     event_typed number above lines typed
 
 -- a text that is not too long reads as its lines do

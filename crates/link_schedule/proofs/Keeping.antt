@@ -1,22 +1,22 @@
 -- Reading a text, each line preserves what holds for a schedule.
 -- [add: schedule-line] A text that has the line.
 use Rattle.link_schedule.proofs.Prelude.{◌≡◌, ℕ, ◌+◌, ◌≤◌, Bool, true, false, cond, not, ◌&&◌, ◌||◌, List, [], ◌∷◌, ◌++◌, length, Result, Ok, Err, IfOk, refl, ap, ◌∙◌, subst, arith, eqb, leb, codes, list_all, list_any, slice_split, bytes_eq, and_parts, and_from, le-leb, leb-true, leb-false, not-true, or_parts, length-append, list_all-append, list_any-append, decode_of, FromHexError, Event, Opens, Again, Closes, Aborts, Window, Line, ClientSide, Why, Form, Clients, Ports, ◌>>=◌, address, within, event_of_words, got, is_target, Plan, plan_of, plan_with, raw, request_of, side_of, BadText, SchedulePlan, reads_on, is_passed_over, meets, nothing_yet, read_line, read_lines, read_words, with_plan, with_event, with_line, are_apart, client_in_range, event_in_range, is_between, Keeps}
-use Rattle.link_schedule.proofs.Kept.{anything, the_rest_after, either, event_fine, tested, within_range}
+use Rattle.link_schedule.proofs.Kept.{anything, behind, either, event_fine, tested, within_range}
 
 abbrev SideFine : ClientSide → Type 0
 SideFine side = (is_between 1 65535 side.port.0 ≡ true) × (is_between 1 1460 side.seg ≡ true)
 
 side_fine : (addr port mss seg : List ℕ) → IfOk (side_of addr port mss seg) SideFine
 side_fine addr port mss seg =
-    the_rest_after (λ a. Unit {0}) SideFine (address addr)
+    behind (λ a. Unit {0}) SideFine (address addr)
     (λ a. within 1 65535 port >>= λ p. within 0 65535 mss >>= λ m. within 1 1460 seg >>= λ s.
     Ok (record { addr = a; port = record { 0 = p }; mss = m; seg = s })) (anything (address addr))
-    (λ a u. the_rest_after (λ p. is_between 1 65535 p ≡ true) SideFine (within 1 65535 port)
+    (λ a u. behind (λ p. is_between 1 65535 p ≡ true) SideFine (within 1 65535 port)
     (λ p. within 0 65535 mss >>= λ m. within 1 1460 seg >>= λ s. Ok (record { addr = a; port = record { 0 = p }; mss = m; seg = s }))
     (within_range 1 65535 port)
-    (λ p fine. the_rest_after (λ m. Unit {0}) SideFine (within 0 65535 mss)
+    (λ p fine. behind (λ m. Unit {0}) SideFine (within 0 65535 mss)
     (λ m. within 1 1460 seg >>= λ s. Ok (record { addr = a; port = record { 0 = p }; mss = m; seg = s })) (anything (within 0 65535 mss))
-    (λ m v. the_rest_after (λ s. is_between 1 1460 s ≡ true) SideFine (within 1 1460 seg)
+    (λ m v. behind (λ s. is_between 1 1460 s ≡ true) SideFine (within 1 1460 seg)
     (λ s. Ok (record { addr = a; port = record { 0 = p }; mss = m; seg = s })) (within_range 1 1460 seg)
     (λ s good. (fine, good)))))
 
@@ -55,9 +55,9 @@ PlanFine plan = client_in_range plan ≡ true
 
 with_fine : (addr port mss seg how what : List ℕ) → IfOk (plan_with addr port mss seg how what) PlanFine
 with_fine addr port mss seg how what =
-    the_rest_after SideFine PlanFine (side_of addr port mss seg)
+    behind SideFine PlanFine (side_of addr port mss seg)
     (λ side. request_of how what >>= λ request. Ok (record { addr = side.addr; port = side.port; mss = side.mss; seg = side.seg; request = request })) (side_fine addr port mss seg)
-    (λ side fine. the_rest_after RequestFine PlanFine (request_of how what) (λ request. Ok (record { addr = side.addr; port = side.port; mss = side.mss; seg = side.seg; request = request })) (request_fine how what)
+    (λ side fine. behind RequestFine PlanFine (request_of how what) (λ request. Ok (record { addr = side.addr; port = side.port; mss = side.mss; seg = side.seg; request = request })) (request_fine how what)
     (λ request good. and_from (is_between 1 65535 side.port.0 && is_between 1 1460 side.seg) (is_between 1 4096 (length request))
     (and_from (is_between 1 65535 side.port.0) (is_between 1 1460 side.seg) fine.0 fine.1) good))
 
@@ -143,7 +143,7 @@ kept_client above plan keeps fine =
 
 kept_event : (number : ℕ) (above : SchedulePlan) (words : List (List ℕ)) → Keeps above → IfOk (with_event number above words) Keeps
 kept_event number above words keeps =
-    the_rest_after (λ event. event_in_range (length above.clients) event ≡ true) Keeps (event_of_words (length above.clients) words)
+    behind (λ event. event_in_range (length above.clients) event ≡ true) Keeps (event_of_words (length above.clients) words)
     (λ event. Ok (with_line above number event)) (event_fine (length above.clients) words)
     (λ event fine. record {
       few = keeps.few;
@@ -184,7 +184,7 @@ module _ (P : SchedulePlan → Type 0) (client : (above : SchedulePlan) (words :
 kept_lines : (number : ℕ) (above : SchedulePlan) (lines : List (List ℕ)) → Keeps above → IfOk (read_lines number above lines) Keeps
 kept_lines number above lines keeps =
     lines_keep Keeps
-    (λ above words keeps. the_rest_after PlanFine Keeps (plan_of words) (with_plan above) (plan_fine words) (λ plan fine. kept_client above plan keeps fine))
+    (λ above words keeps. behind PlanFine Keeps (plan_of words) (with_plan above) (plan_fine words) (λ plan fine. kept_client above plan keeps fine))
     kept_event number above lines keeps
 
 kept_at_first : Keeps nothing_yet

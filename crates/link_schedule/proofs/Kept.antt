@@ -12,10 +12,10 @@ tested P true x y p q = p refl
 tested P false x y p q = q
 
 -- one part of a line after another
-pub the_rest_after : {A B : Type 0} (Q : A → Type 0) (P : B → Type 0) (r : Result A Why) (f : A → Result B Why)
+pub behind : {A B : Type 0} (Q : A → Type 0) (P : B → Type 0) (r : Result A Why) (f : A → Result B Why)
     → IfOk r Q → ((x : A) → Q x → IfOk (f x) P) → IfOk (r >>= f) P
-the_rest_after Q P (Ok x) f q p = p x q
-the_rest_after Q P (Err why) f q p = tt
+behind Q P (Ok x) f q p = p x q
+behind Q P (Err why) f q p = tt
 
 pub anything : {A : Type 0} (r : Result A Why) → IfOk r (λ x. Unit {0})
 anything (Ok x) = tt
@@ -54,7 +54,7 @@ bare_fine clients verb = by_verb_fine (Fine clients) verb bare_forms (refl, (ref
 of_client : (clients : ℕ) (word : List ℕ) (event : ℕ → Event) → ((c : ℕ) → is_between 1 clients c ≡ true → Fine clients (event c))
     → IfOk (named clients word >>= λ c. Ok (event c)) (Fine clients)
 of_client clients word event p =
-    the_rest_after (λ c. is_between 1 clients c ≡ true) (Fine clients) (named clients word) (λ c. Ok (event c)) (named_in_range clients word) p
+    behind (λ c. is_between 1 clients c ≡ true) (Fine clients) (named clients word) (λ c. Ok (event c)) (named_in_range clients word) p
 
 with_one_fine : (clients : ℕ) (verb word : List ℕ) → IfOk (with_one clients verb word) (Fine clients)
 unfolding with_one
@@ -68,11 +68,11 @@ with_one_fine clients verb word =
           (
             of_client clients word Aborts (λ c e. e),
             (
-              the_rest_after (λ a. Unit {0}) (Fine clients) (address word) (λ a. Ok (Ping a)) (anything (address word)) (λ a u. refl),
+              behind (λ a. Unit {0}) (Fine clients) (address word) (λ a. Ok (Ping a)) (anything (address word)) (λ a u. refl),
               (
-                the_rest_after (λ k. Unit {0}) (Fine clients) (within 0 4294967295 word) (λ k. Ok (Give k)) (anything (within 0 4294967295 word)) (λ k u. refl),
+                behind (λ k. Unit {0}) (Fine clients) (within 0 4294967295 word) (λ k. Ok (Give k)) (anything (within 0 4294967295 word)) (λ k u. refl),
                 (
-                  the_rest_after (λ n. is_between 1 300 n ≡ true) (Fine clients) (within 1 300 word) (λ n. Ok (Tick n)) (within_range 1 300 word) (λ n e. e),
+                  behind (λ n. is_between 1 300 n ≡ true) (Fine clients) (within 1 300 word) (λ n. Ok (Tick n)) (within_range 1 300 word) (λ n e. e),
                   tt,
                 ),
               ),
@@ -85,18 +85,18 @@ with_one_fine clients verb word =
 with_two_fine : (clients : ℕ) (verb one two : List ℕ) → IfOk (event_of_words clients (verb ∷ one ∷ two ∷ [])) (Fine clients)
 with_two_fine clients verb one two =
     either (Fine clients) (bytes_eq verb (codes "window")) (window clients one two) (Err Form)
-    (the_rest_after (λ w. Unit {0}) (Fine clients) (within 0 65535 two) (λ w. named clients one >>= λ c. Ok (Window c w)) (anything (within 0 65535 two))
+    (behind (λ w. Unit {0}) (Fine clients) (within 0 65535 two) (λ w. named clients one >>= λ c. Ok (Window c w)) (anything (within 0 65535 two))
     (λ w u. of_client clients one (λ c. Window c w) (λ c e. e)))
     tt
 
 with_three_fine : (clients : ℕ) (verb one two three : List ℕ) → IfOk (event_of_words clients (verb ∷ one ∷ two ∷ three ∷ [])) (Fine clients)
 with_three_fine clients verb one two three =
     either (Fine clients) (bytes_eq verb (codes "damage")) (damage one two three) (Err Form)
-    (the_rest_after (λ k. Unit {0}) (Fine clients) (within 0 4294967295 one)
+    (behind (λ k. Unit {0}) (Fine clients) (within 0 4294967295 one)
     (λ k. within 0 65535 two >>= λ i. within 1 255 three >>= λ x. Ok (Damage k i x)) (anything (within 0 4294967295 one))
-    (λ k u. the_rest_after (λ i. Unit {0}) (Fine clients) (within 0 65535 two) (λ i. within 1 255 three >>= λ x. Ok (Damage k i x))
+    (λ k u. behind (λ i. Unit {0}) (Fine clients) (within 0 65535 two) (λ i. within 1 255 three >>= λ x. Ok (Damage k i x))
     (anything (within 0 65535 two))
-    (λ i v. the_rest_after (λ x. is_between 1 255 x ≡ true) (Fine clients) (within 1 255 three) (λ x. Ok (Damage k i x)) (within_range 1 255 three) (λ x e. e))))
+    (λ i v. behind (λ x. is_between 1 255 x ≡ true) (Fine clients) (within 1 255 three) (λ x. Ok (Damage k i x)) (within_range 1 255 three) (λ x e. e))))
     tt
 
 pub event_fine : (clients : ℕ) (words : List (List ℕ)) → IfOk (event_of_words clients words) (λ event. event_in_range clients event ≡ true)

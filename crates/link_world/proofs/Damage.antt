@@ -197,18 +197,18 @@ late_refused Tcp head prefix back one other a b n l t p =
     let zero_was : checksum_of (pseudo (length (tail ++ one ∷ back)) ++ (tail ++ one ∷ back)) ≡ 0 = segment_sum head.source.0 head.target.0 (tail ++ one ∷ back) p.0 ok in
     let size : length (tail ++ one ∷ back) ≡ length (tail ++ other ∷ back) = omega (arith, length-append tail (one ∷ back), length-append tail (other ∷ back)) in
     let k : ℕ = length (tail ++ other ∷ back) in
-    let reported_as = one_byte (pseudo k ++ tail) back one other a b n in
+    let tells = one_byte (pseudo k ++ tail) back one other a b n in
     segment_refused head (prefix ++ other ∷ back) (tail ++ other ∷ back) now
-    (λ z. reported_as (ap checksum_of (append_assoc (pseudo k) tail (one ∷ back)) ∙ ap (λ x. checksum_of (pseudo x ++ (tail ++ one ∷ back))) (sym size) ∙ zero_was ∙ sym z ∙ ap checksum_of (sym (append_assoc (pseudo k) tail (other ∷ back)))))
+    (λ z. tells (ap checksum_of (append_assoc (pseudo k) tail (one ∷ back)) ∙ ap (λ x. checksum_of (pseudo x ++ (tail ++ one ∷ back))) (sym size) ∙ zero_was ∙ sym z ∙ ap checksum_of (sym (append_assoc (pseudo k) tail (other ∷ back)))))
 late_refused Icmp head prefix back one other a b n l t p =
     let tail : List ℕ = drop 20 prefix in
     let len : length (prefix ++ one ∷ back) ≡ length (prefix ++ other ∷ back) = omega (arith, length-append prefix (other ∷ back), length-append prefix (one ∷ back)) in
     let was : payload_of head (prefix ++ one ∷ back) ≡ tail ++ one ∷ back = payload_is head prefix back one t l in
     let now : payload_of head (prefix ++ other ∷ back) ≡ tail ++ other ∷ back = payload_is head prefix back other (t ∙ len) l in
     let zero_was : checksum_of (tail ++ one ∷ back) ≡ 0 = echo_sum (tail ++ one ∷ back) (ap echo_fate (sym was) ∙ p) in
-    let reported_as = one_byte tail back one other a b n in
+    let tells = one_byte tail back one other a b n in
     subst (λ x. is_refused (option_map_or IcmpRefused (echo_fate x) (EchoAsked (take head.total (prefix ++ other ∷ back)))) ≡ true) (sym now)
-    (echo_refused head (prefix ++ other ∷ back) (tail ++ other ∷ back) (λ z. reported_as (zero_was ∙ sym z)))
+    (echo_refused head (prefix ++ other ∷ back) (tail ++ other ∷ back) (λ z. tells (zero_was ∙ sym z)))
 
 byte_in : (prefix back : List ℕ) (one : ℕ) → All IsByte (prefix ++ one ∷ back) → one < 256
 byte_in [] back one h = h zero one (omega arith)
@@ -229,8 +229,8 @@ damage_refused bytes at mask own w l m1 m2 =
           let n : ℕ = 20 - length r.prefix - 1 in
           let was : take 20 bytes ≡ r.prefix ++ r.one ∷ take n r.back = ap (take 20) r.is ∙ take_around r.prefix r.back r.one 20 f in
           let now : take 20 new ≡ r.prefix ++ other ∷ take n r.back = take_around r.prefix r.back other 20 f in
-          let reported_as = one_byte r.prefix (take n r.back) r.one other one_low c.0 apart in
-          head_refused new own (λ z. reported_as (ap checksum_of (sym was) ∙ head_sum w.head bytes w.is ∙ sym z ∙ ap checksum_of now)))
+          let tells = one_byte r.prefix (take n r.back) r.one other one_low c.0 apart in
+          head_refused new own (λ z. tells (ap checksum_of (sym was) ∙ head_sum w.head bytes w.is ∙ sym z ∙ ap checksum_of now)))
       | inr e ↦ (let f : 20 ≤ length r.prefix = omega (arith, e, r.place) in
           let same : head_or_fate new own.0 ≡ head_or_fate bytes own.0 = same_head r.prefix r.back r.one other own.0 f ∙ ap (λ x. head_or_fate x own.0) (sym r.is) in
           elim (head_or_refused w.head bytes own.0 w.is) [

@@ -295,7 +295,7 @@ module _ (m : AppSpec) (ports : AtPorts m) where
       record {
         reported = t;
         good = PrefixAndWhole.birth m ports w iss sockets k j side e own sent who fresh plain fit g.good tick id;
-        ends = λ r. push_ends k side c w.sent new (λ l i f x wf q pl. absurd (let z : false ≡ true = (g.reported.reported_as i f x wf pl q).0 in cc))
+        ends = λ r. push_ends k side c w.sent new (λ l i f x wf q pl. absurd (let z : false ≡ true = (g.reported.tells i f x wf pl q).0 in cc))
             (λ l x. new_ends c (syn_ack c) (omega arith) (t.safe refl) (λ y. record { len = omega arith; seq = refl; alike = Rattle.uip_node.proofs.Outstanding.alike_refl (syn_ack c) }));
         exact = push_aside k side c w.sent new (λ y. absurd (cc))
             (λ r cl. (let y = PrefixAndWhole.born_by m ports side e ((g.good cl).of_client j e sent who).output (PrefixAndWhole.plain_is m ports (seg e) plain) in

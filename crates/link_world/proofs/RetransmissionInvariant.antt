@@ -89,7 +89,7 @@ module _ (m : AppSpec) (steady : IsSteady m) where
     pub safe : is_live c.state ≡ true → Safe m steady Any_low (λ p f. tt) c
     pub was_sent : is_live c.state ≡ true → 0 < c.len → WasSent k side c sent
     pub time : (j : ℕ) (e : Sent) → slice_get sent j ≡ Some e → e.who ≡ to k → e.epoch ≤ length side.history
-    pub reported_as : (j : ℕ) (e : Sent) → slice_get sent j ≡ Some e → e.who ≡ to k → occupies_sequence_space (seg e) ≡ true → e.epoch ≡ length side.history → (is_live c.state ≡ true) × (IsOld c (seg e) ⊎ IsDue m steady Any_low (λ p f. tt) c (seg e))
+    pub tells : (j : ℕ) (e : Sent) → slice_get sent j ≡ Some e → e.who ≡ to k → occupies_sequence_space (seg e) ≡ true → e.epoch ≡ length side.history → (is_live c.state ≡ true) × (IsOld c (seg e) ⊎ IsDue m steady Any_low (λ p f. tt) c (seg e))
     pub repeats : (i : ℕ) (e : Sent) → slice_get sent i ≡ Some e → e.who ≡ to k → e.again ≡ true → Before sent e i
     pub agree : length sent ≤ 65535 → (i j : ℕ) (e f : Sent) → slice_get sent i ≡ Some e → slice_get sent j ≡ Some f → j < i → e.who ≡ to k → f.who ≡ to k → e.epoch ≡ f.epoch →
         occupies_sequence_space (seg e) ≡ true → occupies_sequence_space (seg f) ≡ true → (seg e).seq ≡ (seg f).seq → (e.again ≡ true) × Alike (seg f) (seg e)
@@ -108,7 +108,7 @@ module _ (m : AppSpec) (steady : IsSteady m) where
     safe = t.safe;
     was_sent = λ l z. (let x = t.was_sent l z in record { sent_as = sent_more k side sent new x.sent_as; due_now = x.due_now });
     time = λ j e x w. elim (get_push sent new j e x) [ older h ↦ t.time j e h w | newest i h ↦ (let s = (q (ap (λ n. n.who) h ∙ w)).epoch in subst (λ n. n ≤ length side.history) (ap (λ n. n.epoch) h) s) ];
-    reported_as = λ j e x w p y. elim (get_push sent new j e x) [ older h ↦ t.reported_as j e h w p y | newest i h ↦ absurd ((q (ap (λ n. n.who) h ∙ w)).unplaced (ap (λ n. occupies_sequence_space (seg n)) h ∙ p)) ];
+    tells = λ j e x w p y. elim (get_push sent new j e x) [ older h ↦ t.tells j e h w p y | newest i h ↦ absurd ((q (ap (λ n. n.who) h ∙ w)).unplaced (ap (λ n. occupies_sequence_space (seg n)) h ∙ p)) ];
     repeats = λ j e x w a. elim (get_push sent new j e x) [ older h ↦ before_more sent new e j (t.repeats j e h w a) | newest i h ↦ absurd ((q (ap (λ n. n.who) h ∙ w)).unmarked (ap (λ n. n.again) h ∙ a)) ];
     agree = λ few i j e f x y l we wf ep pe pf se. elim (get_push sent new i e x) [
       | older h ↦ elim (get_push sent new j f y) [
@@ -134,7 +134,7 @@ module _ (m : AppSpec) (steady : IsSteady m) where
     safe = λ x. absurd (cc);
     was_sent = λ x. absurd (cc);
     time = λ j e x w. omega (arith, t.time j e x w, length_push side.history (past_connection_of d));
-    reported_as = λ j e x w p q. absurd (omega (arith, t.time j e x w, length_push side.history (past_connection_of d), q));
+    tells = λ j e x w p q. absurd (omega (arith, t.time j e x w, length_push side.history (past_connection_of d), q));
     repeats = t.repeats;
     agree = t.agree;
   }
@@ -153,7 +153,7 @@ module _ (m : AppSpec) (steady : IsSteady m) where
       due_now = x.due_now;
     });
     time = λ j e x w. subst (λ p. e.epoch ≤ length p) (sym q) (t.time j e x w);
-    reported_as = λ j e x w p y. t.reported_as j e x w p (y ∙ ap length q);
+    tells = λ j e x w p y. t.tells j e x w p (y ∙ ap length q);
     repeats = t.repeats;
     agree = t.agree;
   }
@@ -189,7 +189,7 @@ module _ (m : AppSpec) (steady : IsSteady m) where
     reports_on : (j : ℕ) (e : Sent) → slice_get sent j ≡ Some e → e.who ≡ to k → occupies_sequence_space (seg e) ≡ true → e.epoch ≡ length side.history → (is_live d.state ≡ true) × (IsOld d (seg e) ⊎ IsDue m steady Any_low (λ p f. tt) d (seg e))
     reports_on j e x w p q = (
       l,
-      elim (t.reported_as j e x w p q).1 [
+      elim (t.tells j e x w p q).1 [
         | inl a ↦ inl record { at = a.at; seq = a.seq ∙ ap (λ n. wrap (n + a.at)) (sym o.iss); history = omega (arith, a.history, o.grows) }
         | inr n ↦ elim (same_or_more c.acked d.acked o.grows) [
           | inl s ↦ (let z = o.kept n.len (sym s) in inr record {
@@ -237,7 +237,7 @@ module _ (m : AppSpec) (steady : IsSteady m) where
       safe = λ x. f;
       was_sent = λ x z. (let y = s z in still_sent y.some y.same);
       time = t.time;
-      reported_as = reports_on;
+      tells = reports_on;
       repeats = t.repeats;
       agree = t.agree;
     }
@@ -250,7 +250,7 @@ module _ (m : AppSpec) (steady : IsSteady m) where
       -- an earlier datagram at its number is the same, and then this one is a repetition
       meets : length (sent ++ new ∷ []) ≤ 65535 → (j : ℕ) (e : Sent) → slice_get sent j ≡ Some e → e.who ≡ to k → occupies_sequence_space (seg e) ≡ true → e.epoch ≡ length side.history → (seg e).seq ≡ (seg new).seq → (again ≡ true) × Alike (seg e) (seg new)
       meets few j e x w p q s =
-          elim (t.reported_as j e x w p q).1 [
+          elim (t.tells j e x w p q).1 [
             | inl a ↦ (let z : a.at ≡ d.acked = same_place d.iss a.at d.acked (let g = a.history in let b = low few in omega (arith, g, b, o.grows)) (low few) (ap (λ n. wrap (n + a.at)) o.iss ∙ sym a.seq ∙ s ∙ h.due_now.seq) in absurd (let g = a.history in omega (arith, g, o.grows, z)))
             | inr n ↦ (let cl : c.acked < 4294967296 = (let b = low few in omega (arith, b, o.grows)) in
                 let z : c.acked ≡ d.acked = same_place d.iss c.acked d.acked cl (low few) (ap (λ x. wrap (x + c.acked)) o.iss ∙ sym n.seq ∙ s ∙ h.due_now.seq) in
@@ -292,7 +292,7 @@ module _ (m : AppSpec) (steady : IsSteady m) where
         safe = λ x. f;
         was_sent = λ x z. record { sent_as = sent_newest k side sent new who epoch placed; due_now = h.due_now };
         time = λ j e x w. elim (get_push sent new j e x) [ older g ↦ t.time j e g w | newest i g ↦ (let q : e.epoch ≡ length side.history = ap (λ n. n.epoch) (sym g) ∙ epoch in omega (arith, q)) ];
-        reported_as = λ j e x w p q. elim (get_push sent new j e x) [
+        tells = λ j e x w p q. elim (get_push sent new j e x) [
           | older g ↦ reports_on j e g w p q
           | newest i g ↦ (l, inr (subst (λ n. IsDue m steady Any_low (λ p f. tt) d (seg n)) g h.due_now))
         ];
@@ -347,7 +347,7 @@ module _ (m : AppSpec) (steady : IsSteady m) where
       let c : Connection = accepted iss sockets (seg e) in
       let new : Sent = entry (to k) side tick id (model false (syn_ack c)) in
       let due_now : IsDue m steady Any_low (λ p f. tt) c (syn_ack c) = record { len = omega arith; seq = refl; alike = alike_refl (syn_ack c) } in
-      let none : (j : ℕ) (x : Sent) → slice_get w.sent j ≡ Some x → x.who ≡ to k → occupies_sequence_space (seg x) ≡ true → x.epoch ≡ length side.history → ⊥ = λ j x g w p q. absurd (let z = (t.reported_as j x g w p q).0 in cc) in
+      let none : (j : ℕ) (x : Sent) → slice_get w.sent j ≡ Some x → x.who ≡ to k → occupies_sequence_space (seg x) ≡ true → x.epoch ≡ length side.history → ⊥ = λ j x g w p q. absurd (let z = (t.tells j x g w p q).0 in cc) in
       record {
         fit = fit;
         lens = accepted_lens iss sockets (seg e);
@@ -355,7 +355,7 @@ module _ (m : AppSpec) (steady : IsSteady m) where
         safe = λ l. record { mss = mss_some (seg e).mss; initial = mss_some (seg e).mss; state = record { len = refl; acked = refl } };
         was_sent = λ x z. record { sent_as = sent_newest k side w.sent new refl refl refl; due_now = due_now };
         time = λ i x g wh. elim (get_push w.sent new i x g) [ older h ↦ t.time i x h wh | newest b h ↦ (let q : x.epoch ≡ length side.history = ap (λ n. n.epoch) (sym h) in omega (arith, q)) ];
-        reported_as = λ i x g wh p q. elim (get_push w.sent new i x g) [ older h ↦ absurd (none i x h wh p q) | newest b h ↦ (refl, inr (subst (λ n. IsDue m steady Any_low (λ p f. tt) c (seg n)) h due_now)) ];
+        tells = λ i x g wh p q. elim (get_push w.sent new i x g) [ older h ↦ absurd (none i x h wh p q) | newest b h ↦ (refl, inr (subst (λ n. IsDue m steady Any_low (λ p f. tt) c (seg n)) h due_now)) ];
         repeats = λ i x g wh a. elim (get_push w.sent new i x g) [ older h ↦ before_more w.sent new x i (t.repeats i x h wh a) | newest b h ↦ absurd (let z : false ≡ true = ap (λ n. n.again) h ∙ a in cc) ];
         agree = λ few i j x y g g' lt we wf ep pe pf se. elim (get_push w.sent new i x g) [
           | older h ↦ elim (get_push w.sent new j y g') [
@@ -380,7 +380,7 @@ module _ (m : AppSpec) (steady : IsSteady m) where
     apart = opening_apart plan is;
     single = λ p i j x y a b u v. absurd (let z = none_serves 10 p i x a in cc);
     each = λ k side x. (let e : serving (client_sockets side) (replicate 10 closed) ≡ closed = serving_free (replicate 10 closed) (client_sockets side) (none_serves 10 (client_sockets side)) in
-        subst (λ c. Reported k side c []) (sym e) (record { fit = closed_fits; lens = closed_lens; room = λ l. absurd (cc); safe = λ l. absurd (cc); was_sent = λ l. absurd (cc); time = λ j e' y. absurd (cc); reported_as = λ j e' y. absurd (cc); repeats = λ j e' y. absurd (cc); agree = λ few i j e' f y. absurd (cc) }));
+        subst (λ c. Reported k side c []) (sym e) (record { fit = closed_fits; lens = closed_lens; room = λ l. absurd (cc); safe = λ l. absurd (cc); was_sent = λ l. absurd (cc); time = λ j e' y. absurd (cc); tells = λ j e' y. absurd (cc); repeats = λ j e' y. absurd (cc); agree = λ few i j e' f y. absurd (cc) }));
   }
 
   reported_step : (served : ℕ → Bool) (v : World) (act : Act) → Harmless m served v act → Framed m Reported other reset evict mark v → FitWorld v → Framed m Reported other reset evict mark (does m served v act)

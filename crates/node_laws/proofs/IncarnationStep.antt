@@ -329,7 +329,7 @@ module _ (m : AppSpec) (steady : IsSteady m) (port : ℕ) (model : OutputModel) 
 
   module _ (c c' : Connection) (o : Outcome) (received : Option PlainSegment) (acked : Bool) (incarnation : List Exchange) (g : Good c incarnation) (alive : is_live c.state ≡ true) (fit : FitConn o.connection)
       (sp : Spoke m port model laws (Unended incarnation) received c g.kept.account.input g.kept.ended g.kept.account.stream o)
-      (reported_as : StepReports m steady AnyLength any_length c o.connection (segment_of m o.connection o.step) (is_again o.step))
+      (tells : StepReports m steady AnyLength any_length c o.connection (segment_of m o.connection o.step) (is_again o.step))
       (moves : Moves acked c o.connection)
       (receives_ack : acked ≡ true → Acks received c)
       (number : (s : PlainSegment) → segment_of m o.connection o.step ≡ Some s → s.ack ≡ rcv_nxt o.connection)
@@ -373,7 +373,7 @@ module _ (m : AppSpec) (steady : IsSteady m) (port : ℕ) (model : OutputModel) 
     captures_on = ap (λ l. l ++ w.more) (sym lv.captures_are) ∙ sym w.snapshots
 
     first_on : is_live d.state ≡ true → d.iss ≡ a.iss
-    first_on l = (reported_as.onto l).iss ∙ lv.first_is
+    first_on l = (tells.onto l).iss ∙ lv.first_is
 
     -- ---- the text that was sent
 
@@ -413,9 +413,9 @@ module _ (m : AppSpec) (steady : IsSteady m) (port : ℕ) (model : OutputModel) 
 
     step_sends : (s : PlainSegment) → sent ≡ Some s → SendsSlice a.iss sp.sent_now s
     step_sends s e = both_ways (occupies_sequence_space s)
-        (λ p. let t = reported_as.output s e p in
+        (λ p. let t = tells.output s e p in
         subst (λ n. SendsSlice n sp.sent_now s) (first_on t.live)
-        (sends_due incarnation d d.state w.now w.over sp.sent_now s (reported_as.safe t.live).state w.page.at t.due_now.len t.due_now.seq t.due_now.alike))
+        (sends_due incarnation d d.state w.now w.over sp.sent_now s (tells.safe t.live).state w.page.at t.due_now.len t.due_now.seq t.due_now.alike))
         (λ p. bare_sends a.iss _ s (bare s p))
 
     step_acks : (s : PlainSegment) → sent ≡ Some s → has_rst s.flags ≡ false → Acknowledges a.irs (x ∷ incarnation) w.now s
@@ -445,7 +445,7 @@ module _ (m : AppSpec) (steady : IsSteady m) (port : ℕ) (model : OutputModel) 
     -- and with a FIN the text is that of the end
     reported_with : (s : PlainSegment) → sent ≡ Some s → has_fin s.flags ≡ true → IsReported model (HasEnded (x ∷ incarnation)) w.now d.part.snapshots sp.sent_now
     reported_with s e f =
-        let t = reported_as.output s e (fin_placed s f) in
+        let t = tells.output s e (fin_placed s f) in
         reported_end model (HasEnded (x ∷ incarnation)) w.now d.part.snapshots sp.sent_now (end_due incarnation d d.state w.now w.over sp.sent_now s w.page.at t.due_now.alike f)
 
     reported_by : (output : Option PlainSegment) → sent ≡ output → IsReported model (HasEnded (x ∷ incarnation)) w.now d.part.snapshots sp.sent_now
@@ -459,14 +459,14 @@ module _ (m : AppSpec) (steady : IsSteady m) (port : ℕ) (model : OutputModel) 
 
     still_unended : speaks d.state ≡ true → Unended incarnation → Unended (x ∷ incarnation)
     still_unended st u h = elim (last_or_before x incarnation h) [
-      | inl q ↦ (let t = reported_as.output q.0 q.1 (fin_placed q.0 q.2) in no_fin_due d d.state q.0 st t.due_now.alike q.2)
+      | inl q ↦ (let t = tells.output q.0 q.1 (fin_placed q.0 q.2) in no_fin_due d d.state q.0 st t.due_now.alike q.2)
       | inr old ↦ u old
     ]
 
     -- what was sent before, now
     older_placed : is_live d.state ≡ true → (k : ℕ) (y : Exchange) (t : PlainSegment) → slice_get incarnation k ≡ Some y → y.output ≡ Some t → occupies_sequence_space t ≡ true → Passed (x ∷ incarnation) (suc k) d t ⊎ DueIn d t
     older_placed l k y t h e p =
-        let o = reported_as.onto l in
+        let o = tells.onto l in
         elim (g.placed alive k y t h e p) [
           | inl q ↦ inl record { at = q.at; seq = q.seq ∙ ap (λ n. wrap (n + q.at)) (sym o.iss); history = (let a = q.history in omega (arith, a, o.grows)); acked = ack_from x incarnation k t q.acked }
           | inr q ↦ elim moves.place [
@@ -488,7 +488,7 @@ module _ (m : AppSpec) (steady : IsSteady m) (port : ℕ) (model : OutputModel) 
 
     step_same : length sp.sent_now < 1073741824 → (s : PlainSegment) (j : ℕ) (y : Exchange) (t : PlainSegment) → sent ≡ Some s → slice_get incarnation j ≡ Some y → y.output ≡ Some t → occupies_sequence_space s ≡ true → occupies_sequence_space t ≡ true → s.seq ≡ t.seq → Alike t s
     step_same few s j y t e h q a b u =
-        let v = reported_as.output s e a in
+        let v = tells.output s e a in
         let low : d.acked < 4294967296 = page_low incarnation d d.state w.now w.over sp.sent_now v.live w.page.at few in
         elim (older_placed v.live j y t h q b) [
           | inl z ↦ absurd (let f : z.at ≡ d.acked = same_place d.iss z.at d.acked (let r = z.history in omega (arith, low, r)) low (sym z.seq ∙ sym u ∙ v.due_now.seq) in let r = z.history in omega (arith, f, r))
@@ -497,11 +497,11 @@ module _ (m : AppSpec) (steady : IsSteady m) (port : ℕ) (model : OutputModel) 
 
     step_one : (s : PlainSegment) (j : ℕ) (y : Exchange) (t : PlainSegment) → sent ≡ Some s → slice_get incarnation j ≡ Some y → y.output ≡ Some t → occupies_sequence_space s ≡ true → occupies_sequence_space t ≡ true → (s.seq ≡ t.seq → ⊥) → IsAcknowledged (x ∷ incarnation) 0 (suc j) t
     step_one s j y t e h q a b u =
-        let v = reported_as.output s e a in
+        let v = tells.output s e a in
         elim (older_placed v.live j y t h q b) [ inl z ↦ z.acked | inr z ↦ absurd (u (v.due_now.seq ∙ sym z.seq)) ]
 
     step_placed : is_live d.state ≡ true → (i : ℕ) (y : Exchange) (s : PlainSegment) → slice_get (x ∷ incarnation) i ≡ Some y → y.output ≡ Some s → occupies_sequence_space s ≡ true → Passed (x ∷ incarnation) i d s ⊎ DueIn d s
-    step_placed l zero y s h e p = (let q : sent ≡ Some s = only_some (λ z. z.output ≡ Some s → x.output ≡ Some s) x y h (λ q. q) e in inr (reported_as.output s q p).due_now)
+    step_placed l zero y s h e p = (let q : sent ≡ Some s = only_some (λ z. z.output ≡ Some s → x.output ≡ Some s) x y h (λ q. q) e in inr (tells.output s q p).due_now)
     step_placed l (suc i) y s h e p = older_placed l i y s h e p
 
     abbrev step_good : Good c' (x ∷ incarnation)
@@ -514,7 +514,7 @@ module _ (m : AppSpec) (steady : IsSteady m) (port : ℕ) (model : OutputModel) 
             peer_is = w.irs ∙ lv.peer_is;
             captures_are = refl;
             page = record { at = unended_page incarnation (x ∷ incarnation) d d.state w.now w.over sp.sent_now still_unended w.page.at; taken = w.page.taken };
-            safe = reported_as.safe e;
+            safe = tells.safe e;
             fit = fit;
             within = within;
           });

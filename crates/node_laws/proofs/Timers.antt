@@ -93,7 +93,7 @@ module _ (m : AppSpec) (steady : IsSteady m) (ports : ℕ → Bool) (p : Sockets
 
     -- what a step must be like
     record Stepped (c : Connection) (received : Option PlainSegment) (o : Outcome) (acked : Bool) : Type 0 where
-      reported_as : StepReports m steady AnyLength (low_text m) c o.connection (segment_of m o.connection o.step) (is_again o.step)
+      tells : StepReports m steady AnyLength (low_text m) c o.connection (segment_of m o.connection o.step) (is_again o.step)
       moves : Moves acked c o.connection
       acks : acked ≡ true → Acknowledged received c
       young : Young o.connection
@@ -113,23 +113,23 @@ module _ (m : AppSpec) (steady : IsSteady m) (ports : ℕ → Bool) (p : Sockets
         none a.0 a.1 a.2 (a.3 ∙ ap (λ k. wrap (k + c.len)) (sym q.seq) ∙ ap (λ k. wrap (s.seq + k)) (sym size))) in
         let still : is_live d.state ≡ true → (s : PlainSegment) → IsOutstanding (met received sent ∷ session) s → Due d s =
         λ l s q. elim (outstands (met received sent) session s q) [
-          | just_sent e placed ↦ (h.reported_as.output s e placed).due_now
+          | just_sent e placed ↦ (h.tells.output s e placed).due_now
           | sent_before before clean none ↦
               (let due_c = v.out s before in
               let same : d.acked ≡ c.acked = elim h.moves.place [ inl e ↦ e | inr e ↦ absurd (unmoved s due_c none e.0) ] in
-              let onto = h.reported_as.onto l in
+              let onto = h.tells.onto l in
               let k = onto.kept due_c.len same in
               let iss : d.iss ≡ c.iss = onto.iss in
               record { len = k.0; seq = due_c.seq ∙ ap wrap (let z : c.iss + c.acked ≡ d.iss + d.acked = omega (arith, same, iss) in z); alike = alike_trans s _ _ due_c.alike (alike_sym _ _ k.1) })
         ] in
         let over : is_live d.state ≡ false → (s : PlainSegment) → IsOutstanding (met received sent ∷ session) s → ⊥ =
         λ l s q. elim (outstands (met received sent) session s q) [
-          | just_sent e placed ↦ absurd (let z = (h.reported_as.output s e placed).live in cc)
+          | just_sent e placed ↦ absurd (let z = (h.tells.output s e placed).live in cc)
           | sent_before before clean none ↦ (let due_c = v.out s before in unmoved s due_c none (h.dies l due_c.len clean))
         ] in
         subst (λ z. Representing r.node (z ∷ session)) (sym g.exchanged)
         (both_ways (is_live d.state)
-        (λ l. incarnations record { i = v.i; c = d; there = there; own = serves_yes p d l (h.peer ∙ peer_own c v.own); safe = h.reported_as.safe l; young = h.young; out = still l })
+        (λ l. incarnations record { i = v.i; c = d; there = there; own = serves_yes p d l (h.peer ∙ peer_own c v.own); safe = h.tells.safe l; young = h.young; out = still l })
         (λ l. gone (subst (λ t. is_live (serving p t).state ≡ false) (sym g.table) (none_left n.connections v.i c d good.single v.there v.own l)) (over l)))
 
     -- a RST is sent if a step is one
@@ -147,7 +147,7 @@ module _ (m : AppSpec) (steady : IsSteady m) (ports : ℕ → Bool) (p : Sockets
         let is : (z : Connection) → FitConn z → IsNow (at z) = node_snapshot m steady n event v.i good.fit in
         let t = tick_reports m steady AnyLength (low_text m) c n.numbers v.safe in
         acted v None (asked m at o) false g record {
-          reported_as = stepped_reports m steady AnyLength (low_text m) at c o is (on_tick_fits m steady c n.numbers (fit_of v) good.fit.numbers) t;
+          tells = stepped_reports m steady AnyLength (low_text m) at c o is (on_tick_fits m steady c n.numbers (fit_of v) good.fit.numbers) t;
           moves = asked_moves m false c at o (tick_moves m c n.numbers);
           acks = λ e. absurd (cc);
           young = asked_young m at o (tick_young m steady AnyLength (low_text m) c n.numbers v.safe.state v.young);
@@ -167,7 +167,7 @@ module _ (m : AppSpec) (steady : IsSteady m) (ports : ℕ → Bool) (p : Sockets
         let is : (z : Connection) → FitConn z → IsNow (at z) = node_snapshot m steady n event v.i good.fit in
         let t = segment_reports m steady AnyLength (low_text m) c n.numbers s v.safe in
         acted v (Some s) (asked m at o) acked g record {
-          reported_as = stepped_reports m steady AnyLength (low_text m) at c o is (on_segment_fits m steady c n.numbers s (fit_of v) good.fit.numbers) t;
+          tells = stepped_reports m steady AnyLength (low_text m) at c o is (on_segment_fits m steady c n.numbers s (fit_of v) good.fit.numbers) t;
           moves = asked_moves m acked c at o (segment_moves m c n.numbers s);
           acks = λ e. (let a = and_true (not (has_rst s.flags)) (is_acked c s) e in
               let b = and_true (has_ack s.flags) (ltb 0 c.len && (s.ack == wrap (snd_una c + c.len))) a.1 in

@@ -98,7 +98,7 @@ module _ (m : AppSpec) (steady : IsSteady m) (ports : ℕ → Bool) (p : Sockets
 
   -- a step of a live connection
   module _ (c : Connection) (incarnation : List Exchange) (w : Windowed c incarnation) (alive : is_live c.state ≡ true) (received : Option PlainSegment) (r : Outcome)
-      (reported_as : StepReports m steady AnyLength (low_text m) c r.connection (segment_of m r.connection r.step) (is_again r.step)) (short : NewIsShort r)
+      (tells : StepReports m steady AnyLength (low_text m) c r.connection (segment_of m r.connection r.step) (is_again r.step)) (short : NewIsShort r)
       (within : (let x : Exchange = met received (segment_of m r.connection r.step) in is_open r.connection.state ≡ true → (size : ℕ) → size ≤ r.connection.mss → FitsNewest (x ∷ incarnation) size))
       (syn : (let x : Exchange = met received (segment_of m r.connection r.step) in r.connection.state ≡ SynRcvd → AtSyn (x ∷ incarnation) (wrap (snd_una r.connection + 1)))) where
     abbrev d : Connection
@@ -112,10 +112,10 @@ module _ (m : AppSpec) (steady : IsSteady m) (ports : ℕ → Bool) (p : Sockets
 
     new_fits : (s : PlainSegment) → IsNewText (x ∷ incarnation) 0 s → FitsNewest (x ∷ incarnation) (length s.text)
     new_fits s n =
-        let reported = reported_as.output s n.output (placed_text s n.some) in
+        let reported = tells.output s n.output (placed_text s n.some) in
         both_ways (is_again r.step)
         (λ e. absurd (let k = reported.repeated e in let q = v.output k.0 in
-        let iss : d.iss ≡ c.iss = (reported_as.onto reported.live).iss in
+        let iss : d.iss ≡ c.iss = (tells.onto reported.live).iss in
         n.new (suc q.place) q.segment (omega arith) q.output q.placed
         (q.seq ∙ ap wrap (let same = k.1 in let z : c.iss + c.acked ≡ d.iss + d.acked = omega (arith, same, iss) in z) ∙ sym reported.due_now.seq)))
         (λ e. (let t = text_new m d r.step s n.output n.some e in
@@ -123,10 +123,10 @@ module _ (m : AppSpec) (steady : IsSteady m) (ports : ℕ → Bool) (p : Sockets
         within (text_open m d.state d s reported.due_now.alike n.some) (length s.text) (let l = t.1 in omega (arith, l, fits))))
 
     sent_on : is_live d.state ≡ true → 0 < d.len → SentDue (x ∷ incarnation) (wrap (d.iss + d.acked))
-    sent_on l some = elim (reported_as.still l some) [
-      | inl still ↦ (let q = v.output still.some in let iss : d.iss ≡ c.iss = (reported_as.onto l).iss in let same = still.same in
+    sent_on l some = elim (tells.still l some) [
+      | inl still ↦ (let q = v.output still.some in let iss : d.iss ≡ c.iss = (tells.onto l).iss in let same = still.same in
           record { place = suc q.place; segment = q.segment; output = q.output; placed = q.placed; seq = q.seq ∙ ap wrap (let z : c.iss + c.acked ≡ d.iss + d.acked = omega (arith, same, iss) in z) })
-      | inr anew ↦ record { place = 0; segment = anew.output; output = anew.is; placed = anew.placed; seq = (reported_as.output anew.output anew.is anew.placed).due_now.seq }
+      | inr anew ↦ record { place = 0; segment = anew.output; output = anew.is; placed = anew.placed; seq = (tells.output anew.output anew.is anew.placed).due_now.seq }
     ]
 
     left_live : (e : Connection) → is_live (left_of e).state ≡ true → (is_live e.state ≡ true) × (left_of e ≡ e)
@@ -137,7 +137,7 @@ module _ (m : AppSpec) (steady : IsSteady m) (ports : ℕ → Bool) (p : Sockets
     windowed_step : Windowed (left_of d) (x ∷ incarnation)
     windowed_step = record {
       fits = fits_on x incarnation new_fits w.fits;
-      live = λ l. (let q = left_live d l in subst (λ z. LiveWindowed z (x ∷ incarnation)) (sym q.1) record { safe = reported_as.safe q.0; within = within; syn = syn; output = sent_on q.0 });
+      live = λ l. (let q = left_live d l in subst (λ z. LiveWindowed z (x ∷ incarnation)) (sym q.1) record { safe = tells.safe q.0; within = within; syn = syn; output = sent_on q.0 });
     }
 
   module _ (c : Connection) (incarnation : List Exchange) (w : Windowed c incarnation) (alive : is_live c.state ≡ true) (fit : FitConn c) (numbers : List ℕ) (words : All IsU32 numbers) (at : Connection → Now) (is : (z : Connection) → FitConn z → IsNow (at z)) where

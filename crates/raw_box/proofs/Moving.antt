@@ -1,5 +1,5 @@
 -- Functions that make, convert or open a struct of a pointer and `Global`, by their words. Assumes `Logic`.
-use Rattle.raw_box.proofs.Prelude.{◌≡◌, List, [], ◌∷◌, ◌++◌, refl, ap, Goes-blank, handle_reports, Global, ghosts}
+use Rattle.raw_box.proofs.Prelude.{◌≡◌, List, [], ◌∷◌, ◌++◌, refl, ap, Goes-blank, handle_tells, Global, ghosts}
 use lib.Dec.{T}
 use seplogic.Ra.Ura.{Ura}
 use mir.Syntax.{Fn, Callee, Sym, Body, Local, seq, assign, return, place, field, copy, int, w64, rv_opd, aggregate, local, value_local, ty_ptr}
@@ -87,7 +87,7 @@ module _ {M : Type 1} {𝓤 : Ura M} {𝓛 : Logic 𝓤} (C : Calls 𝓤 𝓛.H)
   made_of_null : (to : Sym) → ((w : Val) → Seq K 𝓛 (‵ (fields_own null_ptr a (w ∷ [])) ∷ X ∷ []) (prop (Kf w)))
       → Seq K 𝓛 (‵ (HeapRow.own_val a words) ∷ X ∷ []) (prop (WpFn 𝓤 𝓛.H C Λ (makes_null to) (words ++ []) Kf))
   made_of_null to next =
-      handle_reports (allocator HeapRow heap_laws.the_row_laws ghosts) k a words (λ h is good.
+      handle_tells (allocator HeapRow heap_laws.the_row_laws ghosts) k a words (λ h is good.
       entered k (makes_null to) h is $ alloc_all k (λ l. pass_all k refl (good, tt) $
       sets k (agg k (and_then k (lit k tt) (and_then k (get k refl) (no_more k)))) refl (pair_typed HeapRow null_ptr h good) $
       returns k (look_at k 0 refl) $ free_all k refl $

@@ -1,5 +1,5 @@
 -- The names that the proofs of this crate cite: of std, of the crates below, and of its own definitions. Declares nothing.
-pub use Rattle.core.proofs.alloc.Calls.{Al, Goes-blank, handle_reports}
+pub use Rattle.core.proofs.alloc.Calls.{Al, Goes-blank, handle_tells}
 pub use Rattle.core.proofs.alloc.Shapes.{after}
 pub use Rattle.core.proofs.atomic.Steps.{fm}
 pub use Rattle.core.proofs.cell.Inside.{Good}

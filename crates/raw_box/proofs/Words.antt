@@ -1,5 +1,5 @@
 -- The machine words of a struct of a pointer and an allocator, as `BoxParts` is. Assumes `Logic`.
-use Rattle.raw_box.proofs.Prelude.{◌≡◌, ℕ, List, [], ◌∷◌, ◌++◌, refl, sym, subst, lit<, Ghosts, Al, handle_reports, Good, box_owns, and_tt}
+use Rattle.raw_box.proofs.Prelude.{◌≡◌, ℕ, List, [], ◌∷◌, ◌++◌, refl, sym, subst, lit<, Ghosts, Al, handle_tells, Good, box_owns, and_tt}
 use mathlib.Core.Bool.{true, ◌&&◌}
 use lib.Dec.{T}
 use seplogic.Ra.Ura.{Ura}
@@ -68,7 +68,7 @@ module _ (Z : RattleType) (laws : Laws Z) (g : Ghosts Z.Denot) where
         → Seq K 𝓛 (‵ (two_fields Z p a words) ∷ Γ) G
     fields_out k p a words next =
         fpick k (λ fields. fsplit k $ feq_l k (λ whole. fsplit k $ feq_l k (λ pointer. fsplit k $
-        handle_reports allocator k a fields.1.0 (λ h handle good.
+        handle_tells allocator k a fields.1.0 (λ h handle good.
         let by_pointer = subst (λ (ps : List Val). words ≡ vstruct (of_list (ps ++ (fields.1.0 ++ []))) ∷ []) pointer whole in
         move k (1 ∷ []) $ drop k $
         next h (subst (λ (hs : List Val). words ≡ vstruct (of_list (ptr_val p ∷ (hs ++ []))) ∷ []) handle by_pointer) good))))

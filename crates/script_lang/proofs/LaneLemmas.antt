@@ -3,7 +3,7 @@ use Rattle.script_lang.proofs.Prelude.{◌≡◌, ◌&&◌, ℕ, ◌+◌, ◌≤
 use lib.Count.{count_trailing_zeros}
 use lib.Lanes.{chunk, mask_l, top, zip2}
 use mir.Syntax.{w8}
-use Rattle.script_lang.proofs.PlaceLemmas.{first_place-the_rest_after, first_place-is, same-first}
+use Rattle.script_lang.proofs.PlaceLemmas.{first_place-behind, first_place-is, same-first}
 
 -- the mask of the 32 lanes from an offset on: a bit is set if the byte is there
 abbrev pub mask_at : List ℕ → ℕ → ℕ → ℕ
@@ -46,5 +46,5 @@ pub mark-from-byte : (text : List ℕ) (a b r : ℕ) → a ≤ b → r ≡ first
     → first_place (is_directive_mark text) r b ≡ first_place (is_directive_mark text) a b
 mark-from-byte text a b r h e =
     let first = first_place-is (is_byte text 37) a b h in
-    first_place-the_rest_after (is_directive_mark text) a r b (omega (arith, first.low)) (omega (arith, first.high))
+    first_place-behind (is_directive_mark text) a r b (omega (arith, first.low)) (omega (arith, first.high))
     (λ k low below. ap (λ t. t && is_byte text 33 (k + 1)) (first.before k low (omega arith)))

@@ -82,8 +82,8 @@ history-prefix test a n b r s within some one other = elim (cases_eq r (n + 1)) 
 ]
 
 -- a prefix in which no offset passes is skipped
-pub first_place-the_rest_after : (test : ℕ → Bool) (a m b : ℕ) → a ≤ m → m ≤ b → ((k : ℕ) → a ≤ k → k < m → test k ≡ false) → first_place test m b ≡ first_place test a b
-first_place-the_rest_after test a m b low high none =
+pub first_place-behind : (test : ℕ → Bool) (a m b : ℕ) → a ≤ m → m ≤ b → ((k : ℕ) → a ≤ k → k < m → test k ≡ false) → first_place test m b ≡ first_place test a b
+first_place-behind test a m b low high none =
     let rest = first_place-is test m b high in
     same-first test a b (first_place test m b) (first_place test a b)
     (record {

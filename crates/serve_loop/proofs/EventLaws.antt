@@ -17,10 +17,10 @@ module _ {C : Type 0} (w : MediumSpec C) (own : Addr) where
   events-then pace before (Byte b ∷ xs) ys =
       let frame = map (station_event_by own) (w.decodes before b) in
       let more = beat_on w pace (length before + 1) in
-      let the_rest_after = before ++ b ∷ [] in
-      ap (λ l. frame ++ more ++ l) (events-then pace the_rest_after xs ys)
-      ∙ ap (λ l. frame ++ more ++ (station_events_after w own pace the_rest_after xs ++ station_events_after w own pace l ys)) (append_assoc before (b ∷ []) (bytes_among xs))
-      ∙ sym (append_assoc (frame ++ more) (station_events_after w own pace the_rest_after xs) (station_events_after w own pace (before ++ b ∷ bytes_among xs) ys))
+      let behind = before ++ b ∷ [] in
+      ap (λ l. frame ++ more ++ l) (events-then pace behind xs ys)
+      ∙ ap (λ l. frame ++ more ++ (station_events_after w own pace behind xs ++ station_events_after w own pace l ys)) (append_assoc before (b ∷ []) (bytes_among xs))
+      ∙ sym (append_assoc (frame ++ more) (station_events_after w own pace behind xs) (station_events_after w own pace (before ++ b ∷ bytes_among xs) ys))
   events-then pace before (Quiet ∷ xs) ys =
       ap (λ l. tick_on w ++ l) (events-then pace before xs ys)
       ∙ sym (append_assoc (tick_on w) (station_events_after w own pace before xs) (station_events_after w own pace (before ++ bytes_among xs) ys))
@@ -44,15 +44,15 @@ module _ {C : Type 0} (w : MediumSpec C) (own : Addr) where
       append-nil (map (station_event_by own) (w.decodes before b) ++ beat_on w pace (length before + 1))
       ∙ ap (λ l. map (station_event_by own) l ++ beat_on w pace (length before + 1)) (sym (append-nil (w.decodes before b)))
   events-run pace before (b ∷ c ∷ bytes) some silent =
-      let the_rest_after = before ++ b ∷ [] in
+      let behind = before ++ b ∷ [] in
       let rest = c ∷ bytes in
       let this = w.decodes before b in
-      let size : length the_rest_after ≡ length before + 1 = length-append before (b ∷ []) in
-      let quiet : IsSilent pace (length the_rest_after) (length rest) =
+      let size : length behind ≡ length before + 1 = length-append before (b ∷ []) in
+      let quiet : IsSilent pace (length behind) (length rest) =
       subst (λ (n : ℕ). IsSilent pace n (length rest)) (sym size) (silent_rest pace (length before) (length rest) (length (b ∷ rest)) (omega arith) silent) in
-      ap (λ l. (map (station_event_by own) this ++ l) ++ station_events_after w own pace the_rest_after (map Byte rest)) (silent_first pace (length before) (length (b ∷ rest)) (omega arith) silent)
-      ∙ ap (λ l. l ++ station_events_after w own pace the_rest_after (map Byte rest)) (append-nil (map (station_event_by own) this))
-      ∙ ap (λ l. map (station_event_by own) this ++ l) (events-run pace the_rest_after (c ∷ bytes) (omega arith) quiet)
-      ∙ ap (λ n. map (station_event_by own) this ++ (map (station_event_by own) (all_decoded w the_rest_after rest) ++ beat_on w pace n)) (omega (arith, size))
-      ∙ sym (append_assoc (map (station_event_by own) this) (map (station_event_by own) (all_decoded w the_rest_after rest)) (beat_on w pace (length before + length (b ∷ rest))))
-      ∙ ap (λ l. l ++ beat_on w pace (length before + length (b ∷ rest))) (sym (map-append (station_event_by own) this (all_decoded w the_rest_after rest)))
+      ap (λ l. (map (station_event_by own) this ++ l) ++ station_events_after w own pace behind (map Byte rest)) (silent_first pace (length before) (length (b ∷ rest)) (omega arith) silent)
+      ∙ ap (λ l. l ++ station_events_after w own pace behind (map Byte rest)) (append-nil (map (station_event_by own) this))
+      ∙ ap (λ l. map (station_event_by own) this ++ l) (events-run pace behind (c ∷ bytes) (omega arith) quiet)
+      ∙ ap (λ n. map (station_event_by own) this ++ (map (station_event_by own) (all_decoded w behind rest) ++ beat_on w pace n)) (omega (arith, size))
+      ∙ sym (append_assoc (map (station_event_by own) this) (map (station_event_by own) (all_decoded w behind rest)) (beat_on w pace (length before + length (b ∷ rest))))
+      ∙ ap (λ l. l ++ beat_on w pace (length before + length (b ∷ rest))) (sym (map-append (station_event_by own) this (all_decoded w behind rest)))

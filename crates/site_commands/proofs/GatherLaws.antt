@@ -9,19 +9,19 @@ abbrev pub entry_of : NamedContent → List ℕ → HeldFile
 entry_of named content = record { name = named.name; content = content }
 
 -- the list with entries before it
-abbrev pub the_rest_after : List HeldFile → ReadList → ReadList
-the_rest_after before list = list >>= λ entries. Ok (before ++ entries)
+abbrev pub behind : List HeldFile → ReadList → ReadList
+behind before list = list >>= λ entries. Ok (before ++ entries)
 
-the_rest_after-none : (o : Option ReadList) → o ≡ option_map (the_rest_after []) o
-the_rest_after-none None = refl
-the_rest_after-none (Some (Ok list)) = refl
-the_rest_after-none (Some (Err e)) = refl
+behind-none : (o : Option ReadList) → o ≡ option_map (behind []) o
+behind-none None = refl
+behind-none (Some (Ok list)) = refl
+behind-none (Some (Err e)) = refl
 
-the_rest_after-more : (before : List HeldFile) (entry : HeldFile) (o : Option ReadList)
-    → option_map (the_rest_after before) (option_map (with_first entry) o) ≡ option_map (the_rest_after (before ++ entry ∷ [])) o
-the_rest_after-more before entry None = refl
-the_rest_after-more before entry (Some (Ok list)) = ap (λ l. let r : Option ReadList = Some (Ok l) in r) (sym (append_assoc before (entry ∷ []) list))
-the_rest_after-more before entry (Some (Err e)) = refl
+behind-more : (before : List HeldFile) (entry : HeldFile) (o : Option ReadList)
+    → option_map (behind before) (option_map (with_first entry) o) ≡ option_map (behind (before ++ entry ∷ [])) o
+behind-more before entry None = refl
+behind-more before entry (Some (Ok list)) = ap (λ l. let r : Option ReadList = Some (Ok l) in r) (sym (append_assoc before (entry ∷ []) list))
+behind-more before entry (Some (Err e)) = refl
 
 -- what the first of the named files gives
 rest_of : Files → ℕ → NamedContent → List NamedContent → List ℕ → Option ReadList
@@ -60,7 +60,7 @@ held_content (Some content) P holds = (content, refl, holds)
 -- what was read so far, with this room left
 abbrev pub SoFar : Option Files → List NamedContent → ℕ → ℕ → List HeldFile → Type 0
 SoFar None named i room list = ⊤
-SoFar (Some files) named i room list = list_of named files ≡ option_map (the_rest_after list) (gathered files room (drop i named))
+SoFar (Some files) named i room list = list_of named files ≡ option_map (behind list) (gathered files room (drop i named))
 
 pub record Gathering (named : List NamedContent) (i room : ℕ) (list : List HeldFile) (start now : Option Files) (before faults : ℕ) : Type 0 where
   pub held : now ≡ start
@@ -70,7 +70,7 @@ pub record Gathering (named : List NamedContent) (i room : ℕ) (list : List Hel
 
 so_far-none : (held : Option Files) (named : List NamedContent) → SoFar held named 0 LONGEST_IMAGE []
 so_far-none None named = tt
-so_far-none (Some files) named = the_rest_after-none (gathered files LONGEST_IMAGE named)
+so_far-none (Some files) named = behind-none (gathered files LONGEST_IMAGE named)
 
 pub gathering-none : (named : List NamedContent) (held : Option Files) (faults room : ℕ) → room ≡ LONGEST_IMAGE → Gathering named 0 room [] held held faults faults
 gathering-none named held faults room e = record {
@@ -95,10 +95,10 @@ so_far-more (Some files) named i room left list new n lt is holds so_far =
     let was : WasRead n room left list new content = found.2 in
     let rest : List NamedContent = drop (i + 1) named in
     so_far
-    ∙ ap (option_map (the_rest_after list)) (next_is files named i room n lt is ∙ fits files room n rest content found.1 was.fits)
-    ∙ the_rest_after-more list (entry_of n content) (gathered files (room - length content) rest)
-    ∙ ap (λ k. option_map (the_rest_after (list ++ entry_of n content ∷ [])) (gathered files k rest)) (sym was.left_is)
-    ∙ ap (λ l. option_map (the_rest_after l) (gathered files left rest)) (sym was.entry)
+    ∙ ap (option_map (behind list)) (next_is files named i room n lt is ∙ fits files room n rest content found.1 was.fits)
+    ∙ behind-more list (entry_of n content) (gathered files (room - length content) rest)
+    ∙ ap (λ k. option_map (behind (list ++ entry_of n content ∷ [])) (gathered files k rest)) (sym was.left_is)
+    ∙ ap (λ l. option_map (behind l) (gathered files left rest)) (sym was.entry)
 
 pub gathering-more : (named : List NamedContent) (i room left : ℕ) (list new : List HeldFile) (start now next : Option Files) (before faults raised : ℕ) (n : NamedContent)
     → i < length named → n ≡ get_or named i n → Gathering named i room list start now before faults
@@ -121,7 +121,7 @@ nothing files room = refl
 all_read : (held : Option Files) (named : List NamedContent) (i room : ℕ) (list : List HeldFile) → length named ≤ i → SoFar held named i room list → FindsInFiles (list_of named) held (Ok list)
 all_read None named i room list end so_far = tt
 all_read (Some files) named i room list end so_far =
-    so_far ∙ ap (option_map (the_rest_after list)) (at_drop_all (gathered files room) named i end ∙ nothing files room)
+    so_far ∙ ap (option_map (behind list)) (at_drop_all (gathered files room) named i end ∙ nothing files room)
     ∙ ap (λ l. let r : Option ReadList = Some (Ok l) in r) (append-nil list)
 
 pub gathered-all : {X : Type 0} (view : X → List HeldFile) (x : X) (named : List NamedContent) (i room : ℕ) (start now : Option Files) (before faults : ℕ) → length named ≤ i
@@ -133,14 +133,14 @@ lacks_one : (held : Option Files) (named : List NamedContent) (i room : ℕ) (li
     → IsMissing held n.file → SoFar held named i room list → LacksFile (list_of named) held
 lacks_one None named i room list n lt is missing so_far = missing
 lacks_one (Some files) named i room list n lt is missing so_far =
-    so_far ∙ ap (option_map (the_rest_after list)) (next_is files named i room n lt is ∙ lacks files room n (drop (i + 1) named) missing)
+    so_far ∙ ap (option_map (behind list)) (next_is files named i room n lt is ∙ lacks files room n (drop (i + 1) named) missing)
 
 no_room : (held : Option Files) (named : List NamedContent) (i room : ℕ) (list : List HeldFile) (n : NamedContent) (error : SiteError) → i < length named → n ≡ get_or named i n
     → error ≡ fault TooLong 0 → HoldsFile held n.file (λ content. room < length content) → SoFar held named i room list → FindsInFiles (list_of named) held (Err error)
 no_room None named i room list n error lt is e holds so_far = tt
 no_room (Some files) named i room list n error lt is e holds so_far =
     let found = held_content (files n.file) (λ content. room < length content) holds in
-    so_far ∙ ap (option_map (the_rest_after list)) (next_is files named i room n lt is ∙ overflows files room n (drop (i + 1) named) found.0 found.1 found.2)
+    so_far ∙ ap (option_map (behind list)) (next_is files named i room n lt is ∙ overflows files room n (drop (i + 1) named) found.0 found.1 found.2)
     ∙ ap (λ x. let r : Option ReadList = Some (Err x) in r) (sym e)
 
 pub gathering-stops : {X : Type 0} (view : X → List HeldFile) (named : List NamedContent) (i room : ℕ) (list : List HeldFile) (start now : Option Files) (before faults raised : ℕ)

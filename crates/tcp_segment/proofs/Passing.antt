@@ -13,6 +13,6 @@ otherwise false x y e = refl
 pub next_option : (options : List ℕ) (count : ℕ) → 0 < length options → is_mss (slice_index options 0) (drop 1 options) ≡ false
     → trailing_bytes (slice_index options 0) (drop 1 options) ≡ Some count
     → mss_in (drop count (drop 1 options)) ≡ mss_in options
-next_option [] count some other the_rest_after = absurd (omega arith)
-next_option (kind ∷ rest) count some other the_rest_after =
-    sym (otherwise _ _ _ other ∙ ap (λ o. option_and_then (λ n. mss_after n rest) o) the_rest_after ∙ skip_drop count rest)
+next_option [] count some other behind = absurd (omega arith)
+next_option (kind ∷ rest) count some other behind =
+    sym (otherwise _ _ _ other ∙ ap (λ o. option_and_then (λ n. mss_after n rest) o) behind ∙ skip_drop count rest)

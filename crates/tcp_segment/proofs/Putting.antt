@@ -150,7 +150,7 @@ option_put out area with_mss new mss long some empty w e =
     let part : slice_range with_mss 40 44 ≡ option =
     ap (λ l. take 4 (drop 40 l)) (w ∙ append_assoc (take 40 area) option rest)
     ∙ ap (λ l. take 4 l) (drop_at (take 40 area) (option ++ rest) 40 prefix) in
-    let the_rest_after : drop 44 with_mss ≡ rest = ap (λ l. drop 44 l) w ∙ drop_at (take 40 area ++ option) rest 44 both in
-    e ∙ ap (λ l. around out l ++ drop 44 with_mss) part ∙ ap (λ l. around out option ++ l) the_rest_after
+    let behind : drop 44 with_mss ≡ rest = ap (λ l. drop 44 l) w ∙ drop_at (take 40 area ++ option) rest 44 both in
+    e ∙ ap (λ l. around out l ++ drop 44 with_mss) part ∙ ap (λ l. around out option ++ l) behind
     ∙ ap (λ l. l ++ rest) (one_option out mss some)
     ∙ ap (λ (n : ℕ). datagram_bytes (datagram_of out (slice_range area 40 (40 + n))) ++ rest) (sym empty)

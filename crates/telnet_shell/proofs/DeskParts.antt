@@ -52,8 +52,8 @@ shell_moves d a b site f is keeps moves p s =
 -- what the connection in a desk answers is what the desk does
 pub web_reports : {X : Type 0} (d : Desk) (a : Httpd) (site : SiteContent) (x : X) (f : AppSpec → AppState → X) → d ≡ desk.Web a
     → ((p : AppState) → HttpdRepresents a site p → x ≡ f (web_spec (files_of site)) p) → (p : AppState) → DeskRepresents d site p → x ≡ f (app_spec_at (files_of site) p.port) p
-web_reports d a site x f is reported_as p s = by_web (λ (m : AppSpec). x ≡ f m p) d a site p is s (λ at. reported_as p at.represented)
+web_reports d a site x f is tells p s = by_web (λ (m : AppSpec). x ≡ f m p) d a site p is s (λ at. tells p at.represented)
 
 pub shell_reports : {X : Type 0} (d : Desk) (a : Shell) (site : SiteContent) (x : X) (f : AppSpec → AppState → X) → d ≡ desk.Shell a
     → ((p : AppState) → ShellRepresents a p → x ≡ f shell_spec p) → (p : AppState) → DeskRepresents d site p → x ≡ f (app_spec_at (files_of site) p.port) p
-shell_reports d a site x f is reported_as p s = by_shell (λ (m : AppSpec). x ≡ f m p) d a site p is s (λ at. reported_as p at.represented)
+shell_reports d a site x f is tells p s = by_shell (λ (m : AppSpec). x ≡ f m p) d a site p is s (λ at. tells p at.represented)

@@ -34,13 +34,13 @@ none_in_nothing order captured more is e = let size = prefix_size order [] captu
 none_in_part : (order : ByteOrder) (rest : List ℕ) → IsCutRecord order rest → HasNone order rest
 none_in_part order rest part captured more is e =
     let size = prefix_size order rest captured more is e in
-    let reported_as = prefix_long order rest captured more is e in
+    let tells = prefix_long order rest captured more is e in
     let short = part.short (omega arith) in
     absurd (omega arith)
 
 none_in_long : (order : ByteOrder) (rest : List ℕ) → HasLongRecord order rest → HasNone order rest
 none_in_long order rest long captured more is e =
-    let reported_as = prefix_long order rest captured more is e in
+    let tells = prefix_long order rest captured more is e in
     let fits = is.fits in
     let more_than = long.long in
     absurd (omega arith)

@@ -41,10 +41,10 @@ pub seen-then : (before : List ℕ) (silences : ℕ) (xs ys : List Item)
 seen-then before silences [] ys = ap (λ l. seen_after l silences ys) (sym (append-nil before)) ∙ ap (λ n. seen_after (before ++ []) n ys) (omega arith)
 seen-then before silences (Byte b ∷ xs) ys =
     let here = map (seen_at silences) (completed before b) in
-    let the_rest_after = before ++ b ∷ [] in
-    ap (λ l. here ++ l) (seen-then the_rest_after silences xs ys)
-    ∙ ap (λ l. here ++ (seen_after the_rest_after silences xs ++ seen_after l (silences + silences_of xs) ys)) (append_assoc before (b ∷ []) (bytes_among xs))
-    ∙ sym (append_assoc here (seen_after the_rest_after silences xs) (seen_after (before ++ b ∷ bytes_among xs) (silences + silences_of xs) ys))
+    let behind = before ++ b ∷ [] in
+    ap (λ l. here ++ l) (seen-then behind silences xs ys)
+    ∙ ap (λ l. here ++ (seen_after behind silences xs ++ seen_after l (silences + silences_of xs) ys)) (append_assoc before (b ∷ []) (bytes_among xs))
+    ∙ sym (append_assoc here (seen_after behind silences xs) (seen_after (before ++ b ∷ bytes_among xs) (silences + silences_of xs) ys))
 seen-then before silences (Quiet ∷ xs) ys =
     seen-then before (silences + 1) xs ys
     ∙ ap (λ n. seen_after before (silences + 1) xs ++ seen_after (before ++ bytes_among xs) n ys) (omega arith)

@@ -6,10 +6,10 @@ pub events-append : (before : List ℕ) (xs ys : List Item)
     → received_after before (xs ++ ys) ≡ received_after before xs ++ received_after (before ++ bytes_among xs) ys
 events-append before [] ys = ap (λ l. received_after l ys) (sym (append-nil before))
 events-append before (Byte b ∷ xs) ys =
-    let the_rest_after = before ++ b ∷ [] in
-    ap (λ l. flat_map by_frame (completed before b) ++ l) (events-append the_rest_after xs ys)
-    ∙ ap (λ l. flat_map by_frame (completed before b) ++ (received_after the_rest_after xs ++ received_after l ys)) (append_assoc before (b ∷ []) (bytes_among xs))
-    ∙ sym (append_assoc (flat_map by_frame (completed before b)) (received_after the_rest_after xs) (received_after (before ++ b ∷ bytes_among xs) ys))
+    let behind = before ++ b ∷ [] in
+    ap (λ l. flat_map by_frame (completed before b) ++ l) (events-append behind xs ys)
+    ∙ ap (λ l. flat_map by_frame (completed before b) ++ (received_after behind xs ++ received_after l ys)) (append_assoc before (b ∷ []) (bytes_among xs))
+    ∙ sym (append_assoc (flat_map by_frame (completed before b)) (received_after behind xs) (received_after (before ++ b ∷ bytes_among xs) ys))
 events-append before (Quiet ∷ xs) ys = ap (λ l. Silence ∷ l) (events-append before xs ys)
 
 pub events_byte : (items : List Item) (b : ℕ) → events (items ++ Byte b ∷ []) ≡ events items ++ flat_map by_frame (completed (bytes_among items) b)

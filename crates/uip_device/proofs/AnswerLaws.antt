@@ -89,13 +89,13 @@ module _ {A S : Type 0} (g : Ghosts A S) where
         let b = more.0 in
         let v = goes_by_datagram it.move in
         let first : MovesOn before it.move a b it.handed n = moves_on before it.move a b it.handed n represented delivered more.1 in
-        let the_rest_after = before ++ bytes_of_move it.move in
+        let behind = before ++ bytes_of_move it.move in
         let here : AbstractNode = (run_move m g.served gives own before it.move n).node in
         let replies = (run_move m g.served gives own before it.move n).sent in
-        let rest = goes the_rest_after all b c here first.represented first.input more.2 in
+        let rest = goes behind all b c here first.represented first.input more.2 in
         record {
-          line = line_step v own replies (left_text_of a) it.handed (left_text_of b) (line_sent m g.served gives own the_rest_after (moves_of all) here) (line_handed all) (left_text_of c) first.hands rest.line;
-          datagrams = datagram_step v own replies (left_text_of a) it.handed (left_text_of b) (datagrams_handed all) (datagrams_sent m g.served gives own the_rest_after (moves_of all) here) first.hands rest.datagrams;
+          line = line_step v own replies (left_text_of a) it.handed (left_text_of b) (line_sent m g.served gives own behind (moves_of all) here) (line_handed all) (left_text_of c) first.hands rest.line;
+          datagrams = datagram_step v own replies (left_text_of a) it.handed (left_text_of b) (datagrams_handed all) (datagrams_sent m g.served gives own behind (moves_of all) here) first.hands rest.datagrams;
           represented = rest.represented;
           kept = rest.kept ∙ first.kept;
         }

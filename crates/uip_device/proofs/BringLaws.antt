@@ -35,12 +35,12 @@ module _ (own : Addr) where
   bytes_bring : (pace : ℕ) (before bytes : List ℕ) → All IsByte before → All IsByte bytes → AllOf (events_after own pace before (map Byte bytes))
   bytes_bring pace before [] h are = All-nil (IsOfLine own)
   bytes_bring pace before (b ∷ bytes) h are =
-      let the_rest_after : List ℕ = before ++ b ∷ [] in
+      let behind : List ℕ = before ++ b ∷ [] in
       let frame : List Event = map (event_by own) (completed before b) in
       let due : List Event = beat pace (length before + 1) in
-      All-append (IsOfLine own) (frame ++ due) (events_after own pace the_rest_after (map Byte bytes))
+      All-append (IsOfLine own) (frame ++ due) (events_after own pace behind (map Byte bytes))
       (All-append (IsOfLine own) frame due (frames_bring (completed before b) (slip_brings_bytes before b h (All-head IsByte b bytes are))) (beat_brings pace (length before + 1)))
-      (bytes_bring pace the_rest_after bytes (All-append IsByte before (b ∷ []) h (All-cons IsByte b [] (All-head IsByte b bytes are) (All-nil IsByte))) (All-tail IsByte b bytes are))
+      (bytes_bring pace behind bytes (All-append IsByte before (b ∷ []) h (All-cons IsByte b [] (All-head IsByte b bytes are) (All-nil IsByte))) (All-tail IsByte b bytes are))
 
   one_brings : (event : Event) → IsOfLine own event → AllOf (event ∷ [])
   one_brings event is = All-cons (IsOfLine own) event [] is (All-nil (IsOfLine own))
@@ -70,10 +70,10 @@ module _ (own : Addr) where
   steps_after gives words before [] h are = All-nil (IsStep own)
   steps_after gives words before (move ∷ moves) h are =
       let is : IsOfBytes move = All-head IsOfBytes move moves are in
-      let the_rest_after : List ℕ = before ++ bytes_of_move move in
-      All-append (IsStep own) (steps_of_move gives before move) (steps_of gives the_rest_after moves)
+      let behind : List ℕ = before ++ bytes_of_move move in
+      All-append (IsStep own) (steps_of_move gives before move) (steps_of gives behind moves)
       (move_steps gives words before move is h)
-      (steps_after gives words the_rest_after moves (All-append IsByte before (bytes_of_move move) h (bytes_low move is)) (All-tail IsOfBytes move moves are))
+      (steps_after gives words behind moves (All-append IsByte before (bytes_of_move move) h (bytes_low move is)) (All-tail IsOfBytes move moves are))
 
   pub steps_are : (gives : Writing) → KeepsU32 gives → (moves : List Move) → All IsOfBytes moves → All (IsStep own) (steps_of gives [] moves)
   steps_are gives words moves are = steps_after gives words [] moves (All-nil IsByte) are

@@ -7,11 +7,11 @@ module _ (own : Addr) where
       → events_of_calls before (map (λ b. Feeds (b ∷ [])) bytes ++ calls) own ≡ events_after own 0 before (map Byte bytes) ++ events_of_calls (before ++ bytes) calls own
   bytes_events before [] calls = ap (λ l. events_of_calls l calls own) (sym (append-nil before))
   bytes_events before (b ∷ bytes) calls =
-      let the_rest_after = before ++ b ∷ [] in
+      let behind = before ++ b ∷ [] in
       let this = map (event_by own) (completed before b) ++ beat 0 (length before + 1) in
-      let rest = events_after own 0 the_rest_after (map Byte bytes) in
-      ap (λ l. l ++ events_of_calls the_rest_after (map (λ c. Feeds (c ∷ [])) bytes ++ calls) own) (append-nil this)
-      ∙ ap (λ l. this ++ l) (bytes_events the_rest_after bytes calls)
+      let rest = events_after own 0 behind (map Byte bytes) in
+      ap (λ l. l ++ events_of_calls behind (map (λ c. Feeds (c ∷ [])) bytes ++ calls) own) (append-nil this)
+      ∙ ap (λ l. this ++ l) (bytes_events behind bytes calls)
       ∙ ap (λ l. this ++ (rest ++ events_of_calls l calls own)) (append_assoc before (b ∷ []) bytes)
       ∙ sym (append_assoc this rest (events_of_calls (before ++ b ∷ bytes) calls own))
 
@@ -46,15 +46,15 @@ module _ (own : Addr) where
       → events_of_calls before (calls_after pace count items) own ≡ events_after own pace before items
   item_events pace count before [] same = refl
   item_events pace count before (Byte b ∷ items) same =
-      let the_rest_after = before ++ b ∷ [] in
+      let behind = before ++ b ∷ [] in
       let reported = map (event_by own) (completed before b) in
       let later = calls_after pace (count + 1) items in
-      let size : count + 1 ≡ length the_rest_after = omega (arith, same, length-append before (b ∷ [])) in
-      ap (λ l. l ++ events_of_calls the_rest_after ((if is_beat pace (count + 1) then tick_calls else []) ++ later) own) (append-nil (reported ++ []) ∙ append-nil reported)
-      ∙ ap (λ l. reported ++ l) (beat_events the_rest_after (is_beat pace (count + 1)) later)
-      ∙ ap (λ l. reported ++ ((if is_beat pace (count + 1) then tick else []) ++ l)) (item_events pace (count + 1) the_rest_after items size)
-      ∙ ap (λ n. reported ++ (beat pace (n + 1) ++ events_after own pace the_rest_after items)) same
-      ∙ sym (append_assoc reported (beat pace (length before + 1)) (events_after own pace the_rest_after items))
+      let size : count + 1 ≡ length behind = omega (arith, same, length-append before (b ∷ [])) in
+      ap (λ l. l ++ events_of_calls behind ((if is_beat pace (count + 1) then tick_calls else []) ++ later) own) (append-nil (reported ++ []) ∙ append-nil reported)
+      ∙ ap (λ l. reported ++ l) (beat_events behind (is_beat pace (count + 1)) later)
+      ∙ ap (λ l. reported ++ ((if is_beat pace (count + 1) then tick else []) ++ l)) (item_events pace (count + 1) behind items size)
+      ∙ ap (λ n. reported ++ (beat pace (n + 1) ++ events_after own pace behind items)) same
+      ∙ sym (append_assoc reported (beat pace (length before + 1)) (events_after own pace behind items))
   item_events pace count before (Quiet ∷ items) same =
       tick_events before (calls_after pace count items) ∙ ap (λ l. tick ++ l) (item_events pace count before items same)
 
@@ -100,12 +100,12 @@ sent_on_line : (m : AppSpec) (served : ℕ → Bool) (gives : Writing) (own : Ad
 sent_on_line m served gives own before [] n on = refl
 sent_on_line m served gives own before (call ∷ calls) n on =
     let events = events_by before call own in
-    let the_rest_after = before ++ bytes_of_call call in
+    let behind = before ++ bytes_of_call call in
     let here : AbstractNode = (run m served events n).node in
     let text = text_of own (run m served events n).sent in
-    ap (λ v. (if v then [] else text) ++ line_sent m served gives own the_rest_after (map Makes calls) here) on.0
-    ∙ ap (λ l. text ++ l) (sent_on_line m served gives own the_rest_after calls here on.1)
-    ∙ sym (run-text-append m served own events (events_of_calls the_rest_after calls own) n)
+    ap (λ v. (if v then [] else text) ++ line_sent m served gives own behind (map Makes calls) here) on.0
+    ∙ ap (λ l. text ++ l) (sent_on_line m served gives own behind calls here on.1)
+    ∙ sym (run-text-append m served own events (events_of_calls behind calls own) n)
 
 -- and so it is what is sent over the events of a line whose items they bring
 pub line_text : (m : AppSpec) (served : ℕ → Bool) (gives : Writing) (own : Addr) (pace : ℕ) (items : List Item) (moves : List Move) (n : AbstractNode) → Bring pace items moves

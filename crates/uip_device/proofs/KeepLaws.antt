@@ -39,14 +39,14 @@ module _ {A S : Type 0} (g : Ghosts A S) where
         let b : Device A S = more.0 in
         let first : MovesOn g m own gives before it.move a b it.handed n = moves_on g m own gives before it.move a b it.handed n represented delivered more.1 in
         let these : List TraceEntry = turns_by before it.move n in
-        let the_rest_after : List ℕ = before ++ bytes_of_move it.move in
-        let rest = in_turns the_rest_after all b c (run_move m g.served gives own before it.move n).node first.represented first.input more.2 in
+        let behind : List ℕ = before ++ bytes_of_move it.move in
+        let rest = in_turns behind all b c (run_move m g.served gives own before it.move n).node first.represented first.input more.2 in
         record {
           moves = record { answered = it; left = left_text_of b; turns = these } ∷ rest.moves;
           answered = ap (λ l. it ∷ l) rest.answered;
           left = ap (λ l. left_text_of b ∷ l) rest.left;
           each = (hands_out_sent before it a b n first, rest.each);
-          turns = ap (λ l. these ++ l) rest.turns ∙ move_turns before it.move (steps_of own gives the_rest_after (moves_of all)) n;
+          turns = ap (λ l. these ++ l) rest.turns ∙ move_turns before it.move (steps_of own gives behind (moves_of all)) n;
         }
 
   module _ (m : AppSpec) (pages : Pages) (lawful : IsPaged m pages) (page : HasBytes pages) (gives : Writing) (low : KeepsU32 gives) (numbers : List ℕ) (words : All IsU32 numbers) (own : Addr) (is : IsAddr own) where

@@ -27,8 +27,8 @@ row_words text short bytes =
 given_words : (number : ℕ) (text own : List ℕ) → length text ≤ 32 → All IsByte text → All IsU32 own → All IsU32 (value_given number text own)
 given_words number text own short bytes words =
     let row : List ℕ = length text ∷ (text ++ replicate (32 - length text) 0) in
-    let the_rest_after : List ℕ = drop (33 * number + 33) own in
-    All-append IsU32 (take (33 * number) own ++ row) the_rest_after
+    let behind : List ℕ = drop (33 * number + 33) own in
+    All-append IsU32 (take (33 * number) own ++ row) behind
     (All-append IsU32 (take (33 * number) own) row (All-take IsU32 (33 * number) own words) (row_words text short bytes))
     (All-drop IsU32 (33 * number + 33) own words)
 

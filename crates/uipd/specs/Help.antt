@@ -26,7 +26,7 @@ help_text =
     ++ codes "  uipd --version                                     write the version\n"
     ++ codes "\n"
     ++ codes "SITE is the file of an image, or - for a site without files. ADDR is the address of the node.\n"
-    ++ codes "pace K: each K-th byte is a tick; tty: so is a read of nothing; items N: stop the_rest_after N of both.\n"
+    ++ codes "pace K: each K-th byte is a tick; tty: so is a read of nothing; items N: stop behind N of both.\n"
     ++ codes "\n"
     ++ codes "Exit status: 0 done, 1 no such words, 2 a file failed, 3 the line failed, 4 the output failed,\n"
     ++ codes "5 N items were taken, 6 a bad image, 7 a bad schedule, 8 out of memory, 9 a bad capture file.\n"

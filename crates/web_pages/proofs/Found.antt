@@ -7,12 +7,12 @@ pub record IsThere (files : List File) (name : List ℕ) (file : File) : Type 0 
   pub at : slice_get files place ≡ Some file
   pub named : file.name ≡ name
 
-the_rest_after : (one : File) (files : List File) (name : List ℕ) (file : File) → IsThere files name file → IsThere (one ∷ files) name file
-the_rest_after one files name file is = record { place = suc is.place; at = is.at; named = is.named }
+behind : (one : File) (files : List File) (name : List ℕ) (file : File) → IsThere files name file → IsThere (one ∷ files) name file
+behind one files name file is = record { place = suc is.place; at = is.at; named = is.named }
 
 pub found_there : (files : List File) (name : List ℕ) (file : File) → file_named files name ≡ Some file → IsThere files name file
 found_there [] name file e = absurd cc
-found_there (one ∷ files) name file e = by_test (bytes_eq one.name name) refl e (λ h. the_rest_after one files name file (found_there files name file h))
+found_there (one ∷ files) name file e = by_test (bytes_eq one.name name) refl e (λ h. behind one files name file (found_there files name file h))
   where
     by_test : (b : Bool) → bytes_eq one.name name ≡ b → (if b then Some one else file_named files name) ≡ Some file
         → (file_named files name ≡ Some file → IsThere (one ∷ files) name file) → IsThere (one ∷ files) name file

@@ -6,7 +6,7 @@ pub returns : goal.returns
 returns c =
     let text : List ℕ = c.args.text.now in
     let n : ℕ = length text in
-    let the_rest_after : List ℕ = post_of 1 (n + 1 - 1) (n ∷ replicate 32 0) in
+    let behind : List ℕ = post_of 1 (n + 1 - 1) (n ∷ replicate 32 0) in
     let same : n + 1 - 1 ≡ n = omega arith in
-    ap (λ (l : List ℕ). n ∷ (l ++ the_rest_after)) c.copy_from_slice.ensures.after
+    ap (λ (l : List ℕ). n ∷ (l ++ behind)) c.copy_from_slice.ensures.after
     ∙ ap (λ (l : List ℕ). n ∷ (text ++ l)) (ap (λ k. drop k (replicate 32 0)) same ∙ drop-replicate n 32 0)

@@ -1,5 +1,5 @@
 use Rattle.script_lang.proofs.Prelude.{◌≤◌, ◌∙◌, ◌+◌, arith, is_byte}
-use Rattle.script_lang.proofs.PlaceLemmas.{first_place-the_rest_after, first_place-prefix, first_place-is}
+use Rattle.script_lang.proofs.PlaceLemmas.{first_place-behind, first_place-prefix, first_place-is}
 use Rattle.script_lang.proofs.search.byte_from.Goals as goal
 
 pub returns-then-place-at-clause-place : goal.returns-then-place-at-clause-place
@@ -21,7 +21,7 @@ loop-at-preserved c =
     let room : c.loop-at.at + 32 ≤ c.args.to = omega (arith, c.loop-at-test.true) in (
       omega (arith, c.loop-at.invariant.0),
       room,
-      first_place-the_rest_after (is_byte c.args.text.now c.args.byte) c.loop-at.at (c.loop-at.at + 32) c.args.to (omega arith) room
+      first_place-behind (is_byte c.args.text.now c.args.byte) c.loop-at.at (c.loop-at.at + 32) c.args.to (omega arith) room
           (λ k low below. lanes.before k low (omega (arith, below, c.byte_in_lanes-place.ensures, c.if-place-at.false)))
           ∙ c.loop-at.invariant.2,
     )

@@ -1,6 +1,6 @@
 -- `from_box` by hand, since it makes a struct that owns memory: the call of `into_raw_with_allocator` gives the pointer and
 -- the allocator with what the box owned, and the parts are made of these.
-use Rattle.raw_box.proofs.Prelude.{◌≡◌, [], ◌∷◌, ◌++◌, refl, ap, ◌∙◌, Goes-blank, handle_reports, fm, box_owns, box_out, box_in, proved_at, leaves}
+use Rattle.raw_box.proofs.Prelude.{◌≡◌, [], ◌∷◌, ◌++◌, refl, ap, ◌∙◌, Goes-blank, handle_tells, fm, box_owns, box_out, box_in, proved_at, leaves}
 use mir.Syntax.{a_type, dcons, dnil}
 use mir.Raw.{raw as bare}
 use mir.Val.{Val, vptr, vstruct, of_list}
@@ -70,7 +70,7 @@ from_box_spec 𝓤 𝓛 𝓜 𝓡 wired T A L LA g d dx dd allocator glue glued 
     await ! tt $ pick ! (λ r. split ! $ move ! (1 ∷ []) $ pick ! (λ _. split3 ! $ drop ! $ heard ! (r.1 ≡ a) (λ same.
     in_a_block ! r.0 (λ p. box_owns (g.dealloc_token a) R p v.value) (fst∗ 𝓤 (never 𝓤) (sem 𝓛 (g.dealloc_token a (bare (layout T)) null_ptr))) (λ b' o' at'.
     move ! (1 ∷ []) $ split ! $ move ! (1 ∷ []) $ fpick ! (λ fields. fsplit ! $ feq_l ! (λ pair. fsplit ! $ feq_l ! (λ pointer. fsplit ! $
-    rewrite ! 0 (λ (s : A.Denot). ‵ (A.own_val s fields.1.0)) same refl $ handle_reports E.al ! a fields.1.0 (λ h' handle good'.
+    rewrite ! 0 (λ (s : A.Denot). ‵ (A.own_val s fields.1.0)) same refl $ handle_tells E.al ! a fields.1.0 (λ h' handle good'.
     let made = pair_typed Z (block_ptr b' o') h' good' in
     let lands = ap only (pair ∙ (λ j. vstruct (of_list ((pointer ∙ ap (λ (p : Ptr). ptr_val p ∷ []) at') j ++ (handle j ++ []))) ∷ [])) in
     lands_as ! lands refl made $

@@ -1,7 +1,7 @@
 -- What is left of a run is the run that begins later.
 use Rattle.std.proofs.Common.{arith, ◌-◌, drop}
 use Rattle.std.proofs.lemmas.List.{length-take}
-use Rattle.protothread.proofs.run.RunSends.advance.Goals as goal
+use Rattle.protothread.proofs.run.RunSays.advance.Goals as goal
 use Rattle.protothread.proofs.Splits.{run_rest}
 
 pub returns-clause-rest : goal.returns-clause-rest
