@@ -36,9 +36,7 @@ fn event_by(rest: u32, client: u8) -> Event
 fn push(events: &mut Vec<Event>, event: Event) -> Result<(), NoMemory>
     ensures { OnOk result (events.new.items ≡ events.old.items ++ event ∷ []) }
 {
-    if events.push(event).is_err() {
-        return Err(NoMemory);
-    }
+    events.push(event)?;
     Ok(())
 }
 
@@ -86,9 +84,7 @@ fn client_by(clients: u8, word: u32) -> u8
 pub(crate) fn push_rounds(events: &mut Vec<Event>) -> Result<(), NoMemory>
     ensures { OnOk result (events.new.items ≡ events.old.items ++ replicate 40 RoundEvent) }
 {
-    if events.extend_from_slice(&[Event::Round; 40]).is_err() {
-        return Err(NoMemory);
-    }
+    events.extend_from_slice(&[Event::Round; 40])?;
     Ok(())
 }
 
@@ -109,9 +105,7 @@ pub(crate) fn lines_from(alloc: Global, first: u32, events: &[Event]) -> Result<
 {
     let mut lines = Vec::new(alloc);
     for (place, event) in events.iter().enumerate() {
-        if lines.push(line_at(first + place as u32, event)).is_err() {
-            return Err(NoMemory);
-        }
+        lines.push(line_at(first + place as u32, event))?;
     }
     Ok(lines)
 }

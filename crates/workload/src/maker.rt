@@ -34,9 +34,7 @@ fn clients_of(alloc: Global, clients: u8) -> Result<Vec<ClientPlan>, NoMemory>
     let mut plans = Vec::new(alloc);
     for place in 0..clients {
         let plan = client_of(alloc, place + 1)?;
-        if plans.push(plan).is_err() {
-            return Err(NoMemory);
-        }
+        plans.push(plan)?;
     }
     Ok(plans)
 }
@@ -47,9 +45,7 @@ fn client_of(alloc: Global, number: u8) -> Result<ClientPlan, NoMemory>
     ensures { IfOk result (λ plan. plan ≡ client_meant number) }
 {
     let odd = number % 2 == 1;
-    let Ok(request) = Vec::from_slice(alloc, request_by(odd)) else {
-        return Err(NoMemory);
-    };
+    let request = Vec::from_slice(alloc, request_by(odd))?;
     Ok(ClientPlan {
         addr: Addr([10, 0, 1, number]),
         port: Port(1024 + u16::from(number)),
