@@ -114,12 +114,9 @@ impl<A: App> WorldOf<A> {
         ensures sent { OnOk result ((w : PlainWorld) → WorldRepresents A.App self.old w
             → WorldRepresents A.App self.new (posts w Pinger false (OfPing (ping_from source w.node.addr)))) }
     {
-        let Ok(bytes) = echo_request(source, self.node.addr())
+        let bytes = echo_request(source, self.node.addr())
             .as_slice()
-            .to_vec(*self.sent.allocator())
-        else {
-            return Err(NoMemory);
-        };
+            .to_vec(*self.sent.allocator())?;
         let tick = self.node.ticks();
         post(
             self.sides.as_slice(),
@@ -178,9 +175,7 @@ impl<A: App> WorldOf<A> {
         let sent = &self.sent[place - 1];
         let who = sent.who;
         let epoch = sent.epoch;
-        let Ok(bytes) = sent.bytes.as_slice().to_vec(*self.sent.allocator()) else {
-            return Err(NoMemory);
-        };
+        let bytes = sent.bytes.as_slice().to_vec(*self.sent.allocator())?;
         see(&mut self.sides, client_of(who), number, epoch);
         self.hand(who, bytes.as_slice())?;
         Ok(())
@@ -199,9 +194,7 @@ impl<A: App> WorldOf<A> {
         }
         let sent = &self.sent[place - 1];
         let who = sent.who;
-        let Ok(mut bytes) = sent.bytes.as_slice().to_vec(*self.sent.allocator()) else {
-            return Err(NoMemory);
-        };
+        let mut bytes = sent.bytes.as_slice().to_vec(*self.sent.allocator())?;
         change(bytes.as_mut_slice(), usize::from(at), mask);
         self.hand(who, bytes.as_slice())?;
         Ok(())

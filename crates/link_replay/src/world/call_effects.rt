@@ -53,9 +53,7 @@ fn post_reply(
     } else {
         datagram
     };
-    let Ok(bytes) = meant.to_vec(*sent.allocator()) else {
-        return Err(NoMemory);
-    };
+    let bytes = meant.to_vec(*sent.allocator())?;
     post(sides, sent, Who::FromNode(number), tick, again, bytes)?;
     Ok(())
 }

@@ -33,9 +33,7 @@ fn post_prefix(
     let Some(len) = len else {
         return Ok(());
     };
-    let Ok(bytes) = area[..len].to_vec(*sent.allocator()) else {
-        return Err(NoMemory);
-    };
+    let bytes = area[..len].to_vec(*sent.allocator())?;
     post(sides, sent, Who::FromClient(number), tick, false, bytes)?;
     Ok(())
 }

@@ -70,9 +70,7 @@ impl Side {
     {
         let took = self.client.take(self.request.as_slice(), datagram, area);
         let fresh = &datagram[took.fresh_at..took.fresh_at + took.fresh_len];
-        if self.received.extend_from_slice(fresh).is_err() {
-            return Err(NoMemory);
-        }
+        self.received.extend_from_slice(fresh)?;
         Ok(took.sent)
     }
 }

@@ -60,9 +60,7 @@ fn side_for(alloc: Global, number: u16, plan: &ClientPlan) -> Result<Side, NoMem
     let setup = setup_for(number, plan);
     let asked = plan.request.as_slice();
     is_bytes(asked);
-    let Ok(request) = asked.to_vec(alloc) else {
-        return Err(NoMemory);
-    };
+    let request = asked.to_vec(alloc)?;
     Ok(Side {
         client: Client::new(setup),
         request,
@@ -81,9 +79,7 @@ fn sides_for(alloc: Global, clients: &[ClientPlan]) -> Result<Vec<Side>, NoMemor
     let mut sides = Vec::new(alloc);
     for (at, plan) in clients.iter().enumerate() {
         let side = side_for(alloc, at as u16 + 1, plan)?;
-        if sides.push(side).is_err() {
-            return Err(NoMemory);
-        }
+        sides.push(side)?;
     }
     Ok(sides)
 }
@@ -104,9 +100,7 @@ impl<A: App> WorldOf<A> {
             → IsPlanned p) }
     {
         let sides = sides_for(alloc, clients)?;
-        let Ok(area) = vec![in alloc; 0u8; LARGEST_DATAGRAM] else {
-            return Err(NoMemory);
-        };
+        let area = vec![in alloc; 0u8; LARGEST_DATAGRAM]?;
         let node = Node::new(alloc, SERVER, shared)?;
         Ok(WorldOf {
             node,

@@ -59,8 +59,6 @@ pub(crate) fn post(
         again,
         bytes,
     };
-    if sent.push(datagram).is_err() {
-        return Err(NoMemory);
-    }
+    sent.push(datagram)?;
     Ok(())
 }

@@ -8,9 +8,9 @@ pub hand-requires : goal.hand-requires
 hand-requires g c = record {
   most =
       let fits = sent_fits _ (link_of c.self.inside.sides.items c.self.inside.sent.items) (c.args.number - 1) c.index-sent.result.now c.index-sent.ensures (omega arith) c.self.invariant.link.1 in
-      let items : c.in-Ok.bytes.items ≡ c.as_slice.result.now = search (rules, tests) in
+      let items : c.in_ok-bytes.bytes.items ≡ c.as_slice.result.now = search (rules, tests) in
       let old : c.as_mut_slice.result.now ≡ c.index-sent.result.now.bytes = c.as_mut_slice.ensures.value ∙ items ∙ c.as_slice.ensures.value ∙ ap (λ (x : CodeSent). x.bytes) c.sent.view_is in
-      let whole = area_is c.change.new.bytes c.in-Ok.bytes.items c.in-Ok.bytes.len (c.change.auto.bytes ∙ ap length c.as_mut_slice.ensures.value) (sym c.as_mut_slice.ensures.len ∙ ap length c.as_mut_slice.ensures.value) in
+      let whole = area_is c.change.new.bytes c.in_ok-bytes.bytes.items c.in_ok-bytes.bytes.len (c.change.auto.bytes ∙ ap length c.as_mut_slice.ensures.value) (sym c.as_mut_slice.ensures.len ∙ ap length c.as_mut_slice.ensures.value) in
       let size : length c.as_slice-2.result.now ≡ length c.index-sent.result.now.bytes = ap length (c.as_slice-2.ensures.value ∙ whole) ∙ c.change.auto.bytes ∙ ap length old in
       subst (λ (k : ℕ). k ≤ LARGEST_DATAGRAM) (sym size) fits;
 }
@@ -32,9 +32,9 @@ returns-clause-damaged g c = λ w h f s.
     let e : Sent = p.other in
     let shown : SentRepresents w (record { who = c.sent.inside.who; tick = c.sent.inside.tick; epoch = c.sent.inside.epoch; again = c.sent.inside.again; bytes = c.sent.inside.bytes.items }) e
     = subst (λ (x : CodeSent). SentRepresents w x e) (sym c.sent.view_is) p.pair in
-    let items : c.in-Ok.bytes.items ≡ c.as_slice.result.now = search (rules, tests) in
+    let items : c.in_ok-bytes.bytes.items ≡ c.as_slice.result.now = search (rules, tests) in
     let old : c.as_mut_slice.result.now ≡ sent_bytes w e = c.as_mut_slice.ensures.value ∙ items ∙ c.as_slice.ensures.value ∙ shown.bytes in
-    let whole = area_is c.change.new.bytes c.in-Ok.bytes.items c.in-Ok.bytes.len (c.change.auto.bytes ∙ ap length c.as_mut_slice.ensures.value) (sym c.as_mut_slice.ensures.len ∙ ap length c.as_mut_slice.ensures.value) in
+    let whole = area_is c.change.new.bytes c.in_ok-bytes.bytes.items c.in_ok-bytes.bytes.len (c.change.auto.bytes ∙ ap length c.as_mut_slice.ensures.value) (sym c.as_mut_slice.ensures.len ∙ ap length c.as_mut_slice.ensures.value) in
     let bytes : c.as_slice-2.result.now ≡ changed (sent_bytes w e) c.args.at c.args.mask
     = c.as_slice-2.ensures.value ∙ whole ∙ c.change.ensures ∙ ap (λ (xs : List ℕ). changed xs c.from.result c.args.mask) old ∙ ap (λ i. changed (sent_bytes w e) i c.args.mask) c.from.ensures in
     let low : 1 ≤ c.args.mask = c.requires.mask in

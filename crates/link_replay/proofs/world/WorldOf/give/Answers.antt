@@ -12,7 +12,7 @@ pub hand-requires : goal.hand-requires
 hand-requires g c = record {
   most =
       let fits = sent_fits _ (link_of c.self.inside.sides.items c.self.inside.sent.items) (c.args.number - 1) c.index-sent.result.now c.index-sent.ensures (omega arith) c.self.invariant.link.1 in
-      let items : c.in-Ok.bytes.items ≡ c.as_slice.result.now = search (rules, tests) in
+      let items : c.in_ok-bytes.bytes.items ≡ c.as_slice.result.now = search (rules, tests) in
       let all : c.as_slice-2.result.now ≡ c.index-sent.result.now.bytes = c.as_slice-2.ensures.value ∙ items ∙ c.as_slice.ensures.value ∙ ap (λ (x : CodeSent). x.bytes) c.sent.view_is in
       subst (λ (xs : List ℕ). length xs ≤ LARGEST_DATAGRAM) (sym all) fits;
 }
@@ -34,7 +34,7 @@ returns-clause-given g c = rw (← c.self.view_is) (λ w h s.
     let e : Sent = p.other in
     let shown : SentRepresents w (record { who = c.sent.inside.who; tick = c.sent.inside.tick; epoch = c.sent.inside.epoch; again = c.sent.inside.again; bytes = c.sent.inside.bytes.items }) e
     = subst (λ (x : CodeSent). SentRepresents w x e) (sym c.sent.view_is) p.pair in
-    let items : c.in-Ok.bytes.items ≡ c.as_slice.result.now = search (rules, tests) in
+    let items : c.in_ok-bytes.bytes.items ≡ c.as_slice.result.now = search (rules, tests) in
     let bytes : c.as_slice-2.result.now ≡ sent_bytes w e = c.as_slice-2.ensures.value ∙ items ∙ c.as_slice.ensures.value ∙ shown.bytes in
     let client : c.client_of.result ≡ client_reported e.who = c.client_of.ensures ∙ ap client_reported shown.who in
     let v : World = sees w (client_reported e.who) c.args.number e (numbered w.sides (client_reported e.who)) in

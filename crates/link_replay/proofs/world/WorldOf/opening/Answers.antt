@@ -4,7 +4,7 @@ use Rattle.link_replay.proofs.world.WorldOf.opening.Goals as goal
 
 pub invariant_of-result : goal.invariant_of-result
 invariant_of-result g c =
-    let size : length c.in-Ok.area.items ≡ 1500 = search rules in
+    let size : length c.in_ok-area.area.items ≡ 1500 = search rules in
     record {
       link = (
         server,

@@ -22,8 +22,8 @@ returns-clause-sent g c = rw (← c.self.view_is) (λ w s.
     let a = g.A.App in
     let sides : List CodeSide = c.self.inside.sides.items in
     let echo = OfPing (ping_from c.args.source w.node.addr) in
-    let items : c.in-Ok.bytes.items ≡ c.as_slice.result.now = search (rules, tests) in
-    let bytes : c.in-Ok.bytes.items ≡ ping_from c.args.source w.node.addr = items ∙ c.as_slice.ensures ∙ c.echo_request.ensures ∙ ap (ping_from c.args.source) (c.addr.ensures ∙ s.node.addr) in
+    let items : c.in_ok-bytes.bytes.items ≡ c.as_slice.result.now = search (rules, tests) in
+    let bytes : c.in_ok-bytes.bytes.items ≡ ping_from c.args.source w.node.addr = items ∙ c.as_slice.ensures ∙ c.echo_request.ensures ∙ ap (ping_from c.args.source) (c.addr.ensures ∙ s.node.addr) in
     let represented : LinkRepresents (link_of sides c.post.new.sent.items) (posts w Pinger false echo)
     = subst (λ (xs : List CodeSide). LinkRepresents (link_of xs c.post.new.sent.items) (posts w Pinger false echo)) c.as_slice-2.ensures.value
     (c.in_ok-post.ensures.posted w echo (subst (λ (xs : List CodeSide). LinkRepresents (link_of xs c.self.inside.sent.items) w) (sym c.as_slice-2.ensures.value) s.link) (c.ticks-tick.ensures ∙ s.node.counts.ticks) bytes) in

@@ -21,6 +21,6 @@ returns-clause-posted c = λ w reply t k a d h.
         | else-number-eq0-via-else-number-eq0 e ↦ meant_to_one number to datagram e.if-number-eq0.false
       ])
     ] in
-    answer_posted (λ (v : World). LinkRepresents (link_of c.args.sides.now c.post.new.sent.items) v) w reply c.args.sides.now to number c.args.again datagram c.in-Ok.bytes.items
-    (subst (λ o. IsTo o reply) same t) a d h.sides numbered (c.in-Ok.ensures.items_if_clones_equal (λ x y e. e) ∙ meant)
+    answer_posted (λ (v : World). LinkRepresents (link_of c.args.sides.now c.post.new.sent.items) v) w reply c.args.sides.now to number c.args.again datagram c.in_ok-bytes.bytes.items
+    (subst (λ o. IsTo o reply) same t) a d h.sides numbered (c.in_ok-bytes.ensures.items_if_clones_equal (λ x y e. e) ∙ meant)
     (λ content bytes. c.in_ok-post.ensures.posted w content h k bytes)
