@@ -1,5 +1,5 @@
 -- Lists that agree at each index continue to do so.
-use Rattle.link_replay.proofs.Prelude.{◌≡◌, ℕ, zero, suc, ◌+◌, ◌-◌, ◌<◌, List, [], ◌∷◌, ◌++◌, length, set, refl, sym, ap, ◌∙◌, subst, arith, Some, slice_get, get_or, drop, length-append, length-set, numbered, get_push, older, newest, get_set, here, there, Matched}
+use Rattle.link_replay.proofs.Prelude.{◌≡◌, ℕ, zero, suc, ◌+◌, ◌-◌, ◌<◌, List, [], ◌∷◌, ◌++◌, length, set, refl, sym, ap, ◌∙◌, subst, arith, Some, None, inl, inr, slice_get, slice_get_cases, slice_get_past, get_or, drop, length-append, length-set, numbered, get_push, older, newest, get_set, here, there, Matched}
 use Rattle.std.proofs.Math.Seq.{drop-cons}
 
 inside : {X : Type 0} (xs : List X) (i : ℕ) (x : X) → slice_get xs i ≡ Some x → i < length xs
@@ -37,12 +37,32 @@ pub record Partner {X Y : Type 0} (P : X → Y → Type 0) (ys : List Y) (i : �
   pub get : slice_get ys i ≡ Some other
   pub pair : P x other
 
+-- the same by a number
+pub record NumberedPartner {X Y : Type 0} (P : X → Y → Type 0) (ys : List Y) (n : ℕ) (x : X) : Type 0 where
+  pub index : ℕ
+  pub other : Y
+  pub get : slice_get ys index ≡ Some other
+  pub there : numbered ys n ≡ Some other
+  pub pair : P x other
+
 module _ {X Y : Type 0} (P : X → Y → Type 0) where
   pub partner : (xs : List X) (ys : List Y) (i : ℕ) (x : X) → Matched P xs ys → slice_get xs i ≡ Some x → Partner P ys i x
   partner xs ys i x m g =
       let l = inside xs i x g in
       let r = reads ys i (omega (arith, l, m.same_length)) in
       record { other = r.0; get = r.1; pair = m.each i x r.0 g r.1 }
+
+  pub numbered_partner : (xs : List X) (ys : List Y) (n : ℕ) (x : X) → Matched P xs ys → Some x ≡ numbered xs n → NumberedPartner P ys n x
+  numbered_partner xs ys zero x m h = absurd (cc)
+  numbered_partner xs ys (suc n) x m h = let p = partner xs ys n x m (sym h) in record { index = n; other = p.other; get = p.get; there = p.get; pair = p.pair }
+
+  -- no element of either has the number
+  pub none_numbered : (xs : List X) (ys : List Y) (n : ℕ) → Matched P xs ys → None ≡ numbered xs n → numbered ys n ≡ None
+  none_numbered xs ys zero m h = refl
+  none_numbered xs ys (suc n) m h = elim ((slice_get_cases xs n).1) [
+    | inl found ↦ absurd (cc (h, found.2))
+    | inr past ↦ slice_get_past ys n (omega (arith, past.0, m.same_length))
+  ]
 
   -- one more at the end of both
   pub push : (xs : List X) (ys : List Y) (x : X) (y : Y) → Matched P xs ys → P x y → Matched P (xs ++ x ∷ []) (ys ++ y ∷ [])

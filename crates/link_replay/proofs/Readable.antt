@@ -1,6 +1,5 @@
 -- What is known of the datagrams of a world of a replay.
-use Rattle.link_replay.proofs.Prelude.{◌≡◌, ℕ, ◌-◌, ◌<◌, ◌≤◌, Bool, refl, subst, ◌∙◌, Some, get_or, length, slice_get, List, Addr, LARGEST_DATAGRAM, AppSpec, bytes_by, sent_bytes, World, Sent, Content, numbered, OfSegment, OfPing, OfEcho, Who, FromClient, FromNode, Pinger, IsRead, IsSentBy, bytes_are_read, reached_sound, sent_to_clients, SoundWorld, IsAt, IsLink, LinkRepresents, SentRepresents, Link, CodeSent}
-use Rattle.link_replay.proofs.Pairs.{numbered_at, partner, there_is}
+use Rattle.link_replay.proofs.Prelude.{◌≡◌, ℕ, zero, suc, ◌≤◌, Bool, refl, sym, subst, Some, length, slice_get, List, Addr, LARGEST_DATAGRAM, AppSpec, bytes_by, sent_bytes, World, Sent, Content, numbered, OfSegment, OfPing, OfEcho, Who, FromClient, FromNode, Pinger, IsRead, IsSentBy, bytes_are_read, reached_sound, sent_to_clients, SoundWorld, IsAt, IsLink, Link, CodeSent}
 use Rattle.link_replay.proofs.Reaching.{reached_at}
 
 bytes_mark : (w : World) (k : ℕ) (who : Who) (content : Content) → bytes_by (record w { mark = k }) who content ≡ bytes_by w who content
@@ -37,19 +36,7 @@ module _ (m : AppSpec) (served : ℕ → Bool) (w : World) (h : IsAt m served w)
   pub sound_at : SoundWorld w
   sound_at = let s = reached_sound m h.pages h.lawful h.bytes (record w { mark = 0 }) (reached_at m served w h) in record { addr = s.addr; conns = s.conns; sides = s.sides; sent = s.sent }
 
--- the datagram at a number, as the code and the world have it
-pub record SentThere (w : World) (number : ℕ) (code : CodeSent) : Type 0 where
-  pub other : Sent
-  pub get : slice_get w.sent (number - 1) ≡ Some other
-  pub there : numbered w.sent number ≡ Some other
-  pub pair : SentRepresents w code other
-
-pub sent_there : (link : Link) (w : World) (number : ℕ) (code : CodeSent) → 0 < number → code ≡ get_or link.sent (number - 1) code → number - 1 < length link.sent
-    → LinkRepresents link w → SentThere w number code
-sent_there link w number code above read inside h =
-    let p = partner (SentRepresents w) link.sent w.sent (number - 1) code h.sent (there_is link.sent (number - 1) code read inside) in
-    record { other = p.other; get = p.get; there = numbered_at w.sent number above ∙ p.get; pair = p.pair }
-
 -- a datagram that was read fits the largest one
-pub sent_fits : (addr : Addr) (link : Link) (i : ℕ) (x : CodeSent) → x ≡ get_or link.sent i x → i < length link.sent → IsLink addr link → length x.bytes ≤ LARGEST_DATAGRAM
-sent_fits addr link i x h l kept = kept.sizes i x (there_is link.sent i x h l)
+pub sent_fits : (addr : Addr) (link : Link) (number : ℕ) (x : CodeSent) → Some x ≡ numbered link.sent number → IsLink addr link → length x.bytes ≤ LARGEST_DATAGRAM
+sent_fits addr link zero x h kept = absurd (cc)
+sent_fits addr link (suc n) x h kept = kept.sizes n x (sym h)

@@ -1,6 +1,5 @@
 -- What a datagram is, as its receiver reads it.
-use Rattle.link_replay.proofs.Prelude.{◌≡◌, ℕ, zero, suc, ◌<◌, List, length, Bool, true, false, if◌then◌else◌, Some, None, refl, sym, ap, ◌∙◌, subst, arith, ◌⊎◌, inl, inr, slice_index_or, option_map, slice_get-get_or, slice_get_past, Addr, Sockets, same_sockets, PlainSegment, event_of, Event, Arrived, Setup, AbstractClient, World, Side, Content, numbered, client_sockets, OfSegment, OfPing, OfEcho, received_by, server_of, FromClient, FromNode, IsRead, IsSentBy, Matched, SideRepresents, CodeSide, Kind, EchoReply, kind_sent, segment_kind}
-use Rattle.link_replay.proofs.Listing.{partner}
+use Rattle.link_replay.proofs.Prelude.{◌≡◌, ℕ, List, Bool, true, false, if◌then◌else◌, Some, None, refl, ap, ◌∙◌, subst, option_map, Addr, Sockets, same_sockets, PlainSegment, event_of, Event, Arrived, Setup, World, Side, Content, numbered, client_sockets, OfSegment, OfPing, OfEcho, received_by, server_of, FromClient, FromNode, IsRead, IsSentBy, Kind, EchoReply, kind_sent, segment_kind}
 
 abbrev pub addr_of : Side → Addr
 addr_of side = side.client.setup.addr
@@ -48,17 +47,3 @@ no_client_kind w number (OfSegment id s) found by =
     absurd cc
 no_client_kind w number (OfPing datagram) found by = absurd by
 no_client_kind w number (OfEcho request) found by = refl
-
--- the address of a client that is there
-pub address_there : (sides : List CodeSide) (ss : List Side) (place : ℕ) (d : CodeSide) → Matched SideRepresents sides ss → place < length sides
-    → Some (slice_index_or sides place d).client.setup.addr ≡ option_map addr_of (numbered ss (suc place))
-address_there sides ss place d m lt =
-    let there = partner SideRepresents sides ss place (slice_index_or sides place d) m (slice_get-get_or sides place d lt) in
-    ap (λ (c : AbstractClient). Some c.setup.addr) there.2.client ∙ sym (ap (λ o. option_map addr_of o) there.1)
-
--- no client is there
-pub address_past : (sides : List CodeSide) (ss : List Side) (number : ℕ) → Matched SideRepresents sides ss → (number ≡ 0) ⊎ (length sides < number)
-    → None ≡ option_map addr_of (numbered ss number)
-address_past sides ss zero m history = refl
-address_past sides ss (suc place) m (inl none) = absurd (omega arith)
-address_past sides ss (suc place) m (inr history) = sym (ap (λ o. option_map addr_of o) (slice_get_past ss place (omega (arith, m.same_length))))

@@ -1,5 +1,5 @@
 -- A client's step in the world.
-use Rattle.link_replay.proofs.Prelude.{◌≡◌, ℕ, zero, suc, ◌<◌, ◌≤◌, ◌⊎◌, inl, inr, ◌++◌, replicate, drop, false, List, [], ◌∷◌, length, take, set, refl, sym, ap, ◌∙◌, subst, arith, Option, Some, None, slice_get, length-take, if◌then◌else◌, PlainSegment, datagram_bytes, option_map_or, closed, drop_all, take_all, append_nothing, abstract_client, Sends, client_datagram, client_hands, client_receives, FitsRequest, AbstractClient, ClientStep, client_takes, ClientState, Idle, Setup, same_receiving, ticks_of, handed, bytes_by, client_bytes, World, Side, at_side, numbered, epoch, past_connection_of, becomes_opened, client_stepped, with_client, with_side, OfSegment, FromClient, get_set_same, set_same, Stepped, Addr, CodeSent, LinkRepresents, SideRepresents, IsLink, Link, link_of, PostsOfClient, CodeSide}
+use Rattle.link_replay.proofs.Prelude.{◌≡◌, ℕ, zero, suc, ◌≤◌, ◌++◌, replicate, drop, false, List, [], length, take, set, refl, sym, ap, ◌∙◌, subst, arith, Option, Some, None, slice_get, length-take, if◌then◌else◌, PlainSegment, datagram_bytes, option_map_or, closed, drop_all, take_all, append_nothing, abstract_client, Sends, client_datagram, client_hands, client_receives, FitsRequest, AbstractClient, ClientStep, client_takes, ClientState, Idle, Setup, same_receiving, ticks_of, handed, bytes_by, client_bytes, World, Side, at_side, numbered, epoch, past_connection_of, becomes_opened, client_stepped, with_client, with_side, OfSegment, FromClient, get_set_same, set_same, Stepped, Addr, CodeSent, LinkRepresents, SideRepresents, IsLink, Link, link_of, PostsOfClient, CodeSide}
 use Rattle.link_replay.proofs.Pairs.{partner}
 use Rattle.link_replay.proofs.Places.{link_put, side_put}
 
@@ -30,16 +30,6 @@ sends_some setup (Some x) len area h =
 -- the bytes of a client's segment in its world
 pub prefix_bytes : (w : World) (number : ℕ) (side : Side) (x : PlainSegment) → numbered w.sides number ≡ Some side → bytes_by w (FromClient number) (OfSegment 0 x) ≡ datagram_bytes (client_datagram side.client.setup x)
 prefix_bytes w number side x h = ap (λ (o : Option Side). option_map_or (client_bytes 0 x) o []) h
-
--- no client has a number that is 0 or past the last
-pub none_numbered : {X : Type 0} (xs : List X) (n : ℕ) → (n ≡ 0) ⊎ (length xs < n) → numbered xs n ≡ None
-none_numbered xs zero h = refl
-none_numbered xs (suc n) h = history xs n (elim h [ inl e ↦ absurd (let z : suc n ≡ 0 = e in omega (arith, z)) | inr l ↦ omega (arith, l) ])
-  where
-    history : {X : Type 0} (xs : List X) (n : ℕ) → length xs ≤ n → slice_get xs n ≡ None
-    history [] n l = refl
-    history (x ∷ xs) zero l = absurd (omega (arith, l))
-    history (x ∷ xs) (suc n) l = history xs n (omega (arith, l))
 
 -- a step of a client is put in its place
 pub stepped_put : (link : Link) (w : World) (n : ℕ) (old new : CodeSide) (s : Side) (step : ClientStep) (answer : Option ℕ) (area : List ℕ) → LinkRepresents link w → slice_get w.sides n ≡ Some s →

@@ -27,6 +27,7 @@ pub(crate) mod faults;
 pub(crate) mod initial;
 pub(crate) mod line_acts;
 pub(crate) mod marks;
+pub(crate) mod numbers;
 pub(crate) mod readers;
 pub(crate) mod schedule_play;
 pub(crate) mod sent;

@@ -9,6 +9,7 @@ ghost use Rattle.link_world.specs.World.{Side as PlainSide, numbered};
 ghost use Rattle.link_replay.specs.Prelude.{OfDatagram, Matched, SideRepresents, kind_sent as kind_meant, segment_kind};
 
 use crate::report::kind::Kind;
+use crate::world::numbers::at_number;
 use crate::world::sent::Sent;
 use crate::world::side::Side;
 use link_client::Client;
@@ -44,11 +45,7 @@ fn address_of(sides: &[Side], number: u8) -> Option<Addr>
     ensures { (ss : List PlainSide) → Matched SideRepresents sides.now ss
         → result ≡ option_map (λ s. s.client.setup.addr) (numbered ss number) }
 {
-    let place = usize::from(number);
-    if place == 0 || place > sides.len() {
-        return None;
-    }
-    let side = &sides[place - 1];
+    let side = at_number(sides, usize::from(number))?;
     Some(addr_of(&side.client))
 }
 

@@ -14,6 +14,7 @@ use crate::world::call_effects::tell;
 use crate::world::client_acts::{act_alone, advertise_window, receive};
 use crate::world::client_steps::Own;
 use crate::world::marks::{pair_of, see};
+use crate::world::numbers::at_number;
 use crate::world::sent_list::post;
 use crate::world::socket_pair::SocketPair;
 use app_events::App;
@@ -168,11 +169,9 @@ impl<A: App> WorldOf<A> {
         ensures given { OnOk result (FromHere A.App self.old
             (λ m served w. WorldRepresents A.App self.new (does m served w (Act.Give number)))) }
     {
-        let place = number as usize;
-        if place == 0 || place > self.sent.len() {
+        let Some(sent) = at_number(self.sent.as_slice(), number as usize) else {
             return Ok(());
-        }
-        let sent = &self.sent[place - 1];
+        };
         let who = sent.who;
         let epoch = sent.epoch;
         let bytes = sent.bytes.as_slice().to_vec(*self.sent.allocator())?;
@@ -188,11 +187,9 @@ impl<A: App> WorldOf<A> {
         ensures mark { self.new.mark ≡ self.old.mark }
         ensures damaged { OnOk result (DoesAct A.App (Act.Damage number at mask) self.old self.new) }
     {
-        let place = number as usize;
-        if place == 0 || place > self.sent.len() {
+        let Some(sent) = at_number(self.sent.as_slice(), number as usize) else {
             return Ok(());
-        }
-        let sent = &self.sent[place - 1];
+        };
         let who = sent.who;
         let mut bytes = sent.bytes.as_slice().to_vec(*self.sent.allocator())?;
         change(bytes.as_mut_slice(), usize::from(at), mask);

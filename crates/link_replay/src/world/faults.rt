@@ -7,6 +7,7 @@ ghost use Rattle.link_replay.specs.Prelude.{Matched, LinkRepresents, SentReprese
 ghost use Rattle.link_replay.specs.Reaching.{IsNamed};
 
 use crate::world::line_acts::needs;
+use crate::world::numbers::at_number;
 use crate::world::sent::Sent;
 use crate::world::side::Side;
 use link_client::{Client, ClientState};
@@ -34,12 +35,10 @@ pub(crate) fn is_idle_client(client: &Client) -> bool
 fn is_idle(sides: &[Side], number: u8) -> bool
     ensures { (ss : List PlainSide) → Matched SideRepresents sides.now ss → result ≡ is_idle (state_at (numbered ss number)) }
 {
-    let place = usize::from(number);
-    if place == 0 || place > sides.len() {
-        return true;
+    match at_number(sides, usize::from(number)) {
+        Some(side) => is_idle_client(&side.client),
+        None => true,
     }
-    let side = &sides[place - 1];
-    is_idle_client(&side.client)
 }
 
 /// Returns the fault of an act of a client that is idle.
@@ -59,10 +58,9 @@ fn no_datagram(sent: &[Sent], number: u32) -> Option<StepFault>
     ensures exact { (w : PlainWorld) → Matched (SentRepresents w) sent.now w.sent → result ≡ named_fault w (Act.Give number) }
     ensures named { IfSome result IsNamed }
 {
-    if number == 0 || number as usize > sent.len() {
-        Some(StepFault::NoDatagram)
-    } else {
-        None
+    match at_number(sent, number as usize) {
+        Some(_) => None,
+        None => Some(StepFault::NoDatagram),
     }
 }
 
@@ -72,10 +70,9 @@ fn no_byte(sent: &[Sent], number: u32, at: u16) -> Option<StepFault>
         → result ≡ named_fault w (Act.Damage number at mask) }
     ensures named { IfSome result IsNamed }
 {
-    if number == 0 || number as usize > sent.len() {
+    let Some(datagram) = at_number(sent, number as usize) else {
         return Some(StepFault::NoDatagram);
-    }
-    let datagram = &sent[number as usize - 1];
+    };
     if usize::from(at) < datagram.bytes.len() {
         None
     } else {

@@ -6,6 +6,7 @@ ghost use Rattle.uip_wire.specs.declared.addr.Addr.{Addr as Address};
 ghost use Rattle.link_replay.specs.Prelude.{Matched, sockets_for, pair_at, IsLink, SideRepresents, link_of, CodeSent, pair_at_side};
 ghost use Rattle.link_replay.specs.Moving.{RecordsDelivery};
 
+use crate::world::numbers::at_number;
 use crate::world::side::Side;
 use crate::world::socket_pair::SocketPair;
 use link_client::Client;
@@ -51,10 +52,6 @@ pub(crate) fn see(sides: &mut Vec<Side>, client: u8, number: u32, epoch: u32)
 pub(crate) fn pair_of(sides: &[Side], client: u8) -> Option<SocketPair>
     ensures { (ss : List PlainSide) → Matched SideRepresents sides.now ss → result ≡ pair_at_side (numbered ss client) }
 {
-    let place = usize::from(client);
-    if place == 0 || place > sides.len() {
-        return None;
-    }
-    let side = &sides[place - 1];
+    let side = at_number(sides, usize::from(client))?;
     Some(pair_at(&side.client))
 }

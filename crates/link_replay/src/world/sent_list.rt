@@ -6,6 +6,7 @@ ghost use Rattle.link_world.specs.World.{Side as PlainSide, epoch, epoch_of, num
 ghost use Rattle.link_replay.specs.Prelude.{Matched, KeepsLink, PostsBytes, SideRepresents, link_of};
 
 use crate::world::faults::MOST_DATAGRAMS;
+use crate::world::numbers::at_number;
 use crate::world::sent::Sent;
 use crate::world::side::Side;
 use link_world::Who;
@@ -26,12 +27,7 @@ fn epoch_of(sides: &[Side], who: Who) -> u32
 fn epoch_at(sides: &[Side], number: u8) -> u32
     ensures { (ss : List PlainSide) → Matched SideRepresents sides.now ss → result ≡ option_map_or epoch (numbered ss number) 0 }
 {
-    let place = usize::from(number);
-    if place == 0 || place > sides.len() {
-        return 0;
-    }
-    let side = &sides[place - 1];
-    side.epoch
+    at_number(sides, usize::from(number)).map_or(0, |side| side.epoch)
 }
 
 /// Appends a datagram. Fails with NoMemory also if no number is left for it.
