@@ -1,5 +1,5 @@
 #!/usr/bin/env python3
-"""Tells how far the stack pointer of the firmware went: the least in qemu's log of the processor, which has an entry for each instruction.
+"""Prints how far the stack pointer of the firmware went: the least in qemu's log of the processor, which has an entry for each instruction.
 
     python3 examples/board/stack.py FIRMWARE QEMU COMMAND ARG ..
 
