@@ -87,7 +87,7 @@ extern "C" {
  *   pending    output is pending if it did not fit into the area `out` of the call (serial line only)
  *
  * This program serves a site on a serial line. A link to /on.html is a button that turns a lamp on.
- * You write the six functions that it declares.
+ * You write the seven functions that it declares.
  *
  *     #include "uip.h"
  *     #include "site.c"       // made by tools/pack.py: site_image, SITE_IMAGE_LEN, SITE_IMAGE_FILES
@@ -99,6 +99,7 @@ extern "C" {
  *     size_t read_serial(unsigned char *bytes, size_t room);
  *     // Sends all bytes. It may wait.
  *     void write_serial(void *to, const unsigned char *bytes, size_t len);
+ *     void board_start(void);                  // starts the clock and the port
  *     unsigned milliseconds(void);             // since the start, modulo 2^32
  *     void set_lamp(int is_on);
  *     void fail(unsigned status, unsigned entry, const char *word);   // shows why, and never returns
@@ -113,6 +114,7 @@ extern "C" {
  *         uip_opened opened = uip_open(&device, site_image, SITE_IMAGE_LEN, own);
  *         unsigned status = opened.status;
  *         if (status != UIP_OK) fail(status, opened.entry, opened.word);    // bad image, or small heap
+ *         board_start();
  *         while (status == UIP_OK) {                                  // nothing that arrives ends it
  *             size_t len = read_serial(in, sizeof in);
  *             status = uip_feed_all(&device, in, len, out, sizeof out, write_serial, NULL);
@@ -132,7 +134,8 @@ extern "C" {
  * of examples/firmware:
  *
  *     link                  program         opens by        what arrives       each half second
- *     serial line           sleep.c         uip_open        examples/step.c makes all calls
+ *     serial line           section 7       uip_open        examples/step.c makes all calls
+ *     the same, sleeps      sleep.c         uip_open        examples/step.c makes all calls
  *     serial line, RTOS     rtos_serial.c   uip_open        examples/step.c makes all calls
  *     datagrams             datagrams.c     uip_open        uip_input          uip_tick_datagrams
  *     Ethernet              ether.c         uip_open_ether  uip_input_frame    uip_tick_frames
@@ -443,8 +446,8 @@ typedef void (*uip_sink)(void *to, const unsigned char *bytes, size_t len);
  * ADDRESSES THAT A USER ENTERS. The library copies addresses, and checks none. Whenever the address,
  * the mask or the router changes, check all of them by examples/text.h before you store them:
  *
- *   - The mask has 8 to 30 bits: mask_of(bits, mask) makes it, and accepts 0 to 32. On a serial line or
- *     with datagrams it is {0, 0, 0, 0}.
+ *   - The mask has 8 to 30 bits: you test that, and mask_of(bits, mask) makes it. On a serial line or
+ *     with datagrams there is none: pass {0, 0, 0, 0} to is_host.
  *   - is_host(own, mask).
  *   - The router is {0, 0, 0, 0}, which is none; or is_host(router, mask),
  *     is_same_network(router, own, mask), and it differs from `own`.
@@ -476,12 +479,12 @@ uip_opened uip_open(uip_device *device, const unsigned char *image, size_t len, 
  *   own           the IPv4 address. It is copied, and so are the next three
  *   mac           the hardware address; its first byte is even (it is not checked)
  *   mask          the mask of the network: {255, 255, 255, 0}
- *   router        the address of the router. If there is none, pass {0, 0, 0, 0}
+ *   router        the address of the router. If there is none, pass {0, 0, 0, 0}: then the device takes
+ *                 every address for one of its network, as with a mask of 0.0.0.0
  *
  *   Status    as of uip_open
  *
- * The device sends frames for addresses outside of its network to the router. If mask or router is
- * 0.0.0.0, it takes every address for one of its network.
+ * The device sends frames for addresses outside of its network to the router.
  *
  * The device learns eight hardware addresses by ARP, from requests too. A ninth takes the place of
  * the oldest. All hosts beyond the router count as one. It forgets each after 20 minutes, also one
@@ -533,7 +536,7 @@ unsigned uip_close(uip_device *device);
  *     void wfi(void) { __asm volatile("dsb\n wfi" ::: "memory"); }
  *
  *     // In place of read_serial, which port.c has, and write_serial:
- *     unsigned char port_read(void) { .. }                             // the byte that has arrived
+ *     unsigned char port_read(void) { .. }      // the byte that has arrived: on_received calls it once
  *     void port_start(const unsigned char *bytes, size_t len) { .. }   // begins to send, by DMA or interrupt
  *     // Your interrupts: on_received() for each byte; on_sent() when the port has read all that port_start
  *     // began. Another interrupt that gives `work` something to do adds 1 to `events`, which step.h
@@ -541,7 +544,7 @@ unsigned uip_close(uip_device *device);
  *
  *     int main(void) {
  *         ..                               // uip_open, as in section 1
- *         board_start();                   // the port, its interrupts, and a clock that interrupts each millisecond
+ *         board_start();                   // starts the interrupts of the port, and of a clock, too
  *         stop(serve());                   // serve returns only if a call was refused
  *     }
  *
@@ -717,7 +720,10 @@ UIP_INLINE unsigned uip_tick_datagrams(uip_device *device, unsigned char *out, s
  *     // Sends a frame. When it returns, no DMA uses `frame`.
  *     void mac_send(void *to, const unsigned char *frame, size_t len);
  *
+ *     #define UIP_HEAP_SIZE UIP_MEMORY_ETHER(SITE_IMAGE_FILES)         // before heap.c
  *     static unsigned char frame[UIP_MAX_FRAME];
+ *     opened = uip_open_ether(&device, site_image, SITE_IMAGE_LEN, own, mac, mask, router);
+ *     ..                                      // fail and board_start, as in section 1
  *     while (status == UIP_OK) {
  *         size_t len = mac_receive(frame, sizeof frame);
  *         if (len > 0) {
@@ -749,7 +755,7 @@ UIP_INLINE unsigned uip_tick_datagrams(uip_device *device, unsigned char *out, s
  * 20 ms at most. drivers.h has the five functions that you write for ether_loop.c, and who owns
  * each buffer; it also calls milliseconds().
  *
- * The heap is UIP_MEMORY_ETHER(SITE_IMAGE_FILES). A frame is that of RFC 894, from the destination
+ * A frame is that of RFC 894, from the destination
  * address to the end of its data, without preamble and check sequence. Your driver
  *
  *   - passes on the frames for `mac` and the broadcasts; it may pass on others, which the node
@@ -899,7 +905,7 @@ UIP_INLINE unsigned uip_tick_frames(uip_device *device, unsigned char *frame, si
  *     value of a page at least one byte, such as a space.
  *   - If the node sends a segment again, it has the same bytes, also if the value has changed.
  *
- * examples/text.h writes whole numbers and tenths, with their sign, without the C library.
+ * examples/text.h writes numbers without the C library: decimal, signed_decimal, tenths_text.
  */
 unsigned uip_set_value(uip_device *device, size_t number, const void *text, size_t len);
 
