@@ -94,6 +94,9 @@ void mac_interrupts_on(void);                             /* turns the interrupt
 
 /* sleep.c and rtos_serial.c: what port.h, port_dma.h or port_cdc.h lists, too */
 
+/* rtos_serial.c */
+void port_interrupts_on(void);                            /* turns the interrupts of the port on, which board_start leaves off */
+
 /* sleep.c and ether_dma.c */
 void interrupts_off(void);                                /* Cortex-M: cpsid i, not BASEPRI; RISC-V: csrci mstatus, 8. As asm
                                                              volatile, with a "memory" clobber */

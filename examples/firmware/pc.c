@@ -357,13 +357,24 @@ static void begin(void *work(void *)) {
     if (pthread_create(&thread, NULL, work, NULL) != 0) exit(2);
 }
 
-void board_start(void) {
 #ifdef PC_SLEEP
+
+void board_start(void) {
     begin(timer);
-#endif
     begin(receiver);
     begin(sender);
 }
+
+#else
+
+void board_start(void) {}
+
+void port_interrupts_on(void) {
+    begin(receiver);
+    begin(sender);
+}
+
+#endif
 
 #endif
 #if defined(PC_ETHER) || defined(PC_ETHER_DMA) || defined(PC_RTOS) || defined(PC_DATAGRAMS)

@@ -15,8 +15,8 @@ void start_tasks(void (*first)(void *), void (*second)(void *));    /* creates b
 void sleep_one_second(void);           /* all but gate.c */
 
 /* rtos_serial.c and rtos_dma.c: a binary semaphore */
-void make_semaphore(void);             /* before the interrupts are on that give it. After it FreeRTOS masks interrupts until its
-                                          scheduler runs: in rtos_serial.c board_start waits for none */
+void make_semaphore(void);             /* before the interrupts are on that give it. After it FreeRTOS masks interrupts until its scheduler
+                                          runs, so board_start, which may wait for one, comes before it */
 void take_for(unsigned limit);         /* waits until it is given, at most `limit` milliseconds:
                                           xSemaphoreTake(semaphore, pdMS_TO_TICKS(limit)) */
 void give(void);                       /* by a task */

@@ -81,9 +81,10 @@ int main(void) {
     static const unsigned char own[4] = {10, 0, 0, 1};
     uip_opened opened = uip_open(&device, site_image, SITE_IMAGE_LEN, own);
     if (opened.status != UIP_OK) fail(opened.status, opened.entry, opened.word);
-    make_semaphore();
-    board_start();
+    board_start();                             /* it may wait. It leaves the interrupts of the port off */
     pages_start();
     uip_set_value(&device, 7, UIP_TEXT("0"));
+    make_semaphore();                          /* FreeRTOS masks interrupts from here until its scheduler runs */
+    port_interrupts_on();                      /* only now, since they give the semaphore */
     start_tasks(network, count_seconds);
 }
