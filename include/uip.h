@@ -279,7 +279,7 @@ typedef char uip_needs_unsigned_of_32_bits[sizeof(unsigned) == 4 ? 1 : -1];
  *     all calls of a tick that sends nothing                1,830        1,070       1,254
  *     one call that sends 1,460 bytes of a file            16,879       13,263      13,725
  *     one call that sends 1,460 bytes of an .shtml         64,798       61,182      61,644
- *     the same, if all are percent signs                  117,394      113,778     114,240
+ *     the same, if all are percent signs (the worst)      117,394      113,778     114,240
  *     uip_set_value 219; uip_hits 532; uip_query 565; uip_needs_ticks at most 12,310
  *     opening the example site, six files, 2 kB            24,955                   38,761
  *
@@ -544,7 +544,7 @@ unsigned uip_close(uip_device *device);
  *
  *     int main(void) {
  *         ..                               // uip_open, as in section 1
- *         board_start();                   // starts the interrupts of the port, and of a clock, too
+ *         board_start();                   // starts the interrupts of the port, and of a clock that ends wfi
  *         stop(serve());                   // serve returns only if a call was refused
  *     }
  *
@@ -558,9 +558,9 @@ unsigned uip_close(uip_device *device);
  * stores in a ring what arrives. If the ring overflows, bytes are lost, and a page comes some
  * seconds later. At 115,200 bits a second take
  *
- *     port.c       8,192 bytes      if `work` and one call take at most 5 ms together; one of 40 ms now and
- *                                   then does no harm
- *     port_dma.c   16,384 bytes     the same. This suffices also if only the DMA ends wfi
+ *     port.c       8,192 bytes      if `work` and one call take at most 5 ms together on average, and
+ *                                   between 24 pieces of output at most 189 ms in all
+ *     port_dma.c   16,384 bytes     the same, also if only the DMA ends wfi
  *     port_dma.c   8,192 bytes      if a clock ends wfi within 100 ms, and `work` and one call take at most
  *                                   3 ms; -DRING=8192 for all files
  *     port_cdc.c   none
@@ -952,7 +952,8 @@ uip_number uip_hits(uip_device *device, const void *name, size_t len);
  *   - every byte of it is a letter, a digit or one of -_.~%&=+
  *   - it arrives in the first segment of the request (further segments may follow).
  *
- * A request with any other query is served and counted, and the query before it stays. A browser
+ * A request with any other query, as one with a `*`, is served and counted, and the query before it
+ * stays. A browser
  * sends most other bytes of a text as three (%C3), and nothing is decoded: text_in does that.
  * Anyone who reaches the node can send a query: check it. door_pages.c keeps a setting over a
  * restart.
