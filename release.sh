@@ -69,8 +69,8 @@ page() {
 }
 
 examples() {
-    put examples examples/browse.py examples/heap.c examples/step.c examples/step.h examples/text.h examples/ticks.h \
-        examples/token.h examples/outcome.h
+    put examples examples/browse.py support/heap.c support/step.c support/step.h support/text.h support/ticks.h \
+        support/token.h support/outcome.h
     put tools tools/pack.py
     put examples/site examples/site/*
     put examples/firmware examples/firmware/*.[ch]

@@ -92,8 +92,8 @@ extern "C" {
  *     #include "uip.h"
  *     #include "site.c"       // made by tools/pack.py: site_image, SITE_IMAGE_LEN, SITE_IMAGE_FILES
  *     #define UIP_HEAP_SIZE UIP_MEMORY(SITE_IMAGE_FILES)
- *     #include "heap.c"       // examples/heap.c: the memory for one device (C11)
- *     #include "ticks.h"      // examples/ticks.h: tick_is_due_at, which is 1 once each half second
+ *     #include "heap.c"       // support/heap.c: the memory for one device (C11)
+ *     #include "ticks.h"      // support/ticks.h: tick_is_due_at, which is 1 once each half second
  *
  *     // Takes what has arrived from a ring that an interrupt fills. Returns how many bytes, or 0.
  *     size_t read_serial(unsigned char *bytes, size_t room);
@@ -134,9 +134,9 @@ extern "C" {
  * of examples/firmware:
  *
  *     link                  program         opens by        what arrives       each half second
- *     serial line           section 7       uip_open        examples/step.c makes all calls
- *     the same, sleeps      sleep.c         uip_open        examples/step.c makes all calls
- *     serial line, RTOS     rtos_serial.c   uip_open        examples/step.c makes all calls
+ *     serial line           section 7       uip_open        support/step.c makes all calls
+ *     the same, sleeps      sleep.c         uip_open        support/step.c makes all calls
+ *     serial line, RTOS     rtos_serial.c   uip_open        support/step.c makes all calls
  *     datagrams             datagrams.c     uip_open        uip_input          uip_tick_datagrams
  *     Ethernet              ether.c         uip_open_ether  uip_input_frame    uip_tick_frames
  *     Ethernet, RTOS        rtos.c, gate.c  uip_open_ether  uip_input_frame    uip_tick_frames
@@ -162,12 +162,12 @@ extern "C" {
  * heap.c: do not compile these two by themselves. For a program of examples/firmware also compile
  * its pages (pages.c) and
  *
- *     with step.c                     examples/step.c, and port.c, port_dma.c or port_cdc.c (section 7)
+ *     with step.c                     support/step.c, and port.c, port_dma.c or port_cdc.c (section 7)
  *     with ether_dma.c, rtos_dma.c    ether_loop.c
  *
  *     sh ports/run.sh m4 library               # makes the libraries, with the Rattle kit
  *     python3 tools/pack.py FOLDER site.c      # for JSON add its type: /state.shtml=application/json
- *     arm-none-eabi-gcc -mcpu=cortex-m4 -mthumb -Os -nostartfiles -Iinclude -Iexamples -T board.ld \
+ *     arm-none-eabi-gcc -mcpu=cortex-m4 -mthumb -Os -nostartfiles -Iinclude -Isupport -T board.ld \
  *         -I. startup.c drivers.c main.c ports/out/m4/libuip_c.a -lc -lgcc -o firmware.elf
  *                                              # on Ethernet libuip_c_ether.a
  *
@@ -239,7 +239,7 @@ typedef char uip_needs_unsigned_of_32_bits[sizeof(unsigned) == 4 ? 1 : -1];
  *                 -freg-struct-return.
  *
  *  9 STACK        There is room for the stack of each call, below that of its caller: more than the
- *                 1 kB of many start-up files. In bytes, with examples/heap.c, on an M4, and at
+ *                 1 kB of many start-up files. In bytes, with support/heap.c, on an M4, and at
  *                 most on any target ("Targets" in the guide has each one):
  *                                                uip_open  uip_open_ether  uip_close  other calls
  *                     libuip_c.a, M4                1,256               -      2,480        1,968
@@ -444,7 +444,7 @@ typedef void (*uip_sink)(void *to, const unsigned char *bytes, size_t len);
 /* ---- 6 Open and close --------------------------------------------------------------------------
  *
  * ADDRESSES THAT A USER ENTERS. The library copies addresses, and checks none. Whenever the address,
- * the mask or the router changes, check all of them by examples/text.h before you store them:
+ * the mask or the router changes, check all of them by support/text.h before you store them:
  *
  *   - The mask has 8 to 30 bits: you test that, and mask_of(bits, mask) makes it. On a serial line or
  *     with datagrams there is none: pass {0, 0, 0, 0} to is_host.
@@ -518,13 +518,13 @@ unsigned uip_close(uip_device *device);
  * line.
  *
  * WHICH LOOP. For a trial, that of section 1: uip_feed_all and uip_tick_all wait while their sink
- * waits. For a product, that of examples/step.c, which never waits: it sends by DMA or interrupt,
+ * waits. For a product, that of support/step.c, which never waits: it sends by DMA or interrupt,
  * feeds bytes between the frames of a tick, and sleeps if there is nothing to do. It makes all
  * calls of this section. step.h is its reference. The main program of section 1 then becomes
  *
  *     #include ..                          // as in section 1
  *     #include "step.h"
- *     #include "firmware/port.h"           // compile examples/step.c and examples/firmware/port.c, too
+ *     #include "firmware/port.h"           // compile support/step.c and examples/firmware/port.c, too
  *
  *     uip_device device = UIP_INIT;
  *
@@ -844,7 +844,7 @@ UIP_INLINE unsigned uip_tick_frames(uip_device *device, unsigned char *frame, si
  *     is harmless at any time (lamp on), or must never      a link to a file of its own, and uip_hits
  *     be refused (stop)
  *     needs a click; may come again, even days later        a query, and uip_query
- *     may act at most once, and not late (open a gate),     a query with a token, and examples/token.h
+ *     may act at most once, and not late (open a gate),     a query with a token, and support/token.h
  *     or is stored in flash
  *
  * A QUERY is made when the user clicks, by a form or in onclick. Never write a query that acts into
@@ -863,7 +863,7 @@ UIP_INLINE unsigned uip_tick_frames(uip_device *device, unsigned char *frame, si
  * Your program accepts it once, only in the state that the page showed, and not late. (A measured
  * value is no such state: its change ends no token.) Begin with
  * examples/firmware/door_pages.c. It has a button and a form with tokens, shows what became of each
- * click, and keeps a setting over a restart. Its parts are examples/token.h and examples/outcome.h.
+ * click, and keeps a setting over a restart. Its parts are support/token.h and support/outcome.h.
  * "Once" in docs/PAGES.md explains each rule, also if another task (gate.c) or an interrupt keeps
  * the state.
  *
@@ -905,7 +905,7 @@ UIP_INLINE unsigned uip_tick_frames(uip_device *device, unsigned char *frame, si
  *     value of a page at least one byte, such as a space.
  *   - If the node sends a segment again, it has the same bytes, also if the value has changed.
  *
- * examples/text.h writes numbers without the C library: decimal, signed_decimal, tenths_text.
+ * support/text.h writes numbers without the C library: decimal, signed_decimal, tenths_text.
  */
 unsigned uip_set_value(uip_device *device, size_t number, const void *text, size_t len);
 
@@ -938,7 +938,7 @@ uip_number uip_hits(uip_device *device, const void *name, size_t len);
  *     if (hits != seen) {                      // the file was requested
  *         uip_query_text query = uip_query(&device, UIP_TEXT("/set.html"), text, sizeof text);
  *         seen = hits;
- *         // examples/text.h: number_in; tenths_in reads 21.5 as 215, text_in a name, address_in 10.0.0.1;
+ *         // support/text.h: number_in; tenths_in reads 21.5 as 215, text_in a name, address_in 10.0.0.1;
  *         // signed_number_in and signed_tenths_in also read a sign
  *         if (query.hit == hits && number_in(text, query.len, "level", &level) && level <= 100)
  *             set_level(level);
@@ -1008,7 +1008,7 @@ uip_row uip_connection(uip_device *device, size_t slot);
 
 /* ---- 12 Heap -----------------------------------------------------------------------------------
  *
- * Your program defines these three functions. Take examples/heap.c, which has them over one array,
+ * Your program defines these three functions. Take support/heap.c, which has them over one array,
  * or write them. Opening allocates six blocks, and uip_close frees them. No other call allocates
  * (tested, not proved).
  *

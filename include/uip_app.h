@@ -35,8 +35,8 @@ extern "C" {
  *     #include <string.h>                                       // memchr
  *     #include "uip_app.h"
  *     #define UIP_HEAP_SIZE UIP_APP_MEMORY
- *     #include "heap.c"                                         // examples/heap.c: the memory for one device
- *     #include "ticks.h"                                        // examples/ticks.h: tick_is_due_at
+ *     #include "heap.c"                                         // support/heap.c: the memory for one device
+ *     #include "ticks.h"                                        // support/ticks.h: tick_is_due_at
  *
  *     size_t mac_receive(unsigned char *frame, size_t room);    // as in uip.h
  *     void mac_send(const unsigned char *frame, size_t len);    // as in uip.h, without `to`

@@ -41,8 +41,8 @@ extern "C" {
  *     #include "uip_both.h"
  *     #include "site.c"                                         // as in uip.h
  *     #define UIP_HEAP_SIZE UIP_BOTH_MEMORY(SITE_IMAGE_FILES)
- *     #include "heap.c"                                         // examples/heap.c
- *     #include "ticks.h"                                        // examples/ticks.h
+ *     #include "heap.c"                                         // support/heap.c
+ *     #include "ticks.h"                                        // support/ticks.h
  *
  *     size_t mac_receive(unsigned char *frame, size_t room);
  *     void mac_send(void *to, const unsigned char *frame, size_t len);

@@ -137,7 +137,7 @@ case "$crate" in uip_c) library;; uip_app_c) app_library;; *) both_library;; esa
 # shellcheck disable=SC2086
 calls() {
     c_code -Os "$example/runtime.c" -o "$to/runtime.o"
-    c_code -Os -include uip.h -DUIP_HEAP_SIZE=8000 "$top/examples/heap.c" -o "$to/heap.o"
+    c_code -Os -include uip.h -DUIP_HEAP_SIZE=8000 "$top/support/heap.c" -o "$to/heap.o"
     for file; do
         echo "$file"
         python3 "$example/depths.py" "$to/$file" "$to/runtime.o" "$to/heap.o" || exit 1
@@ -179,7 +179,7 @@ firmware() {
         shift
         set -- "$@" "$object"
     done
-    c_code -Os -include uip_both.h "-DUIP_HEAP_SIZE=$heap" "$top/examples/heap.c" -o "$to/heap.o"
+    c_code -Os -include uip_both.h "-DUIP_HEAP_SIZE=$heap" "$top/support/heap.c" -o "$to/heap.o"
     c_code -DSITE="\"$site\"" "$example/site.S" -o "$to/site.o"
     set -- -T "$example/link.ld" --defsym "flash_at=$flash" --defsym "ram_at=$ram" --discard-locals --gc-sections \
         "$@" "$to/heap.o" "$to/site.o" "$to/$linked"

@@ -41,7 +41,7 @@ compile() {
 compile "$here/start.S" -o "$out/start.o"
 compile "$here/$main.c" -o "$out/$main.o"
 for part in board ring runtime; do compile -mgeneral-regs-only "$here/$part.c" -o "$out/$part.o"; done
-compile "$heap" "$top/examples/heap.c" -o "$out/heap.o"
+compile "$heap" "$top/support/heap.c" -o "$out/heap.o"
 compile -DSITE="\"$site\"" "$here/site.S" -o "$out/site.o"
 # A firmware by its name, of the object files that it has of its own.
 link() {
@@ -53,7 +53,7 @@ link() {
 if [ "$1" = ether ]; then
     compile "$here/ether.c" -o "$out/ether.o"
     compile "$top/ports/boards/no_mac.c" -o "$out/no_mac.o"
-    compile "$(echo "$heap" | sed s/UIP_MEMORY/UIP_MEMORY_ETHER/)" "$top/examples/heap.c" -o "$out/heap.o"
+    compile "$(echo "$heap" | sed s/UIP_MEMORY/UIP_MEMORY_ETHER/)" "$top/support/heap.c" -o "$out/heap.o"
     link ether "$out/board.o" "$out/ether.o" "$out/no_mac.o"
     exec python3 "$here/usage.py" "$out/ether"
 fi

@@ -9,7 +9,7 @@
 #include <signal.h>
 #include <stdio.h>
 #include <string.h>
-#include "../step.h"
+#include "../../support/step.h"
 #include "port.h"
 #include "port_cdc.h"
 

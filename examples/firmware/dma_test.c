@@ -6,7 +6,7 @@
  * Copyright 2026 The Lowunbisa authors
  */
 #include <stdio.h>
-#include "../step.h"
+#include "../../support/step.h"
 #include "port.h"
 #include "port_dma.h"
 

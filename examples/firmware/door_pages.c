@@ -24,8 +24,8 @@
  */
 #include "pages.h"
 #include "drivers.h"
-#include "../outcome.h"
-#include "../token.h"
+#include "../../support/outcome.h"
+#include "../../support/token.h"
 
 enum { OPEN_TOKEN = 1, SET_TOKEN = 2, OPEN_OUTCOME = 3, SET_OUTCOME = 4, DOOR = 5, SECONDS = 6 };    /* values */
 enum { MOST_SECONDS = 60 };

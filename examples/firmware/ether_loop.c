@@ -13,7 +13,7 @@
  * Copyright 2026 The Lowunbisa authors
  */
 #include "ether_loop.h"
-#include "../ticks.h"
+#include "../../support/ticks.h"
 #include "drivers.h"
 
 static unsigned char *spare;                   /* the spare buffer that the program owns, or NULL */

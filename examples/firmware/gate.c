@@ -13,8 +13,8 @@
 #include "pages.h"
 #include "site.c"                              /* python3 tools/pack.py examples/firmware/gate_site site.c /state.shtml=application/json */
 #define UIP_HEAP_SIZE UIP_MEMORY_ETHER(SITE_IMAGE_FILES)
-#include "../heap.c"
-#include "../ticks.h"
+#include "../../support/heap.c"
+#include "../../support/ticks.h"
 #include "drivers.h"
 #include "gate.h"
 

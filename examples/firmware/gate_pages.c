@@ -22,7 +22,7 @@
 #include "pages.h"
 #include "drivers.h"
 #include "gate.h"
-#include "../token.h"
+#include "../../support/token.h"
 
 enum { TOKEN = 1, OUTCOME = 2, GATE = 3 };     /* values, in the order in which pages show them */
 enum { TAG_LEN = 8 };                          /* a tag of 1 to 8 characters */

@@ -9,7 +9,7 @@
  */
 #include "pages.h"
 #include "drivers.h"
-#include "../token.h"
+#include "../../support/token.h"
 
 enum { TEMPERATURE = 3, LAMP = 4, BRIGHTNESS = 5, TOKEN = 6, RESTART = 8 };    /* values: `%! value-html 3` in a page shows the temperature */
 

@@ -6,7 +6,7 @@
  * Copyright 2026 The Lowunbisa authors
  */
 #include "port.h"
-#include "../step.h"
+#include "../../support/step.h"
 
 volatile unsigned events;                      /* an interrupt that gives the loop something to do adds 1 */
 volatile unsigned bytes_received;

@@ -6,7 +6,7 @@
  * Copyright 2026 The Lowunbisa authors
  */
 #include "port_cdc.h"
-#include "../step.h"
+#include "../../support/step.h"
 #include "port.h"
 
 #define LIMIT 200                              /* milliseconds that the host may take for a packet */

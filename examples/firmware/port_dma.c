@@ -6,7 +6,7 @@
  * Copyright 2026 The Lowunbisa authors
  */
 #include "port_dma.h"
-#include "../step.h"
+#include "../../support/step.h"
 #include "port.h"
 
 volatile unsigned events;                      /* an interrupt that gives the loop something to do adds 1 */

@@ -9,9 +9,9 @@
 #include "pages.h"
 #include "site.c"                              /* python3 tools/pack.py examples/firmware/site site.c /state.shtml=application/json */
 #define UIP_HEAP_SIZE UIP_MEMORY_ETHER(SITE_IMAGE_FILES)
-#include "../heap.c"
-#include "../text.h"
-#include "../ticks.h"
+#include "../../support/heap.c"
+#include "../../support/text.h"
+#include "../../support/ticks.h"
 #include "drivers.h"
 #include "rtos.h"
 

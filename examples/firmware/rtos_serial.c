@@ -7,12 +7,12 @@
  * Copyright 2026 The Lowunbisa authors
  */
 #include "pages.h"
-#include "../step.h"
+#include "../../support/step.h"
 #include "site.c"                              /* python3 tools/pack.py examples/firmware/site site.c /state.shtml=application/json */
 #define UIP_HEAP_SIZE UIP_MEMORY(SITE_IMAGE_FILES)
-#include "../heap.c"
-#include "../text.h"
-#include "../ticks.h"
+#include "../../support/heap.c"
+#include "../../support/text.h"
+#include "../../support/ticks.h"
 #include "drivers.h"
 #include "port.h"
 #include "rtos.h"

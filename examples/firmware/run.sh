@@ -66,13 +66,13 @@ build() {
         "$library" -o "$out/$1" || fail "$1 was not built"
 }
 build serial PC_SERIAL
-build sleep PC_SLEEP "$here/port.c $top/examples/step.c"
-build rtos_serial PC_RTOS_SERIAL "$here/port.c $top/examples/step.c"
+build sleep PC_SLEEP "$here/port.c $top/support/step.c"
+build rtos_serial PC_RTOS_SERIAL "$here/port.c $top/support/step.c"
 "$cc" -std=gnu11 -O2 -Wall -Wextra -Werror -DPC_RTOS_SERIAL -DPC_DMA -DRING=2048 -pthread -I"$top/include" -I"$out" "$here/rtos_serial.c" \
-    "$here/pages.c" "$here/pc.c" "$here/port_dma.c" "$top/examples/step.c" "$library" -o "$out/rtos_serial_dma" ||
+    "$here/pages.c" "$here/pc.c" "$here/port_dma.c" "$top/support/step.c" "$library" -o "$out/rtos_serial_dma" ||
     fail "rtos_serial_dma was not built"
 "$cc" -std=gnu11 -O2 -Wall -Wextra -Werror -DPC_RTOS_SERIAL -DPC_CDC -pthread -I"$top/include" -I"$out" "$here/rtos_serial.c" "$here/pages.c" \
-    "$here/pc.c" "$here/port_cdc.c" "$top/examples/step.c" "$library" -o "$out/rtos_serial_cdc" || fail "rtos_serial_cdc was not built"
+    "$here/pc.c" "$here/port_cdc.c" "$top/support/step.c" "$library" -o "$out/rtos_serial_cdc" || fail "rtos_serial_cdc was not built"
 build datagrams PC_DATAGRAMS
 build ether PC_ETHER
 build ether_dma PC_ETHER_DMA "$here/ether_loop.c"

@@ -17,7 +17,7 @@
 #include <string.h>
 #include "pages.h"
 #include "drivers.h"
-#include "../token.h"
+#include "../../support/token.h"
 
 enum { TOKEN = 1, OWN = 2, BITS = 3, ROUTER = 4, OUTCOME = 5, LINK = 6 };    /* values, in the order in which pages show them */
 enum { TAG_LEN = 8 };

@@ -1,11 +1,11 @@
 /*
- * A test of examples/outcome.h, with expected texts worked out by hand. It prints what is wrong, and returns 0 if nothing is.
+ * A test of support/outcome.h, with expected texts worked out by hand. It prints what is wrong, and returns 0 if nothing is.
  *
  * SPDX-License-Identifier: MIT OR Apache-2.0
  * Copyright 2026 The Lowunbisa authors
  */
 #include <stdio.h>
-#include "../outcome.h"
+#include "../../support/outcome.h"
 
 static struct outcomes outcomes = NO_OUTCOMES;
 static unsigned wrong;

@@ -36,19 +36,19 @@ compiles() {
     done
 }
 compiles "$cc" c c90 gnu90 c99 c11 c17
-"$cc" -std=c99 $strict -I"$top/include" -fsyntax-only "$top/examples/step.c" || fail "examples/step.c does not compile"
+"$cc" -std=c99 $strict -I"$top/include" -fsyntax-only "$top/support/step.c" || fail "support/step.c does not compile"
 ! command -v "$cxx" >/dev/null || compiles "$cxx" c++ c++98 c++11 c++14 c++17
 # build NAME HEAP OUTPUT WORDS: a program, with the words for its compiler.
 build() { "$cc" -O2 -Wall -Wextra -I"$top/include" $4 "$here/$1.c" "$2" "$library" -o "$here/out/$3" || fail "$3 was not built"; }
 build serve "$here/heap.c" uip_serve
 build state "$here/heap.c" uip_state
-"$cc" -O2 -Wall -Wextra -I"$top/include" "$here/text_test.c" -o "$here/out/text_test" && "$here/out/text_test" || fail "examples/text.h does not do what it states"
-"$cc" -O2 -Wall -Wextra -I"$top/include" "$here/token_test.c" -o "$here/out/token_test" && "$here/out/token_test" || fail "examples/token.h does not do what it states"
+"$cc" -O2 -Wall -Wextra -I"$top/include" "$here/text_test.c" -o "$here/out/text_test" && "$here/out/text_test" || fail "support/text.h does not do what it states"
+"$cc" -O2 -Wall -Wextra -I"$top/include" "$here/token_test.c" -o "$here/out/token_test" && "$here/out/token_test" || fail "support/token.h does not do what it states"
 "$cc" -O2 -Wall -Wextra -I"$top/include" "$here/outcome_test.c" -o "$here/out/outcome_test" && "$here/out/outcome_test" ||
-    fail "examples/outcome.h does not do what it states"
-build step "$here/heap.c" uip_step "$top/examples/step.c"
+    fail "support/outcome.h does not do what it states"
+build step "$here/heap.c" uip_step "$top/support/step.c"
 build each_call "$here/heap.c" uip_each_call
-build each_call "$top/examples/heap.c" uip_each_call_array "-DUIP_HEAP_SIZE=UIP_MEMORY(1)"
+build each_call "$top/support/heap.c" uip_each_call_array "-DUIP_HEAP_SIZE=UIP_MEMORY(1)"
 "$here/out/uip_each_call" || fail "a call has an unexpected result"
 "$here/out/uip_each_call_array" || fail "a call has an unexpected result, with a heap of one array"
 if command -v "$cxx" >/dev/null; then
@@ -56,14 +56,14 @@ if command -v "$cxx" >/dev/null; then
     "$cxx" -std=c++11 $strict -I"$top/include" -x c++ "$here/each_call.c" -x none "$here/out/heap.o" "$library" -o "$here/out/uip_each_call_cxx" \
         || fail "the C++ program was not built"
     "$here/out/uip_each_call_cxx" || fail "a call has an unexpected result from C++"
-    "$cxx" -std=c++11 $strict -I"$top/include" -x c++ -fsyntax-only "$top/examples/heap.c" || fail "examples/heap.c is not C++"
+    "$cxx" -std=c++11 $strict -I"$top/include" -x c++ -fsyntax-only "$top/support/heap.c" || fail "support/heap.c is not C++"
 else
     echo "skipped: the C++ program, since there is no compiler $cxx"
 fi
 # The site in an array of UIP_MEMORY bytes, and of 64 bytes less.
 files=$(od -An -j8 -N2 -tu1 "$site" | awk '{ print $1 * 256 + $2 }')
-build serve "$top/examples/heap.c" uip_serve_array "-DUIP_HEAP_SIZE=UIP_MEMORY($files)"
-build serve "$top/examples/heap.c" uip_serve_short "-DUIP_HEAP_SIZE=UIP_MEMORY($files)-64"
+build serve "$top/support/heap.c" uip_serve_array "-DUIP_HEAP_SIZE=UIP_MEMORY($files)"
+build serve "$top/support/heap.c" uip_serve_short "-DUIP_HEAP_SIZE=UIP_MEMORY($files)-64"
 "$here/out/uip_serve_short" serve "$site" 10.0.0.1 </dev/null 2>"$here/out/short" && fail "a device was opened in 64 bytes less than UIP_MEMORY"
 
 if [ ! -x "$uipd" ]; then
@@ -84,7 +84,7 @@ compare() {
 compare "$top/examples/ping.slip"
 # [add: counter] fetch.slip: the page that it fetches has all counters
 compare "$top/examples/fetch.slip"
-# The loop of examples/step.c, with pieces of random sizes, and a port that is busy for a random time.
+# The loop of support/step.c, with pieces of random sizes, and a port that is busy for a random time.
 "$uipd" serve "$site" 10.0.0.1 <"$top/examples/fetch.slip" >"$here/out/by_uipd" || fail "uipd failed on fetch.slip"
 for seed in 1 2 3 4 5 6 7 8 9; do
     "$here/out/uip_step" serve "$site" 10.0.0.1 $seed <"$top/examples/fetch.slip" >"$here/out/by_c" || fail "uip_step failed on fetch.slip"

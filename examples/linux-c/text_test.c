@@ -1,8 +1,8 @@
-// Tries examples/text.h: each line has what was expected, by hand.
+// Tries support/text.h: each line has what was expected, by hand.
 #include <limits.h>
 #include <stdio.h>
 #include <string.h>
-#include "../text.h"
+#include "../../support/text.h"
 
 static int wrong;
 

@@ -1,7 +1,7 @@
-// Tries examples/token.h: each line has what was expected, by hand. The numbers of lines name the ones that fail.
+// Tries support/token.h: each line has what was expected, by hand. The numbers of lines name the ones that fail.
 #include <stdio.h>
 #include <string.h>
-#include "../token.h"
+#include "../../support/token.h"
 
 #define SEE(is_so) see(is_so, __LINE__)
 

@@ -1,7 +1,7 @@
 /*
  * A loop for a serial line that never waits for the port, and sleeps if there is nothing to do. It makes all calls of uip.h, section 7.
  *
- * COMPILE your program with -Iinclude -Iexamples, examples/step.c, and one port of examples/firmware. Or write a port: see the end.
+ * COMPILE your program with -Iinclude -Isupport, support/step.c, and one port of examples/firmware. Or write a port: see the end.
  *
  *     port          receives by             include                your port functions               your interrupts call
  *     port.c        an interrupt a byte     port.h                 port_start, port_read             on_received, on_sent
