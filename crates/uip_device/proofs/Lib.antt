@@ -4,6 +4,8 @@ pub mod CallLaws
 pub mod FrameLaws
 pub mod HandLaws
 pub mod KeepLaws
+pub mod TextCounts
+pub mod Answering
 pub mod NumberLaws
 pub mod SendLaws
 pub mod WebLaws
