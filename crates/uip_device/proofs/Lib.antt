@@ -7,6 +7,7 @@ pub mod KeepLaws
 pub mod TextCounts
 pub mod Answering
 pub mod NumberLaws
+pub mod PartLaws
 pub mod SendLaws
 pub mod WebLaws
 pub mod QueryLaws
