@@ -274,7 +274,7 @@ impl<A: App> Node<A> {
     }
 
     /// Handles a segment from a peer, which is in the packet (RFC 793, section 3.9, SEGMENT ARRIVES).
-    fn segment_arrives(&mut self, peer: Addr, seg: &Segment) -> Option<usize>
+    pub fn segment_arrives(&mut self, peer: Addr, seg: &Segment) -> Option<usize>
         requires inside { seg.now.text_at + seg.now.text_len ≤ length (datagram_in self.old.packet) }
         ensures { Refines A.App
             (λ m served n. arrives m served n (sockets_of peer seg.now)
@@ -325,7 +325,7 @@ impl<A: App> Node<A> {
     }
 
     /// Handles the datagram in the packet: checks its IP header (RFC 791) and dispatches its protocol.
-    fn take_datagram(&mut self) -> Option<usize>
+    pub fn take_datagram(&mut self) -> Option<usize>
         ensures { Refines A.App (λ m served n. step m served n (event_of n.addr (datagram_in self.old.packet))) self.old self.new result }
     {
         match check_head(self.packet.bytes(), self.addr) {
