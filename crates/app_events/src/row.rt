@@ -14,7 +14,7 @@ pub struct Row {
     pub state: State,
     /// The number of retransmissions of what is outstanding.
     pub tries: u8,
-    /// The ticks until the timer acts.
+    /// The ticks that pass before the timer acts: it acts at the tick after them.
     pub count: u8,
     /// Whether something is outstanding.
     pub waiting: bool,

@@ -21,7 +21,7 @@ pub(crate) fn frame_datagram(arp: &Arp, datagram: &[u8], out: &mut [u8]) -> usiz
         → take result out.new ≡ framed (wrapped (host_of arp.now) acts datagram.now) }
 {
     let (length, frame) = out.split_at_mut(2);
-    let len = wrap(arp, Addr::get(datagram, 16), datagram, frame);
+    let len = wrap(arp, datagram, frame);
     put16(length, 0, len as u16);
     2 + len
 }

@@ -19,5 +19,5 @@ pub use ether_loop::serve_ether;
 pub use laws::{constant_values, datagrams_fit_frames, datagrams_go_home, frames_bring_bytes};
 pub use mac::Mac;
 pub use received::{Taken, take};
-pub use sent::wrap;
+pub use sent::{wrap, wrap_via};
 pub use sizes::{ARP_ENTRIES, ARP_FRAME, ARP_TICKS, LARGEST_FRAME, SMALLEST_FRAME};

@@ -10,7 +10,7 @@ ghost use Rattle.frame_device.specs.NextHop.{interface_at};
 
 use crate::frames::{Decoded, Frames, LARGEST_OUT};
 use crate::network::Network;
-use ethernet_arp::{ARP_FRAME, Arp, LARGEST_FRAME, Mac, SMALLEST_FRAME, Taken, take, wrap};
+use ethernet_arp::{ARP_FRAME, Arp, LARGEST_FRAME, Mac, SMALLEST_FRAME, Taken, take, wrap_via};
 use uip_wire::Addr;
 
 /// The length of the shortest datagram that is sent, a header alone, in bytes.
@@ -102,7 +102,7 @@ impl Frames for Ethernet {
             return 0;
         }
         let hop = self.network.next_hop(self.arp.own, Addr::get(datagram, 16));
-        wrap(&self.arp, hop, datagram, out)
+        wrap_via(&self.arp, hop, datagram, out)
     }
 
     ghost bytes = { ether_brings_bytes };

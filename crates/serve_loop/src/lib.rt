@@ -12,6 +12,6 @@ mod slip;
 
 pub use laws::{serial_lines_bring_bytes, serial_station_events_are_events};
 pub use line_loop::{budget_is_reported, end_is_reported, serve, serve_over};
-pub use line_turn::take_turn;
+pub use line_turn::poll_link;
 pub use pacer::Pacer;
 pub use slip::Slip;

@@ -4,7 +4,7 @@ ghost use Rattle.std.specs.Prelude.{◌≡◌};
 ghost use Rattle.uip_edge.specs.Prelude.{line_view};
 ghost use Rattle.serve_loop.specs.Prelude.{BudgetIsReported, EndIsReported, ServesFresh, ServesOver, ServesPaced, any_acts, slip_medium};
 
-use crate::line_turn::take_turn;
+use crate::line_turn::poll_link;
 use crate::pacer::Pacer;
 use crate::slip::Slip;
 use app_events::App;
@@ -71,7 +71,7 @@ fn serve_line<A: App, M: Medium, L: Link, K: Sink>(
     let mut left = items;
     while left > 0 {
         let room = left.min(BLOCK as u64) as usize;
-        match take_turn(medium, pacer, node, &mut buf[..room], link, sink) {
+        match poll_link(medium, pacer, node, &mut buf[..room], link, sink) {
             Turn::Took(count) => left -= count,
             Turn::Ended(end) => return end,
         }

@@ -7,7 +7,7 @@ ghost use Rattle.uip_edge.specs.Prelude.{HasCause, TurnFits, BreaksOff, line_vie
 ghost use Rattle.serve_loop.specs.Prelude.{BreaksBrought, BreaksBytes, PlaysBrought, PlaysBytes};
 ghost use Rattle.serve_loop.specs.Prelude.{TakesBytes, IfLinkEnded, TakesTurn, place};
 
-use crate::node_output::{take_datagram, tick};
+use crate::node_output::{input_datagram, tick};
 use crate::pacer::Pacer;
 use app_events::App;
 use line_medium::{Decoded, Medium};
@@ -17,7 +17,7 @@ use uip_node::Node;
 /// Takes one turn at a line: polls the link and inputs what it returned to the node. All output that is due for it is written when this
 /// returns. If the link fails, the turn has consumed nothing. The link is thus never polled between bytes that it returned and their
 /// output.
-pub fn take_turn<A: App, M: Medium, L: Link, K: Sink>(
+pub fn poll_link<A: App, M: Medium, L: Link, K: Sink>(
     medium: &mut M,
     pacer: &mut Pacer,
     node: &mut Node<A>,
@@ -40,7 +40,7 @@ pub fn take_turn<A: App, M: Medium, L: Link, K: Sink>(
             Ok(()) => Turn::Took(1),
             Err(Failed) => Turn::Ended(ServeEnd::WriteFault),
         },
-        Ok(Got::Bytes(count)) => match take_bytes(medium, pacer, node, &buf[..count], sink) {
+        Ok(Got::Bytes(count)) => match feed_bytes(medium, pacer, node, &buf[..count], sink) {
             Ok(()) => Turn::Took(count as u64),
             Err(Failed) => Turn::Ended(ServeEnd::WriteFault),
         },
@@ -48,7 +48,7 @@ pub fn take_turn<A: App, M: Medium, L: Link, K: Sink>(
 }
 
 /// Feeds bytes.
-fn take_bytes<A: App, M: Medium, K: Sink>(
+fn feed_bytes<A: App, M: Medium, K: Sink>(
     medium: &mut M,
     pacer: &mut Pacer,
     node: &mut Node<A>,
@@ -66,14 +66,14 @@ fn take_bytes<A: App, M: Medium, K: Sink>(
 {
     let mut rest = bytes;
     while !rest.is_empty() {
-        let count = take_prefix(medium, pacer, node, rest, sink)?;
+        let count = feed_prefix(medium, pacer, node, rest, sink)?;
         rest = &rest[count..];
     }
     Ok(())
 }
 
 /// Feeds a prefix of the bytes, of which only the last one may complete a frame or make a tick.
-fn take_prefix<A: App, M: Medium, K: Sink>(
+fn feed_prefix<A: App, M: Medium, K: Sink>(
     medium: &mut M,
     pacer: &mut Pacer,
     node: &mut Node<A>,
@@ -91,7 +91,7 @@ fn take_prefix<A: App, M: Medium, K: Sink>(
     ensures cause { HasCause (K.faults sink.old) (K.faults sink.new) result }
 {
     let due = pacer.due(bytes.len());
-    let count = take_run(medium, node, &bytes[..due], sink)?;
+    let count = feed_medium(medium, node, &bytes[..due], sink)?;
     if pacer.pass(count) {
         tick(node, medium, sink)?;
     }
@@ -99,7 +99,7 @@ fn take_prefix<A: App, M: Medium, K: Sink>(
 }
 
 /// Feeds a prefix of the bytes, of which only the last one may complete a frame, whatever the pace.
-fn take_run<A: App, M: Medium, K: Sink>(
+fn feed_medium<A: App, M: Medium, K: Sink>(
     medium: &mut M,
     node: &mut Node<A>,
     bytes: &[u8],
@@ -124,7 +124,7 @@ fn take_run<A: App, M: Medium, K: Sink>(
             Ok(run.count)
         }
         Decoded::Datagram(count) => {
-            take_datagram(node, medium, count, sink)?;
+            input_datagram(node, medium, count, sink)?;
             Ok(run.count)
         }
         Decoded::Own(count) => {

@@ -32,7 +32,7 @@ fn write_sent<A: App, M: Medium, K: Sink>(
 }
 
 /// Inputs the datagram that was just decoded to the node, and writes the reply.
-pub(crate) fn take_datagram<A: App, M: Medium, K: Sink>(
+pub(crate) fn input_datagram<A: App, M: Medium, K: Sink>(
     node: &mut Node<A>,
     medium: &mut M,
     count: usize,

@@ -131,6 +131,6 @@ pub record Ran : Type 0 where
 abbrev pub run : AppSpec → (ℕ → Bool) → List Event → AbstractNode → Ran
 run m served [] n = record { node = n; sent = [] }
 run m served (e ∷ es) n =
-    let iss : NodeStep = step m served n e in
-    let rest : Ran = run m served es iss.node in
-    record { node = rest.node; sent = joined iss.sent rest.sent }
+    let first : NodeStep = step m served n e in
+    let rest : Ran = run m served es first.node in
+    record { node = rest.node; sent = joined first.sent rest.sent }

@@ -15,4 +15,4 @@ pub use encoder::{Encoder, encode, encoded_len, text_is_one_frame};
 pub use fed::{Fed, FedRun};
 pub use marks::END;
 pub use part::Part;
-pub use slip_text::{put_escaped, text_into};
+pub use slip_text::put_escaped;

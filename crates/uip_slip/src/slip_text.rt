@@ -2,9 +2,9 @@
 //! run is searched for and the run copied as a whole. This bounds the cost of the worst input.
 
 ghost use Rattle.std.specs.Prelude.{◌≡◌, ◌≤◌, ◌<◌, ◌+◌, ◌*◌, ◌/◌, ◌%◌, ◌++◌, [], ◌∷◌, length, take};
-ghost use Rattle.uip_slip.specs.Text.{PutsPrefix, escaped, escaped_byte, slip_text};
+ghost use Rattle.uip_slip.specs.Text.{PutsPrefix, escaped, escaped_byte};
 
-use crate::marks::{END, plain_len};
+use crate::marks::plain_len;
 use uip_wire::copy_bytes;
 
 /// This many bytes go one by one if marks are close together.
@@ -172,16 +172,4 @@ pub fn put_escaped(out: &mut [u8], len: usize, piece: &[u8]) -> usize
         rest = &rest[run.count..];
     }
     end
-}
-
-/// Writes the text of a datagram to the start of an area, and returns its length in bytes (RFC 1055).
-pub fn text_into(out: &mut [u8], datagram: &[u8]) -> usize
-    requires { 2 * length datagram.now + 2 ≤ length out.old }
-    ensures long { length out.new ≡ length out.old }
-    ensures within { result ≤ length out.new }
-    ensures text { take result out.new ≡ slip_text datagram.now }
-{
-    let start = put(out, 0, &[END]);
-    let end = put_escaped(out, start, datagram);
-    put(out, end, &[END])
 }

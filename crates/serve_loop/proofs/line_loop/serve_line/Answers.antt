@@ -27,11 +27,11 @@ loop-left-preserved g c = record {
       record {
         taken = inv.taken ++ turn.items;
         are = All-append IsItem inv.taken turn.items inv.are turn.are;
-        consumed = Consumes-then (g.L.Link.coming c.args.link.now) (g.L.Link.coming c.loop-left.link) (g.L.Link.coming c.take_turn.new.link) inv.taken turn.items inv.consumed turn.consumed;
+        consumed = Consumes-then (g.L.Link.coming c.args.link.now) (g.L.Link.coming c.loop-left.link) (g.L.Link.coming c.poll_link.new.link) inv.taken turn.items inv.consumed turn.consumed;
         number = omega (arith, length-append inv.taken turn.items, turn.cause.0, inv.number, c.in-Took.ensures.fits.1, room);
         at = rw bytes_among-append turn.on;
-        wrote = on_wrote g.A.App (g.M.Medium.spec k) (g.M.Medium.did c.args.medium.now k) (g.M.Medium.did c.loop-left.medium k) (g.M.Medium.did c.take_turn.new.medium k) pace inv.taken turn.items c.args.node.now c.loop-left.node c.take_turn.new.node
-            (g.K.Sink.written c.args.sink.now) (g.K.Sink.written c.loop-left.sink) (g.K.Sink.written c.take_turn.new.sink) inv.wrote turn.wrote;
+        wrote = on_wrote g.A.App (g.M.Medium.spec k) (g.M.Medium.did c.args.medium.now k) (g.M.Medium.did c.loop-left.medium k) (g.M.Medium.did c.poll_link.new.medium k) pace inv.taken turn.items c.args.node.now c.loop-left.node c.poll_link.new.node
+            (g.K.Sink.written c.args.sink.now) (g.K.Sink.written c.loop-left.sink) (g.K.Sink.written c.poll_link.new.sink) inv.wrote turn.wrote;
         calm = calm_then _ _ _ inv.calm turn.cause.1;
       };
 }
@@ -40,10 +40,10 @@ pub returns-in-Ended-clause-serves : goal.returns-in-Ended-clause-serves
 returns-in-Ended-clause-serves g c = λ k pace h.
     let inv = c.loop-left.invariant.served k pace h in
     let room = length-take c.min-room.result c.loop-left.buf in
-    stopped g.A.App g.M.Medium k c.args.medium.now c.loop-left.medium c.take_turn.new.medium pace c.args.items inv.taken c.args.node.now c.loop-left.node c.take_turn.new.node
+    stopped g.A.App g.M.Medium k c.args.medium.now c.loop-left.medium c.poll_link.new.medium pace c.args.items inv.taken c.args.node.now c.loop-left.node c.poll_link.new.node
     (line_view g.L.Link g.K.Sink c.args.link.now c.args.sink.now)
     (line_view g.L.Link g.K.Sink c.loop-left.link c.loop-left.sink)
-    (line_view g.L.Link g.K.Sink c.take_turn.new.link c.take_turn.new.sink)
+    (line_view g.L.Link g.K.Sink c.poll_link.new.link c.poll_link.new.sink)
     _ _ c.in-Ended.end inv.are inv.consumed (omega arith) (omega (arith, inv.number, room)) inv.calm inv.wrote
     (c.in-Ended.ensures.turns k pace (bytes_among inv.taken) inv.at)
 

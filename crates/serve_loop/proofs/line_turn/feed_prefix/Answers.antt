@@ -1,6 +1,6 @@
 use Rattle.serve_loop.proofs.Prelude.{arith, length-take, on_err}
 use Rattle.serve_loop.proofs.PrefixLaws.{prefix_broke, prefix_taken, rest_wrote, tick_broke, tick_wrote}
-use Rattle.serve_loop.proofs.line_turn.take_prefix.Goals as goal
+use Rattle.serve_loop.proofs.line_turn.feed_prefix.Goals as goal
 
 pub returns-in_err-count-clause-err : goal.returns-in_err-count-clause-err
 returns-in_err-count-clause-err g c = on_err _
@@ -28,7 +28,7 @@ returns-in_ok-tick-clause-ok g c =
 pub returns-else-pass-clause-taken : goal.returns-else-pass-clause-taken
 returns-else-pass-clause-taken g c =
     prefix_taken g.M.Medium.spec (λ k before. g.M.Medium.fed c.args.medium.now k before) c.args.pacer.now c.args.bytes.now c.due-due.result c.due-due.ensures.within c.due-due.ensures.reaches
-    (λ k before. g.M.Medium.fed c.take_run.new.medium k before) _ c.in_ok-count.count (omega (arith, c.in_ok-count.ensures.count.1, length-take c.due-due.result c.args.bytes.now))
+    (λ k before. g.M.Medium.fed c.feed_medium.new.medium k before) _ c.in_ok-count.count (omega (arith, c.in_ok-count.ensures.count.1, length-take c.due-due.result c.args.bytes.now))
     c.in_ok-count.ensures.fed c.pass.ensures.pace c.pass.ensures.passed
 
 pub returns-else-pass-clause-ok : goal.returns-else-pass-clause-ok

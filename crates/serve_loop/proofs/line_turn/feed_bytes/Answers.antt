@@ -1,7 +1,7 @@
 use Rattle.serve_loop.proofs.Prelude.{◌≡◌, ◌++◌, [], ◌∙◌, List, ℕ, length, take, refl, sym, subst, append-nil, append_assoc, eqb-true, moved_on, on_err, HasTaken}
 use Rattle.serve_loop.proofs.PrefixLaws.{all_in_prefix, after_broke, after_wrote}
 use Rattle.serve_loop.proofs.RunLaws.{wrote_none}
-use Rattle.serve_loop.proofs.line_turn.take_bytes.Goals as goal
+use Rattle.serve_loop.proofs.line_turn.feed_bytes.Goals as goal
 
 pub loop-rest-init : goal.loop-rest-init
 loop-rest-init g c = record {

@@ -1,10 +1,10 @@
 use Rattle.serve_loop.proofs.Prelude.{◌≡◌, take, length, map, arith, All-map, Byte, counted, bytes_among-map, IsItem}
-use Rattle.serve_loop.proofs.line_turn.take_turn.Goals as goal
+use Rattle.serve_loop.proofs.line_turn.poll_link.Goals as goal
 
-pub returns-in-Ok-take_bytes-clause-turns : goal.returns-in-Ok-take_bytes-clause-turns
-returns-in-Ok-take_bytes-clause-turns g c = λ k pace before h.
+pub returns-in-Ok-feed_bytes-clause-turns : goal.returns-in-Ok-feed_bytes-clause-turns
+returns-in-Ok-feed_bytes-clause-turns g c = λ k pace before h.
     let reported = rw c.in-Ok-Bytes.field-0-is at c.in-Ok-Bytes.ensures in
-    let done = c.in-Ok-take_bytes.ensures in
+    let done = c.in-Ok-feed_bytes.ensures in
     let bytes = take c.in-Ok-Bytes.count c.next.new.buf in
     let count : length (map Byte bytes) ≡ c.in-Ok-Bytes.count = counted c.in-Ok-Bytes.count c.next.new.buf reported.count.1 in
     record {
@@ -17,10 +17,10 @@ returns-in-Ok-take_bytes-clause-turns g c = λ k pace before h.
       wrote = done.ok k pace before h;
     }
 
-pub returns-in-Err-take_bytes-clause-turns : goal.returns-in-Err-take_bytes-clause-turns
-returns-in-Err-take_bytes-clause-turns g c = λ k pace before h.
+pub returns-in-Err-feed_bytes-clause-turns : goal.returns-in-Err-feed_bytes-clause-turns
+returns-in-Err-feed_bytes-clause-turns g c = λ k pace before h.
     let reported = rw c.in-Ok-Bytes.field-0-is at c.in-Ok-Bytes.ensures in
-    let done = c.in-Err-take_bytes.ensures in
+    let done = c.in-Err-feed_bytes.ensures in
     let bytes = take c.in-Ok-Bytes.count c.next.new.buf in
     record {
       items = map Byte bytes;

@@ -1,6 +1,6 @@
 use Rattle.serve_loop.proofs.Prelude.{subst, Addr, event_of, step, Steps}
 use Rattle.serve_loop.proofs.NodeLaws.{call_reported}
-use Rattle.serve_loop.proofs.node_output.take_datagram.Goals as goal
+use Rattle.serve_loop.proofs.node_output.input_datagram.Goals as goal
 
 pub returns : goal.returns
 returns g c =

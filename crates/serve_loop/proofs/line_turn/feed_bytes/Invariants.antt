@@ -1,5 +1,5 @@
 use Rattle.serve_loop.proofs.Prelude.{◌≡◌, ◌++◌, List, ℕ, length, map, AppSpec, Byte, Addr, station_events_after, AllWritten, HasTaken, IsHere}
-use Rattle.serve_loop.proofs.line_turn.take_bytes.Given as goal
+use Rattle.serve_loop.proofs.line_turn.feed_bytes.Given as goal
 
 abbrev pub invariant-loop-rest : goal.invariant-loop-rest
 invariant-loop-rest g l = record {
