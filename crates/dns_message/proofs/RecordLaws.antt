@@ -45,13 +45,6 @@ none_left zero m bytes size e = absurd (omega arith)
 none_left (suc n) m bytes size e =
     ap (λ l. by_list (suc n) (records_by (records n) l)) e ∙ ap (λ b. answer_by None b) (not_all n)
 
-pub address_first : (n m : ℕ) (bytes rest : List ℕ) (r : Record) → n ≡ m + 1 → first_record bytes ≡ Some (r, rest) → is_address r ≡ true
-    → answer_of_records n bytes ≡ Some (Address (record { 0 = r.content }))
-address_first zero m bytes rest r size e is = absurd (omega arith)
-address_first (suc n) m bytes rest r size e is =
-    ap (λ l. by_list (suc n) (records_by (records n) l)) e
-    ∙ ap (λ t. answer_by (cond t (Some r) (find is_address (records n rest))) (eqb (length (r ∷ records n rest)) (suc n))) is
-
 same_size : (a b : ℕ) → eqb (suc a) (suc b) ≡ eqb a b
 same_size a b = grind arith
 

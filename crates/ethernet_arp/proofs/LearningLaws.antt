@@ -95,10 +95,6 @@ or_same true false = refl
 or_same false true = refl
 or_same false false = refl
 
-or_true : (a : Bool) → (a || true) ≡ true
-or_true true = refl
-or_true false = refl
-
 or_false : (a : Bool) → (a || false) ≡ a
 or_false true = refl
 or_false false = refl

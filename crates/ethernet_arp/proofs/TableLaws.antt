@@ -5,9 +5,6 @@ use Rattle.ethernet_arp.proofs.LearningLaws.{addresses-learnt, addresses-tick, i
 pub like_same : (xs : List (List ℕ)) → IsAlike xs xs
 like_same xs = record { size = refl; same = λ y. refl }
 
-like_then : (xs ys zs : List (List ℕ)) → IsAlike xs ys → IsAlike ys zs → IsAlike xs zs
-like_then xs ys zs e f = record { size = e.size ∙ f.size; same = λ y. e.same y ∙ f.same y }
-
 like_more : (x : List ℕ) (xs ys : List (List ℕ)) → IsAlike xs ys → IsAlike (x ∷ xs) (x ∷ ys)
 like_more x xs ys e = record { size = let s = e.size in omega arith; same = λ y. ap (λ v. bytes_eq x y || v) (e.same y) }
 

@@ -7,9 +7,6 @@ fault_at c image places place = script_fault_by c (files_in image places) (file_
 abbrev pub AreSoundTo : {F : Type 0} → Calling F → List ℕ → List Place → ℕ → Type 0
 AreSoundTo c image places index = (k : ℕ) (place : Place) → k < index → slice_get places k ≡ Some place → fault_at c image places place ≡ None
 
-pub sound-starts : {F : Type 0} (c : Calling F) (image : List ℕ) (places : List Place) → AreSoundTo c image places 0
-sound-starts c image places k place less s = absurd (omega (arith, less))
-
 pub sound-goes-on : {F : Type 0} (c : Calling F) (image : List ℕ) (places : List Place) (index : ℕ) (d : Place) → AreSoundTo c image places index
     → fault_at c image places (get_or places index d) ≡ None → AreSoundTo c image places (index + 1)
 sound-goes-on c image places index d sound here k place less s =

@@ -36,13 +36,3 @@ same-from-equal (x ∷ xs) [] e = absurd cc
 same-from-equal (x ∷ xs) (y ∷ ys) e =
     let both = both-equal (nat_cmp x y) (slice_cmp nat_cmp xs ys) e in
     ap (λ z. z ∷ xs) (same-number x y both.0) ∙ ap (λ zs. y ∷ zs) (same-from-equal xs ys both.1)
-
--- the name of a file by its place
-pub name-of-place : (image : List ℕ) (places : List Place) (id : ℕ) (place : Place) → id < length places → place ≡ get_or places id place
-    → name_of (files_in image places) id ≡ (file_in image place).name
-name-of-place image places id place lt is =
-    ap (λ (f : File). f.name) (get_or-map (file_in image) places id place (record { name = []; kind = []; content = [] }) lt ∙ ap (file_in image) (sym is))
-
--- a place that was read lies within the image
-pub place-within : (image : List ℕ) (places : List Place) (id : ℕ) (place : Place) → AreWithin image places → id < length places → place ≡ get_or places id place → IsWithin image place
-place-within image places id place within lt is = within id place (slice_get_read places (length places) id place refl lt is)

@@ -11,16 +11,6 @@ pub record Packs (files : List File) (i : ℕ) (made : List ℕ) (places : List 
   pub names : named [] files ≡ named (take i files) (drop i files)
   pub count : length places ≡ i
 
-pub packs-start : (files : List File) (made : List ℕ) (places : List Place) (order : List FileId) → made ≡ magic One ++ to_be_bytes w16 (length files) → places ≡ [] → order ≡ []
-    → Packs files 0 made places order
-packs-start files made places order is none empty = record {
-  made_is = is ∙ sym (append-nil (magic One ++ to_be_bytes w16 (length files)));
-  files_are = ap (files_in made) none;
-  table = subst (λ os. IsIndex made places os) (sym empty) (subst (λ ps. IsIndex made ps []) (sym none) (table-empty made));
-  names = refl;
-  count = ap length none;
-}
-
 -- what is left of the room
 pub packs-room : (files : List File) (i : ℕ) (made : List ℕ) (places : List Place) (order : List FileId) (d : File) → Packs files i made places order → i < length files
     → length (image One files) ≤ LONGEST_IMAGE → length made + length (entry One (get_or files i d)) ≤ LONGEST_IMAGE

@@ -8,14 +8,6 @@ pub record Searches (files : List File) (order : List FileId) (name : List ℕ) 
   pub below : (rank : ℕ) → rank < low → IsBefore (name_at files order rank) name
   pub above : (rank : ℕ) → high ≤ rank → rank < length order → IsBefore name (name_at files order rank)
 
-pub search-starts : (files : List File) (order : List FileId) (name : List ℕ) → Searches files order name 0 (length order)
-search-starts files order name = record {
-  ordered = omega arith;
-  within = omega arith;
-  below = λ rank lt. absurd (omega arith);
-  above = λ rank from lt. absurd (omega arith);
-}
-
 pub search-above : (files : List File) (order : List FileId) (name : List ℕ) (low high middle : ℕ) → IsOrder files order → Searches files order name low high
     → low ≤ middle → middle < high → IsBefore (name_at files order middle) name → Searches files order name (middle + 1) high
 search-above files order name low high middle is s from lt before =
@@ -43,9 +35,3 @@ search-below files order name low high middle is s from lt after =
         | inr other ↦ before-trans name (name_at files order middle) (name_at files order rank) after (is.rising middle rank (omega arith) less)
       ];
     }
-
-pub search-ends : (files : List File) (order : List FileId) (name : List ℕ) (low high : ℕ) → Searches files order name low high → high ≤ low → IsSlot files order name low
-search-ends files order name low high s done =
-    let ordered = s.ordered in
-    let within = s.within in
-    record { within = omega arith; below = s.below; above = λ rank from lt. s.above rank (omega arith) lt }

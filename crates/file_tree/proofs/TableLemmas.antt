@@ -41,14 +41,6 @@ table-insert image places order place slot number table one s is = record {
       (subst (λ n. IsOrder (files_in image places ++ file_in image place ∷ []) (insert order slot (record { 0 = n }))) count grown);
 }
 
-pub reading-starts : (image : List ℕ) (version : Version) (count : ℕ) → 10 ≤ length image → Reading image version count 0 10 [] []
-reading-starts image version count long = record {
-  same = let e : count - 0 ≡ count = omega arith in ap (λ n. entries version n [] (drop 10 image)) e;
-  number_is = refl;
-  table = table-empty image;
-  inside = long;
-}
-
 -- what reading gives where an entry is left
 one-entry : (version : Version) (left : ℕ) (earlier : List File) (bytes : List ℕ) → entries version (suc left) earlier bytes
     ≡ unless (entry_fault version earlier bytes) (length earlier + 1) (entries version left (earlier ++ entry_file version bytes ∷ []) (after_entry version bytes))

@@ -10,17 +10,8 @@ part-at xs before part after at len is here size =
     ∙ ap (take len) (drop_at before (part ++ after) at (sym here))
     ∙ take_at part after len (sym size)
 
--- the lengths of an entry
-short-size : (t : List ℕ) → length (short_text t) ≡ length t + 1
-short-size t = omega arith
-
 long-size : (c : List ℕ) → length (long_text c) ≡ length c + 4
 long-size c = omega (arith, length-append (to_be_bytes w32 (length c)) c)
-
-pub entry-size : (version : Version) (file : File) → IsKindIn version file.kind → length (entry version file) ≤ length file.name + length file.kind + length file.content + 6
-entry-size One file kind = omega (arith, length-append (short_text file.name) (long_text file.content), long-size file.content)
-entry-size Two file kind =
-    omega (arith, length-append (short_text file.name) (short_text file.kind ++ long_text file.content), length-append (short_text file.kind) (long_text file.content), long-size file.content)
 
 pub record Written (version : Version) (old : List ℕ) (file : File) : Type 0 where
   pub within : IsWithin (old ++ entry version file) (place_after version (length old) (length file.name) (length file.kind) (length file.content))

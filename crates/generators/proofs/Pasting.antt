@@ -82,15 +82,6 @@ put_holds text piece out place from to count f t n h =
           ];
     }
 
--- the end of ten spaces is the spaces that fill a number up
-pub padding : (n : ℕ) → slice_range {X = ℕ} (32 ∷ 32 ∷ 32 ∷ 32 ∷ 32 ∷ 32 ∷ 32 ∷ 32 ∷ 32 ∷ 32 ∷ []) n 10 ≡ replicate (10 - n) 32
-padding n =
-    let spaces : List ℕ = replicate (10 - n) 32 in
-    let e : drop n (replicate 10 32) ≡ spaces = drop-replicate n 10 32 in
-    let l : length spaces ≡ 10 - n = length-replicate {A = ℕ} (10 - n) 32 in
-    let m : length spaces ≤ 10 - n = omega (arith, l) in
-    ap (λ (xs : List ℕ). take (10 - n) xs) e ∙ take_all (10 - n) spaces m
-
 -- two pieces that were appended to a text are one
 pub holds_joined : (text a b c : List ℕ) (place : Place) (out : List ℕ) → HoldsPart (text ++ a ++ b) place out → a ++ b ≡ c → HoldsPart (text ++ c) place out
 holds_joined text a b c place out h e =

@@ -43,17 +43,6 @@ acked_all g files p text whole output =
 
 -- ---- what is requested
 
-want_by : {F : Type 0} (g : ScriptFunctions F) (files : List File) (p : AppState) (text : List ℕ) (whole : Bool) → WasSentIn g files p text whole → (p.polls == 20) ≡ false → want_left text whole ≡ web_want_by g files p
-want_by g files p text whole output polls = sym (
-    ap (λ b. if b then Abort else (if is_whole_by g files p.input p.snapshots && is_acknowledged_by g files p then Close else (if nat_lt 0 (left_of_by g files p) then Send (min 1460 (left_of_by g files p)) else Nothing))) polls
-    ∙ (λ i. if output.ends i && acked_all g files p text whole output i then Close else (if nat_lt 0 (output.left i) then Send (min 1460 (output.left i)) else Nothing)))
-
-pub reply_wants : {F R : Type 0} (g : ScriptFunctions F) (text : R → List ℕ) (a : Pages R) (site : SiteContent) (found : Option FileId) (p : AppState) → a.stage ≡ stage.Reply found → (a.polls ≡ 20 → ⊥) → PagesRepresent g text a site p
-    → want_left (text_of g text a site found) (end_of g text a site found) ≡ web_want_by g (files_of site) p
-reply_wants g text a site found p e polls s =
-    let is = replying g text a site p found e s in
-    want_by g (files_of site) p (text_of g text a site found) (end_of g text a site found) (is_sent g text a site found p is.0 is.1) (ne_eqb p.polls 20 (λ h. polls (s.polls ∙ h)))
-
 -- if nothing is sent
 nothing_sent : {F : Type 0} (g : ScriptFunctions F) (files : List File) (p : AppState) (w : Wanted) (whole : Bool) → wanted p.input ≡ w → page_for_by g files w p.snapshots ≡ [] → whole_for_by g files w p.snapshots ≡ whole → SendsNothing p → WasSentIn g files p [] whole
 nothing_sent g files p w whole e text end none =
@@ -63,12 +52,6 @@ nothing_sent g files p w whole e text end none =
       ends = ap (λ v. whole_for_by g files v p.snapshots) e ∙ end;
       within = omega (arith, none.acked);
     }
-
-pub open_wants : {F : Type 0} (g : ScriptFunctions F) (files : List File) (p : AppState) → wanted p.input ≡ NotYet → SendsNothing p → (p.polls ≡ 20 → ⊥) → Nothing ≡ web_want_by g files p
-open_wants g files p e none polls = want_by g files p [] false (nothing_sent g files p NotYet false e refl refl none) (ne_eqb p.polls 20 polls)
-
-pub refused_wants : {F : Type 0} (g : ScriptFunctions F) (files : List File) (p : AppState) → wanted p.input ≡ Refused → SendsNothing p → (p.polls ≡ 20 → ⊥) → Close ≡ web_want_by g files p
-refused_wants g files p e none polls = want_by g files p [] true (nothing_sent g files p Refused true e refl refl none) (ne_eqb p.polls 20 polls)
 
 pub gives_up : {F : Type 0} (g : ScriptFunctions F) (files : List File) (p : AppState) → p.polls ≡ 20 → Abort ≡ web_want_by g files p
 gives_up g files p e =
@@ -141,12 +124,6 @@ pub not_due : {F R : Type 0} (g : ScriptFunctions F) (text : R → List ℕ) (a 
     → PagesRepresent g text a site (prepared g (files_of site) p snapshot)
 not_due g text a site found p snapshot e due s =
     subst (λ q. PagesRepresent g text a site q) (sym (none_due g text a site found p snapshot e due s)) s
-
--- a request that is not decided, or refused: the part stays
-pub quiet_prepared : {F : Type 0} (g : ScriptFunctions F) (files : List File) (p : AppState) (snapshot : Snapshot) (w : Wanted) → wanted p.input ≡ w → waits_for_capture_by g files w p ≡ false → prepared g files p snapshot ≡ p
-quiet_prepared g files p snapshot w e never =
-    prepared_by g files p snapshot false
-    (ap (λ v. is_acknowledged_by g files p && waits_for_capture_by g files v p) e ∙ ap (λ b. is_acknowledged_by g files p && b) never ∙ Rattle.std.proofs.Math.Bool.and-false (is_acknowledged_by g files p))
 
 pub other_inner : {F R : Type 0} (g : ScriptFunctions F) (text : R → List ℕ) (site : SiteContent) (found : Option FileId) (one other : R) (next : ℕ) → IsInner (reply_by g text site found one) next → IsInner (reply_by g text site found other) next
 other_inner g text site found one other next is = record { script = is.script; goes_on = record { within = is.goes_on.within; between = is.goes_on.between } }

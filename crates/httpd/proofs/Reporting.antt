@@ -92,9 +92,3 @@ refused_stays g text a site p piece e s =
 
 pub hits_opened : (files : List File) (hits : List ℕ) (before after : Wanted) → before ≡ NotYet → hits_by files hits NotYet after ≡ hits_by files hits before after
 hits_opened files hits before after e = ap (λ w. hits_by files hits w after) (sym e)
-
-pub hits_named : (files : List File) (hits : List ℕ) (before after : Wanted) (name : List ℕ) → before ≡ Name name → hits ≡ hits_by files hits before after
-hits_named files hits before after name e = ap (λ w. hits_by files hits w after) (sym e)
-
-pub hits_refused : (files : List File) (hits : List ℕ) (before after : Wanted) → before ≡ Refused → hits ≡ hits_by files hits before after
-hits_refused files hits before after e = ap (λ w. hits_by files hits w after) (sym e)

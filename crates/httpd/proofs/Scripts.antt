@@ -25,9 +25,6 @@ between_by script at (inr end) opened = end
 pub body_place : {F : Type 0} (r : FileReply F) (at : ℕ) → IsPlace (body r) at → IsBodyPlace r at
 body_place r at is = record { within = is.0; between = λ script opened. between_by (body r) at is.1 opened }
 
-pub inner_place : {F : Type 0} (r : FileReply F) (at : ℕ) → is_scripted r.file ≡ true → IsPlace (body r) at → IsInner r at
-inner_place r at script is = record { script = script; goes_on = body_place r at is }
-
 pub script_from : {F : Type 0} (r : FileReply F) (a : ℕ) → is_scripted r.file ≡ true → body_from r a ≡ map (λ found. piece_output r.files (body r) found.piece) (pieces_by r.functions.function_table.named (body r) a)
 script_from r a e = ap (λ b. if b then map (λ found. piece_output r.files (body r) found.piece) (pieces_by r.functions.function_table.named (body r) a) else Plain (drop a (body r)) ∷ []) e
 

@@ -6,18 +6,12 @@ use Rattle.httpd.proofs.Seeing.{keeps_in}
 
 -- ---- text past a place
 
-pub past_none : {F : Type 0} (g : ScriptFunctions F) (files : List File) (a : List (ScriptPiece F)) → IsPast g files 0 a a
-past_none g files a = record { text = λ later. refl; whole = λ later. refl; calls = refl }
-
 pub past_more : {F : Type 0} (g : ScriptFunctions F) (files : List File) (n m : ℕ) (a b c : List (ScriptPiece F)) → IsPast g files n a b → IsPast g files m b c → IsPast g files (n + m) a c
 past_more g files n m a b c p q = record {
   text = λ later. q.text later ∙ ap (λ xs. drop m xs) (p.text later) ∙ drop-drop m n (text_by g files a later);
   whole = λ later. q.whole later ∙ p.whole later;
   calls = q.calls ∙ p.calls;
 }
-
-pub past_to : {F : Type 0} (g : ScriptFunctions F) (files : List File) (n m : ℕ) (a b : List (ScriptPiece F)) → n ≡ m → IsPast g files n a b → IsPast g files m a b
-past_to g files n m a b e p = subst (λ k. IsPast g files k a b) e p
 
 past_leads : {F : Type 0} (g : ScriptFunctions F) (files : List File) (a b : List (ScriptPiece F)) (prefix : List ℕ) (n : ℕ) → n ≡ length prefix → Leads g files a prefix b → IsPast g files n a b
 past_leads g files a b prefix n e leads = record {
@@ -72,9 +66,6 @@ pub record Walks {F : Type 0} (r : FileReply F) (start thread : Thread) (n : ℕ
   pub kept : KeepsOn r start thread
   pub history : IsPast r.functions r.files n (left_from r start) (left_from r thread)
 
-pub walks_none : {F : Type 0} (r : FileReply F) (start : Thread) → Fits r start → Walks r start start 0
-walks_none r start fits = record { fits = fits; kept = λ captures keeps. keeps; history = past_none r.functions r.files (left_from r start) }
-
 pub walks_to : {F : Type 0} (r : FileReply F) (start thread : Thread) (n m : ℕ) → n ≡ m → Walks r start thread n → Walks r start thread m
 walks_to r start thread n m e w = subst (λ k. Walks r start thread k) e w
 
@@ -85,16 +76,6 @@ walks_on text r start thread n len look w sees e = record {
   history = past_more r.functions r.files n len (left_from r start) (left_from r thread) (left_from r look.next) w.history
       (past_leads r.functions r.files (left_from r thread) (left_from r look.next) (span_text text look.span) len e sees.leads);
 }
-
-pub walks_in : {R F : Type 0} (text : R → List ℕ) (r : FileReply F) (start thread : Thread) (n m : ℕ) (look : Look R F) → Walks r start thread n → SeesText text r (left_from r thread) look → KeepsOn r thread look.here → m < length (span_text text look.span)
-    → Walks r start (moved look.here m) (n + m)
-walks_in text r start thread n m look w sees here h =
-    let inside = sees.within m h in
-    record {
-      fits = inside.fits;
-      kept = λ captures keeps. keeps_in r look.here m captures (here captures (w.kept captures keeps));
-      history = past_more r.functions r.files n m (left_from r start) (left_from r thread) (left_from r (moved look.here m)) w.history inside.history;
-    }
 
 -- what is left of the text where the walk has come
 pub walks_left : {F : Type 0} (r : FileReply F) (start thread : Thread) (n : ℕ) → Walks r start thread n → length (text_by r.functions r.files (left_from r thread) []) ≡ length (text_by r.functions r.files (left_from r start) []) - n
@@ -107,9 +88,6 @@ pub record Fills {F : Type 0} (r : FileReply F) (start thread : Thread) (from : 
   pub inside : from ≤ length out
   pub filled : take from out ≡ take from (text_by r.functions r.files (left_from r start) [])
   pub walks : from < length out → Walks r start thread from
-
-pub fills_none : {F : Type 0} (r : FileReply F) (start : Thread) (out : List ℕ) → Fits r start → Fills r start start 0 out
-fills_none r start out fits = record { inside = omega arith; filled = refl; walks = λ h. walks_none r start fits }
 
 take_parts : (xs : List ℕ) (n m : ℕ) → take (n + m) xs ≡ take n xs ++ take m (drop n xs)
 take_parts xs n m = Rattle.std.proofs.Math.Seq.take-add n m xs
@@ -158,15 +136,6 @@ acked_on text r start thread count left len look enough walks h pos sees size le
     let here = walks_left r start thread (count - left) walks in
     let some : SeesText text r (left_from r thread) look = some_seen text r (left_from r thread) look sees (omega (arith, here, enough, h, pos)) in
     walks_to r start look.next ((count - left) + len) (count - (left - len)) (omega (arith, h, le)) (walks_on text r start thread (count - left) len look walks some size)
-
-pub acked_in : {R F : Type 0} (text : R → List ℕ) (r : FileReply F) (start thread : Thread) (count left : ℕ) (look : Look R F) → count ≤ length (text_by r.functions r.files (left_from r start) []) → Walks r start thread (count - left) → left ≤ count → 0 < left
-    → Sees text r (left_from r thread) look → KeepsOn r thread look.here → left < length (span_text text look.span) → Walks r start (moved look.here left) count × (thread_place look.here + left < 2147483648)
-acked_in text r start thread count left look enough walks h pos sees kept lt =
-    let here = walks_left r start thread (count - left) walks in
-    let some : SeesText text r (left_from r thread) look = some_seen text r (left_from r thread) look sees (omega (arith, here, enough, h, pos)) in (
-      walks_to r start (moved look.here left) ((count - left) + left) count (omega (arith, h)) (walks_in text r start thread (count - left) left look walks some kept lt),
-      (some.within left lt).small,
-    )
 
 -- where text is left, each look brings fewer pieces or fewer bytes
 pub nearer : {R F : Type 0} (text : R → List ℕ) (r : FileReply F) (start thread : Thread) (n len : ℕ) (look : Look R F) → n < length (text_by r.functions r.files (left_from r start) []) → Walks r start thread n → Sees text r (left_from r thread) look

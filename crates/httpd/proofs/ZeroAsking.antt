@@ -32,6 +32,3 @@ line_ends request line is =
 
 pub no_target : (request : List ℕ) (line after : Line) → ReceivesTarget line request → ReceivesTarget after (request ++ 10 ∷ []) → ⊥
 no_target request line after is goes = true≢false (sym (line_ends request line is) ∙ goes.goes_on)
-
-pub no_method_more : (request : List ℕ) (line after : Line) → ReceivesTarget line request → ReceivesMethod after (request ++ 10 ∷ []) → ⊥
-no_method_more request line after is goes = true≢false (sym (ended_more Space request (10 ∷ []) is.method_ended) ∙ goes.goes_on)

@@ -7,11 +7,6 @@ use Rattle.link_replay.proofs.Matching.{matched_cons, matched_head, matched_nil,
 has_same : (p : Sockets) (x : CodeSide) (s : Side) → SideRepresents x s → same_sockets p (sockets_for x.client.setup) ≡ same_sockets p (client_sockets s)
 has_same p x s h = ap (λ (c : AbstractClient). same_sockets p (sockets_for c.setup)) h.client
 
--- its number is the first one's, or it is sought among the others
-pub addressed_none : (number : ℕ) (p : SocketPair) (ss : List Side) → Matched SideRepresents [] ss → 0 ≡ addressed number (sockets_at p) ss
-addressed_none number p [] h = refl
-addressed_none number p (s ∷ ss) h = absurd (omega (arith, h.same_length))
-
 pub addressed_here : (number : ℕ) (p : SocketPair) (xs : List CodeSide) (x : CodeSide) (ss : List Side) → 1 ≤ length xs → x ≡ slice_index_or xs 0 x →
     same_sockets (sockets_at p) (sockets_for x.client.setup) ≡ true → Matched SideRepresents xs ss → number ≡ addressed number (sockets_at p) ss
 addressed_here number p [] x ss l at e h = absurd (omega (arith, l))
@@ -58,10 +53,6 @@ all_buried gone g (x ∷ xs) (s ∷ ss) e h =
 
 stays : (x : CodeSide) → OnlyEpoch x x
 stays x = record { client = refl; request = refl; received = refl; first_stale = refl }
-
--- at first nothing is changed
-pub kept_first : (xs : List CodeSide) → Matched OnlyEpoch xs xs
-kept_first xs = matched_same OnlyEpoch xs stays
 
 then_stays : (x y z : CodeSide) → OnlyEpoch x y → OnlyEpoch y z → OnlyEpoch x z
 then_stays x y z h g = record { client = g.client ∙ h.client; request = g.request ∙ h.request; received = g.received ∙ h.received; first_stale = g.first_stale ∙ h.first_stale }

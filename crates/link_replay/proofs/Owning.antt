@@ -1,10 +1,6 @@
 -- A client opens exactly if it is idle.
 use Rattle.link_replay.proofs.Prelude.{◌≡◌, ℕ, List, true, false, refl, sym, ap, ◌∙◌, subst, None, AbstractClient, ClientStep, keeps, opens_by, client_opens, ClientState, Idle, is_idle, Side, CodeSide, SideRepresents, Stepped}
 
-pub idle_is : (st : ClientState) → is_idle st ≡ true → st ≡ Idle
-idle_is Idle h = refl
-idle_is _ h = absurd (cc)
-
 rests : (st : ClientState) (c : AbstractClient) → is_idle st ≡ false → opens_by st c ≡ keeps c
 unfolding opens_by
 rests Idle c h = absurd (cc)

@@ -35,10 +35,6 @@ pub some_shown : {T E : Type 0} (old new : Option (List ℕ)) (text : List ℕ) 
 some_shown old new text (Ok t) w = record { text = text; hidden = λ e. absurd (cc); whole = w.whole }
 some_shown old new text (Err e) w = tt
 
--- nothing was written yet
-pub none_shown : (show : Bool) (old : Option (List ℕ)) → AppendsShown show old old
-none_shown show old = record { text = []; hidden = λ e. refl; whole = Appends-none old }
-
 -- one more
 pub more_shown : (first mid now : Option (List ℕ)) → AppendsShown true first mid → AppendsShown true mid now → AppendsShown true first now
 more_shown first mid now a b = record {

@@ -1,13 +1,6 @@
 -- The lines of a text in turn.
 use Rattle.link_schedule.proofs.Prelude.{◌≡◌, ℕ, ◌+◌, ◌<◌, ◌≤◌, Bool, true, false, cond, List, [], ◌∷◌, length, drop, get_or, map, Ok, Err, ap, ◌∙◌, arith, onto_first, slice_split, drop_more, Why, SchedulePlan, reads_on, read_line, read_lines}
 
-pub next_line : {A : Type 0} (f : A → List ℕ) (lines : List A) (i : ℕ) (d : A) (above after : SchedulePlan) → i < length lines
-    → read_line (i + 1) above (f (get_or lines i d)) ≡ Ok after
-    → read_lines (i + 1) above (map f (drop i lines)) ≡ read_lines (i + 1 + 1) after (map f (drop (i + 1) lines))
-next_line f lines i d above after within e =
-    ap (λ ls. read_lines (i + 1) above (map f ls)) (drop_more lines i d within)
-    ∙ ap (reads_on (i + 1) (λ content. read_lines (i + 1 + 1) content (map f (drop (i + 1) lines)))) e
-
 pub bad_line : {A : Type 0} (f : A → List ℕ) (lines : List A) (i : ℕ) (d : A) (above : SchedulePlan) (why : Why) → i < length lines
     → read_line (i + 1) above (f (get_or lines i d)) ≡ Err why
     → read_lines (i + 1) above (map f (drop i lines)) ≡ Err (record { line = i + 1; why = why })

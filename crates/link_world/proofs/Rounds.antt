@@ -25,9 +25,6 @@ pub last_there : {X : Type 0} (xs : List X) (x : X) → slice_get (xs ++ x ∷ [
 last_there [] x = refl
 last_there (y ∷ xs) x = last_there xs x
 
-last_numbered : {X : Type 0} (xs : List X) (x : X) (k : ℕ) → k ≡ suc (length xs) → numbered (xs ++ x ∷ []) k ≡ Some x
-last_numbered xs x k e = ap (λ n. numbered (xs ++ x ∷ []) n) e ∙ last_there xs x
-
 -- there is one number above the mark, or none
 one_past : (k n : ℕ) → n ≡ suc k → range_with_len (k + 1) (n - k) ≡ suc k ∷ []
 one_past k n e =

@@ -31,9 +31,6 @@ life_on x so_far o q h = record {
 life_new : (x : Exchange) (so_far : List Exchange) → is_opening x ≡ true → IsWithoutReset x → ContinuesUnreset (x ∷ so_far)
 life_new x so_far o q = record { incarnation = x ∷ []; older = so_far; split = refl; is = ap (λ b. if b then is_empty [] else is_incarnation []) o; unreset = all_cons IsWithoutReset x [] q (all_nil IsWithoutReset) }
 
-came_is : (x : Exchange) (s : PlainSegment) (output : Option PlainSegment) → x ≡ met (Some s) output → x.received ≡ Some s
-came_is x s output e = ap (λ z. z.received) e
-
 -- a step: its life, and that it is asked for
 module _ (m : AppSpec) (served : ℕ → Bool) (p : Sockets) where
   plain_no_rst : (s : PlainSegment) → is_plain_syn s ≡ true → has_rst s.flags ≡ false

@@ -46,9 +46,6 @@ kept-start text a q h = elim (cases_eq q a) [
   | inr other ↦ kept-other text a q other
 ]
 
-pub pieces_by-end : {F : Type 0} (named : List ℕ → F) (text : List ℕ) (a : ℕ) → a ≡ length text → pieces_by named text a ≡ []
-pieces_by-end named text a e = ap (λ ps. map (piece_by named text) (filter (kept text a) ps)) (places-none a (length text) (omega arith))
-
 pub pieces_by-step : {F : Type 0} (named : List ℕ → F) (text : List ℕ) (a b : ℕ) → GoesTo text a b → pieces_by named text a ≡ piece_by named text a ∷ pieces_by named text b
 pieces_by-step named text a b goes =
     let after = goes.after in

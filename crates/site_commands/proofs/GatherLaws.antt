@@ -12,11 +12,6 @@ entry_of named content = record { name = named.name; content = content }
 abbrev pub behind : List HeldFile → ReadList → ReadList
 behind before list = list >>= λ entries. Ok (before ++ entries)
 
-behind-none : (o : Option ReadList) → o ≡ option_map (behind []) o
-behind-none None = refl
-behind-none (Some (Ok list)) = refl
-behind-none (Some (Err e)) = refl
-
 behind-more : (before : List HeldFile) (entry : HeldFile) (o : Option ReadList)
     → option_map (behind before) (option_map (with_first entry) o) ≡ option_map (behind (before ++ entry ∷ [])) o
 behind-more before entry None = refl
@@ -67,18 +62,6 @@ pub record Gathering (named : List NamedContent) (i room : ℕ) (list : List Hel
   pub same : faults ≡ before
   pub most : room ≤ LONGEST_IMAGE
   pub so_far : SoFar start named i room list
-
-so_far-none : (held : Option Files) (named : List NamedContent) → SoFar held named 0 LONGEST_IMAGE []
-so_far-none None named = tt
-so_far-none (Some files) named = behind-none (gathered files LONGEST_IMAGE named)
-
-pub gathering-none : (named : List NamedContent) (held : Option Files) (faults room : ℕ) → room ≡ LONGEST_IMAGE → Gathering named 0 room [] held held faults faults
-gathering-none named held faults room e = record {
-  held = refl;
-  same = refl;
-  most = omega arith;
-  so_far = subst (λ r. SoFar held named 0 r []) (sym e) (so_far-none held named);
-}
 
 -- the next of the named files
 next_is : (files : Files) (named : List NamedContent) (i room : ℕ) (n : NamedContent) → i < length named → n ≡ get_or named i n

@@ -48,8 +48,3 @@ row_alone g shared c d step acked seg s e sound takes =
       fits = λ _. t.fits;
       meets = λ a h. meets_alone g k d ns step (by_state (g.app_spec k) s acked a ns seg) (t.meets a ns h.numbers);
     })
-
-pub tick_alone : {A S : Type 0} (g : Ghosts A S) (k : g.Config) (m : AppSpec) (c d : Conn A) (a : Connection) (ns : List ℕ) (step : Step) (s : State) →
-    c.state ≡ s → ConnRepresents g k c a → (NumbersRepresent c a → MeetsAlone d ns step (tick_by m s a ns)) → Meets g k d ns step (tick_by m a.state a ns)
-tick_alone g k m c d a ns step s e h meets =
-    subst (λ (t : State). Meets g k d ns step (tick_by m t a ns)) (sym e ∙ h.numbers.state) (meets_alone g k d ns step (tick_by m s a ns) (meets h.numbers))

@@ -16,10 +16,6 @@ prefix_fits (c ∷ cs) prefix capture at history f =
     let both = and_parts (not (stops_at c capture)) (nat_le (length (reply_with c capture)) at) history in
     subst (λ (d : Command). length (reply_with d capture) ≤ at) (sym f) (leb-true (length (reply_with c capture)) at both.1)
 
-pub some_prefix : (q : List Command) (capture : Capture) (at : ℕ) → is_past q capture at ≡ true → 0 < length q
-some_prefix [] capture at history = elim (true≢false (sym history)) [ ]
-some_prefix (c ∷ cs) capture at history = omega arith
-
 needed_joined : (xs ys : List Command) → needed (xs ++ ys) ≡ needed xs + needed ys
 needed_joined [] ys = omega arith
 needed_joined (x ∷ xs) ys = by_need (needs_capture x) (needed_joined xs ys)

@@ -6,10 +6,6 @@ pub open_by_test : (b t : Bool) → t ≡ not b → t ≡ true → b ≡ false
 open_by_test true t e h = absurd (cc (e, h))
 open_by_test false t e h = refl
 
-pub settled_by_test : (b t : Bool) → t ≡ not b → t ≡ false → b ≡ true
-settled_by_test true t e h = refl
-settled_by_test false t e h = absurd (cc (e, h))
-
 consumed_none : (a b c : Option (List Item)) (taken more : List Item) → more ≡ [] → Consumes a b taken → Consumes b c more → Consumes a c taken
 consumed_none a b c taken more none p q = subst (λ (l : List Item). Consumes a c l) (none_more taken more none) (Consumes-then a b c taken more p q)
 

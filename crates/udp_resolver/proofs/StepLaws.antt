@@ -88,16 +88,6 @@ question_moves asking after names answers name at whole prefix size within is ne
 pub received_none : (datagram : List ℕ) (asking : Asking) (names : List (List ℕ)) (olds : List (Option Answer)) → names ≡ [] → received_now datagram (questions asking names) olds ≡ []
 received_none datagram asking names olds e = ap (λ l. received_now datagram (questions asking l) olds) e
 
-pub unanswered_none : (asking : Asking) (names : List (List ℕ)) (olds : List (Option Answer)) → names ≡ [] → unanswered (questions asking names) olds ≡ []
-unanswered_none asking names olds e = ap (λ l. unanswered (questions asking l) olds) e
-
-pub lines_none : (names : List (List ℕ)) (olds : List (Option Answer)) (is_over : Bool) → names ≡ [] → lines_by names olds is_over ≡ []
-lines_none names olds is_over e = ap (λ l. lines_by l olds is_over) e
-
-pub err_by : {T E : Type 0} (r : Result T E) (a b : Option (List ℕ)) (xs ys : List ℕ) → ys ≡ xs → OnErr r (AppendsPrefix a b xs) → OnErr r (AppendsPrefix a b ys)
-err_by (Ok x) a b xs ys e p = tt
-err_by (Err x) a b xs ys e p = prefix_by a b xs ys e p
-
 -- what has something in its middle has something
 pub some_moves : (prefix one later whole : List ℕ) → whole ≡ (prefix ++ one) ++ later → 0 < length one → 0 < length whole
 some_moves prefix one later whole e some =

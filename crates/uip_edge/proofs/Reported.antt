@@ -11,12 +11,6 @@ Appends-then (Some x) None c xs ys p q = absurd p
 Appends-then (Some x) (Some y) None xs ys p q = absurd q
 Appends-then (Some x) (Some y) (Some z) xs ys p q = rw (q, p, append_assoc) refl
 
-pub Appends-keeps : (a b c : Option (List ℕ)) (xs : List ℕ) → Appends a b xs → Keeps b c → Appends a c xs
-Appends-keeps None b c xs p q = tt
-Appends-keeps (Some x) None c xs p q = absurd p
-Appends-keeps (Some x) (Some y) None xs p q = absurd q
-Appends-keeps (Some x) (Some y) (Some z) xs p q = q ∙ p
-
 pub Consumes-none : (a : Option (List Item)) → Consumes a a []
 Consumes-none None = tt
 Consumes-none (Some xs) = refl
@@ -48,11 +42,6 @@ on_err (Err e) p = p
 -- a part of the rest moves to the prefix
 pub moved_on : (whole prefix rest : List ℕ) (n : ℕ) → whole ≡ prefix ++ rest → whole ≡ (prefix ++ take n rest) ++ take (length rest - n) (drop n rest)
 moved_on whole prefix rest n e = rw (take_rest, append_assoc, take-append-drop) e
-
--- the items that a call took, and the others
-pub taken_off : (k n at : ℕ) (all : List Item) (buf : List ℕ) → k ≡ n → take k (drop at all) ≡ map Byte (take k buf)
-    → drop at all ≡ map Byte (take n buf) ++ drop (at + n) all
-taken_off k n at all buf same e = rw (← same, ← e, ← drop-drop k at all, take-append-drop) refl
 
 pub bytes_among-map : (xs : List ℕ) → bytes_among (map Byte xs) ≡ xs
 bytes_among-map [] = refl

@@ -41,12 +41,3 @@ writes_broken {U = U} r h x a m b xs ys more whole e p same w =
 -- nothing was written
 pub writes_none : {T E : Type 0} (a : SinkView) (t : T) → Writes {T = T} {E = E} a a (Ok t) []
 writes_none a t = record { whole = Appends-none a.written; prefix = tt; cause = record { later = omega arith; same = refl; failed = tt } }
-
--- the first text was written, and then the second
-pub writes_both : {T U E F : Type 0} (a m b : SinkView) (t : T) (r : Result U E) (xs ys : List ℕ) → Writes {T = T} {E = F} a m (Ok t) xs → Writes m b r ys
-    → Writes a b r (xs ++ ys)
-writes_both a m b t r xs ys w v = writes_then r a m b xs ys w.whole w.cause.same v
-
--- the first text failed, and so did both
-pub writes_stop : {T U E F : Type 0} (a b : SinkView) (x : F) (r : Result T E) (xs ys : List ℕ) → IsErr r → Writes {T = U} a b (Err x) xs → Writes a b r (xs ++ ys)
-writes_stop {U = U} a b x r xs ys h w = broken {U = U} r h x a b (xs ++ ys) (prefix_more a.written b.written xs ys (xs ++ ys) refl w.prefix) w.cause

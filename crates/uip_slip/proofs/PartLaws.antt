@@ -105,10 +105,6 @@ open_part-append before bytes =
     ∙ last-append (all_but_last (parts before)) _ (with-some (open_part before) (parts bytes) (parts-some bytes))
     ∙ ap (λ ps. last_of ps) (sym (open_then before bytes))
 
--- the open part has no frame yet
-pub frames-open : (bytes : List ℕ) → frames (open_part bytes) ≡ []
-frames-open bytes = ap (λ ps. flat_map part_frame (all_but_last ps)) (parts-open bytes)
-
 -- an END closes the open part
 pub frames-end : (before : List ℕ) (b : ℕ) → eqb b 192 ≡ true → frames (before ++ b ∷ []) ≡ frames before ++ frame_of (unescaped (open_part before))
 frames-end before b end =

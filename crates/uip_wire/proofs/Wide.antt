@@ -85,18 +85,6 @@ next_block sum one two three four bytes h a b c d =
     ∙ ap (λ (n : ℕ). folded (sum + n + swapped_sum (drop 8 bytes))) a
     ∙ next_eight sum bytes (omega arith)
 
--- the next two bytes, and the last one
-pub next_pair : (rest : List ℕ) → 2 ≤ length rest
-    → swapped_sum rest ≡ slice_index rest 0 + slice_index rest 1 * 256 + swapped_sum (drop 2 rest)
-next_pair [] h = absurd (omega arith)
-next_pair (a ∷ []) h = absurd (omega arith)
-next_pair (a ∷ b ∷ rest) h = omega arith
-
-pub last_byte : (rest : List ℕ) → 1 ≤ length rest → length rest < 2 → swapped_sum rest ≡ slice_index rest 0
-last_byte [] h k = absurd (omega arith)
-last_byte (a ∷ b ∷ rest) h k = absurd (omega arith)
-last_byte (a ∷ []) h k = omega arith
-
 pub no_byte : (rest : List ℕ) → length rest < 1 → swapped_sum rest ≡ 0
 no_byte [] h = refl
 no_byte (a ∷ rest) h = absurd (omega arith)

@@ -38,9 +38,6 @@ prefix_again (x ∷ xs) =
       | false ↦ λ e. ap prefix (prefix_later x xs e) ∙ prefix_later x (prefix xs) e ∙ ap (λ ys. x ∷ ys) (prefix_again xs) ∙ sym (prefix_later x xs e)
     ] refl
 
-begins_slash : List ℕ → Bool
-begins_slash target = starts_with nat_eq target (codes "/")
-
 mark_no_slash : (x : ℕ) → is_query_mark x ≡ true → (47 == x) ≡ false
 mark_no_slash x e = ap (λ y. 47 == y) (eqb-true x 63 e)
 

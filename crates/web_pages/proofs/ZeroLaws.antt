@@ -36,19 +36,6 @@ zero_text files (Made function argument ∷ more) (suc n) h =
 
 -- ---- the target
 
-word_ends : (target : List ℕ) → word_of SpaceOrLine (target ++ 10 ∷ []) ≡ word_of SpaceOrLine target
-word_ends target =
-    elim (list_any (is_stop SpaceOrLine) target) as (λ b. list_any (is_stop SpaceOrLine) target ≡ b → word_of SpaceOrLine (target ++ 10 ∷ []) ≡ word_of SpaceOrLine target) [
-      | true ↦ λ e. one_before (is_stop SpaceOrLine) target (10 ∷ []) e
-      | false ↦ λ e. none_before (is_stop SpaceOrLine) target (10 ∷ []) e ∙ append-nil target ∙ sym (none_at_all (is_stop SpaceOrLine) target e)
-    ] refl
-
-target_ended : (target : List ℕ) → has_ended SpaceOrLine (target ++ 10 ∷ []) ≡ true
-target_ended target = list_any-append (is_stop SpaceOrLine) target (10 ∷ []) ∙ or_right (list_any (is_stop SpaceOrLine) target) true refl
-
-pub zero_wanted : (target : List ℕ) → wanted (request_for target) ≡ wanted_by (word_of SpaceOrLine target)
-zero_wanted target = decided_by_target (request_for target) refl refl (target_ended target) ∙ ap wanted_by (word_ends target)
-
 -- ---- the page
 
 -- what is written for what is asked for
