@@ -117,7 +117,7 @@ pub(crate) fn ticks_at(ticks: u32, slot: usize) -> u32
 }
 
 /// Counts a TCP datagram that is sent at the last event, and whether it is a retransmission.
-pub(crate) fn speak(net: &mut [u32; 20], again: bool)
+pub(crate) fn segment_sent(net: &mut [u32; 20], again: bool)
     ensures { CountsAnswer net.old net.new (Spoke again) }
 {
     *net = raised(*net, IP_OUT, TCP_OUT, again_place(again));

@@ -188,7 +188,7 @@ impl<A: App> Node<A> {
             id,
         ) {
             Some(len) => {
-                event_counts::speak(&mut self.net, is_again(step));
+                event_counts::segment_sent(&mut self.net, is_again(step));
                 self.ident = id;
                 Some(len)
             }
@@ -236,7 +236,7 @@ impl<A: App> Node<A> {
     {
         let id = self.ident.wrapping_add(1);
         let len = put_reset(&mut self.packet, self.addr, peer, seg, id);
-        event_counts::speak(&mut self.net, false);
+        event_counts::segment_sent(&mut self.net, false);
         self.ident = id;
         Some(len)
     }

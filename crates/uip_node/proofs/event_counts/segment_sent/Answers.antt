@@ -1,7 +1,7 @@
 -- The counters represent the longer history.
 use Rattle.uip_node.proofs.Prelude.{ℕ, ap, ◌∙◌, again_place, Spoke, marks, raise}
 use Rattle.uip_node.proofs.Twice.{second, speaks}
-use Rattle.uip_node.proofs.event_counts.speak.Goals as goal
+use Rattle.uip_node.proofs.event_counts.segment_sent.Goals as goal
 
 pub returns : goal.returns
 returns c = λ history event h.
