@@ -202,6 +202,7 @@ impl<A: App> Node<A> {
         requires live { IsIn self.old.table.conns slot (λ c. is_live c.state ≡ true) }
         requires inside { seg.now.text_at + seg.now.text_len ≤ length (datagram_in self.old.packet) }
         ensures same { A.config self.new.shared ≡ A.config self.old.shared }
+        ensures quiet { result ≡ None → self.new.packet ≡ self.old.packet }
         ensures step { StepsIn A.App slot (λ m c numbers. on_segment m c numbers (plain_of seg.now (datagram_in self.old.packet)))
             self.old self.new result }
     {
@@ -223,6 +224,7 @@ impl<A: App> Node<A> {
         requires within { slot < length self.old.table.conns }
         requires free { NoneAt peer seg.now.from seg.now.to self.old.table.conns }
         ensures same { A.config self.new.shared ≡ A.config self.old.shared }
+        ensures quiet { result ≡ None → self.new.packet ≡ self.old.packet }
         ensures step { OpensBy A.App slot (sockets_of peer seg.now) seg.now self.old self.new result }
     {
         let step = open_in(&mut self.table, slot, peer, seg);
@@ -232,6 +234,7 @@ impl<A: App> Node<A> {
     /// Replies with a RST to a segment of no connection (RFC 793, section 3.4).
     fn refuse(&mut self, peer: Addr, seg: &Segment) -> Option<usize>
         ensures same { A.config self.new.shared ≡ A.config self.old.shared }
+        ensures quiet { result ≡ None → self.new.packet ≡ self.old.packet }
         ensures step { AnswersPeer A.App (sockets_of peer seg.now) seg.now (λ m n s t. refuses n s t) self.old self.new result }
     {
         let id = self.ident.wrapping_add(1);
@@ -245,6 +248,7 @@ impl<A: App> Node<A> {
     fn passive_open(&mut self, peer: Addr, seg: &Segment) -> Option<usize>
         requires free { NoneAt peer seg.now.from seg.now.to self.old.table.conns }
         ensures same { A.config self.new.shared ≡ A.config self.old.shared }
+        ensures quiet { result ≡ None → self.new.packet ≡ self.old.packet }
         ensures step { AnswersPeer A.App (sockets_of peer seg.now) seg.now (λ m n s t. opens m n s t (slot_for_syn n.connections))
             self.old self.new result }
     {
@@ -261,6 +265,7 @@ impl<A: App> Node<A> {
     fn answer_no_connection(&mut self, peer: Addr, seg: &Segment) -> Option<usize>
         requires free { NoneAt peer seg.now.from seg.now.to self.old.table.conns }
         ensures same { A.config self.new.shared ≡ A.config self.old.shared }
+        ensures quiet { result ≡ None → self.new.packet ≡ self.old.packet }
         ensures step { AnswersPeer A.App (sockets_of peer seg.now) seg.now (λ m n s t. for_no_connection m A.served n s t)
             self.old self.new result }
     {
@@ -276,9 +281,10 @@ impl<A: App> Node<A> {
     /// Handles a segment from a peer, which is in the packet (RFC 793, section 3.9, SEGMENT ARRIVES).
     pub fn segment_arrives(&mut self, peer: Addr, seg: &Segment) -> Option<usize>
         requires inside { seg.now.text_at + seg.now.text_len ≤ length (datagram_in self.old.packet) }
-        ensures { Refines A.App
+        ensures refines { Refines A.App
             (λ m served n. arrives m served n (sockets_of peer seg.now)
             (plain_of seg.now (datagram_in self.old.packet))) self.old self.new result }
+        ensures quiet { result ≡ None → self.new.packet ≡ self.old.packet }
     {
         event_counts::segment_arrives(&mut self.net);
         match self.table.find(peer, seg.from, seg.to) {

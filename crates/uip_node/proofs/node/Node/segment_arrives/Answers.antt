@@ -13,8 +13,8 @@ answer_no_connection-requires g c = record {
   free = λ j d at. not_found (is_at c.args.peer c.args.seg.now.from c.args.seg.now.to) c.self.inside.table.conns (sym c.find.ensures ∙ c.in-None.is) j d at;
 }
 
-pub returns-in-Some : goal.returns-in-Some
-returns-in-Some g c = rw (← c.self.view_is) (record {
+pub returns-in-Some-clause-refines : goal.returns-in-Some-clause-refines
+returns-in-Some-clause-refines g c = rw (← c.self.view_is) (record {
   same = search rules;
   step = λ n h.
       let s = sockets_of c.args.peer c.args.seg.now in
@@ -25,8 +25,8 @@ returns-in-Some g c = rw (← c.self.view_is) (record {
       (λ later. c.deliver.ensures.step n (Arrived s seg) later within);
 })
 
-pub returns-in-None : goal.returns-in-None
-returns-in-None g c = rw (← c.self.view_is) (record {
+pub returns-in-None-clause-refines : goal.returns-in-None-clause-refines
+returns-in-None-clause-refines g c = rw (← c.self.view_is) (record {
   same = search rules;
   step = λ n h.
       let seg = plain_of c.args.seg.now (datagram_in c.self.inside.packet) in
