@@ -113,7 +113,7 @@ def words(trial):
     status, out, _ = trial.run("words")
     trial.see(status == 1 and "no counts are stored" in out, f"words without a store: {out}")
     status, out, _ = trial.run("words", "write")
-    stored = open(os.path.join(trial.room, "docs/words.txt"), encoding="utf8").read()
+    stored = open(os.path.join(trial.room, "dev/words.txt"), encoding="utf8").read()
     rows = [line for line in stored.splitlines() if not line.startswith("#") and not line.startswith(("dev", "dev.py"))]
     trial.see(rows == ["crates/low: 1 handed, 1 say, 1 tell", "docs/page.1: 1 say"], f"the stored counts are {rows}")
     trial.see(status == 0 and trial.run("words")[0] == 0, "words after a store")

@@ -49,7 +49,7 @@ except ImportError:   # a system without terminals, as Windows
     browse = None
 
 TYPES = {".html": "text/html", ".js": "text/javascript", ".css": "text/css", ".wasm": "application/wasm", ".img": "application/octet-stream"}
-DOCUMENTS = ("README.md", "include/uip.h", "docs/SPECIFICATION.md", "web/README.md", "LICENSE")   # the page links to them
+DOCUMENTS = ("README.md", "include/uip.h", "docs/GUARANTEE.md", "web/README.md", "LICENSE")   # the page links to them
 OURS = ("localhost", "127.0.0.1", "[::1]")
 ACCEPT = "258EAFA5-E914-47DA-95CA-C5AB0DC85B11"   # RFC 6455 section 1.3
 BINARY, CLOSE, PING, PONG = 2, 8, 9, 10
