@@ -42,11 +42,12 @@ SECTIONS = (
 
 
 def page(sources):
-    """The text of the page, and the faults: a constant that no theorem pins."""
+    """The text of the page, and the faults: a statement that no source has, or a constant that no theorem pins."""
     closed = [sources.resolve(it) for it in CLOSED]
     out, seen = [HEAD, read("dev/notation.md")], {}
+    gone = [f"dev/definitions.py:1: no definition {it}" for _, names, _ in SECTIONS for it in names if sources.resolve(it) is None]
     for number, (heading, names, about) in enumerate(SECTIONS, 1):
-        roots = [sources.resolve(it) for it in names]
+        roots = [it for it in map(sources.resolve, names) if it]
         found = sources.closure(roots, closed)
         out += [f"## {number} {heading}", "", prose(f"{about} They rest on {counted(sources.closure(roots))}."), ""]
         out += blocks([it for it in found if it not in seen])
@@ -59,7 +60,7 @@ def page(sources):
     out += [f"## {number + 2} Constants", "", prose("A theorem of its crate (`constant_values`) pins each: if the constant changes,"
             " the proof fails."), "", "| constant | value | of |", "|---|---|---|"]
     out += [f"| `{name}` | {value:,} | `{crate}` |" for crate, name, value in constants]
-    return "\n".join(out) + "\n", lost
+    return "\n".join(out) + "\n", gone + lost
 
 
 def prose(text):

@@ -17,7 +17,7 @@ FILES = {
     "CONTRIBUTING.md": "The kit is rattle-kit-13 with the letters 13b and 13y.\n",
     "docs/ARCHITECTURE.md": TABLE,
     "docs/page.1": ".TH PAGE\n.SH NAME\nIt \\fBtells\\fP it.\n.B says\n.nf\nit stands\n.fi\nIt was said once.\n",
-    "crates/low/README.md": "# `low`\n",
+    "crates/low/README.md": "# `low`: the wire's numbers\n",
     "crates/low/src/lib.rt": "mod low;\n\npub use low::{Low, free, lost};\n",
     "crates/low/src/low.rt": """/// The numbers that were handed over.
 pub struct Low {
@@ -81,7 +81,7 @@ class Trial:
         self.room, self.failed, self.count = os.path.join(room, "repository"), 0, 0
         for path, text in FILES.items():
             self.write(path, text)
-        shutil.copytree(HERE, os.path.join(self.room, "dev"), ignore=shutil.ignore_patterns("__pycache__"))
+        shutil.copytree(HERE, os.path.join(self.room, "dev"), ignore=shutil.ignore_patterns("__pycache__", "words.txt"))
         shutil.copy(os.path.join(HERE, "../dev.py"), self.room)
         bin_folder = os.path.join(room, "bin")
         os.makedirs(bin_folder)
@@ -143,9 +143,41 @@ def calls(trial):
     names = [line.split()[1] for line in lines]
     trial.see(names == ["low::Low::unused", "low::lost"], f"unused calls: {names}")
     text = FILES["crates/high/src/lib.rt"]
-    trial.write("crates/high/src/lib.rt", text.replace("free()", "free() + lost() + low.unused()"))
+    trial.write("crates/high/src/lib.rt", text.replace("free()", "free() + lost() + low.unused()").replace("free}", "free, lost}"))
     trial.see(not [line for line in trial.run("calls")[1].splitlines() if "neither" in line], "calls that are used")
     trial.write("crates/high/src/lib.rt", text)
+    # a namesake is no caller: a function of the crate itself, a method of another type, a word of a C program
+    other = "\npub struct Other;\n\nimpl Other {\n    pub fn unused(&self) -> u32 {\n        1\n    }\n}\n\nfn lost() -> u32 {\n    3\n}\n"
+    trial.write("crates/high/src/lib.rt", text.replace("use low::{Low, free};", "use low::{free, take_low};").replace("low: &Low", "other: &Other")
+                .replace("low.used() + free()", "free() + lost() + other.unused()") + other)
+    trial.write("a.c", "int lost(void) { return 0; }\n")
+    names = {line.split()[1] for line in trial.run("calls")[1].splitlines() if "neither" in line}
+    trial.see({"low::Low::unused", "low::lost"} <= names, f"calls that only a namesake calls: {names}")
+    trial.write("crates/high/src/lib.rt", text)
+
+
+def documents(trial):
+    """Pages: a table of files, links to headings, the rows of crates, and generated texts."""
+    trial.write("docs/files.md", "# Files\n\n## The `low` crate\n\n| file of `crates/low/specs` | what |\n|---|---|\n| `Low` | it |\n"
+                "| `used` | a word of a source, and no file |\n\n| word | what |\n|---|---|\n| `used` | a call |\n\n"
+                "See [this](#the-low-crate), [that](files.md#no-such) and [more](#files).\n")
+    out = [line for line in trial.run("docs")[1].splitlines() if line.startswith("docs/files.md")]
+    trial.see(out == ["docs/files.md:8: crates/low/specs has no file used", "docs/files.md:14: docs/files.md has no heading #no-such"],
+              f"a page with a wrong file and a wrong heading: {out}")
+    trial.write("crates/low/specs/More.antt", "-- a number\npub more : N\n")
+    trial.write("docs/files.md", "# Files\n\n<!-- text: low.specs.More: more -->\n<!-- end -->\n\n<!-- crates --><!-- end -->\n")
+    trial.see("docs/files.md:4: it differs from the sources" in trial.run("docs")[1], "a page whose generated text is not written")
+    trial.run("trusted", "write")
+    with open(os.path.join(trial.room, "docs/files.md"), encoding="utf8") as file:
+        text = file.read()
+    trial.see("-- a number\nmore : N\n```" in text and "| **the wire** | |\n| [`low`](../crates/low/README.md) | the wire's numbers |" in text,
+              f"the generated texts: {text}")
+    trial.see("docs/files.md" not in trial.run("docs")[1], "a page whose generated text is written")
+    trial.write("crates/low/specs/More.antt", "-- a number\npub more : M\n")
+    trial.see("docs/files.md:6: it differs from the sources" in trial.run("docs")[1], "a definition that has changed")
+    os.remove(os.path.join(trial.room, "crates/low/specs/More.antt"))
+    trial.see("the heading of the page is not" in trial.run("docs")[1], "a crate's page without what the crate is")
+    os.remove(os.path.join(trial.room, "docs/files.md"))
 
 
 def gate(trial):
@@ -197,7 +229,7 @@ def further(trial):
 def main():
     with tempfile.TemporaryDirectory() as room:
         trial = Trial(room)
-        for part in (words, tags, calls, gate, shape, further):
+        for part in (words, tags, calls, documents, gate, shape, further):
             part(trial)
     print(f"dev.py: {trial.count} expectations, {trial.failed} failed")
     sys.exit(1 if trial.failed else 0)

@@ -45,6 +45,7 @@ LAWS = (
     "link_world.specs.Honest.HonestLink", "desk_laws.specs.DeskWorlds.DeskServes", "httpd.specs.HttpdRepresents.HttpdRepresents",
     "telnet_shell.specs.DeskPorts.IsTwoApplications", "web_pages.specs.Pages.pages_of", "uip_node.specs.Node.step",
 )
+TOP_CALL = "crates/uipd/src/run_told.rt"
 ENVIRONMENT = ("uip_edge/src/link.rt", "uip_edge/src/sink.rt", "uip_edge/src/shelf.rt")
 
 
@@ -56,8 +57,10 @@ def root_of(sources, name):
 
 
 def top(sources):
-    """The definitions that the contract of the program's top call names."""
-    text = read("crates/uipd/src/run_told.rt")
+    """The definitions that the contract of the program's top call names; none if there is no such program."""
+    if not os.path.isfile(os.path.join(TOP, TOP_CALL)):
+        return []
+    text = read(TOP_CALL)
     call = re.search(r"pub fn run_told\b.*?^\{", text, re.S | re.M)
     return sources.named(call.group(0), "", *imports_of(text))
 
@@ -131,7 +134,10 @@ def pages(sources):
     for path in sorted(glob.glob(os.path.join(TOP, "docs", "*.md"))):
         name = os.path.relpath(path, TOP)
         if name != definitions.PAGE and MARK.search(read(name)):
-            found[name] = with_marks(read(name), sources)
+            try:
+                found[name] = with_marks(read(name), sources)
+            except SystemExit as fault:
+                lost.append(f"{name}:1: {fault}")
     return found, lost
 
 
@@ -147,9 +153,11 @@ def compare(sources):
 
 
 def write(sources):
-    for name, new in pages(sources)[0].items():
+    found, lost = pages(sources)
+    for name, new in found.items():
         with open(os.path.join(TOP, name), "w", encoding="utf8") as file:
             file.write(new)
+    ends(lost)
 
 
 # ---- namesakes
