@@ -10,12 +10,13 @@ import sys
 import tempfile
 
 HERE = os.path.dirname(os.path.abspath(__file__))
-TABLE = "# Architecture\n\n## How to add something\n\n| thing | places |\n|---|---|\n| a counter | `python3 dev.py add counter` |\n"
+KIT = "The kit is rattle-kit-13 with the letters 13b and 13y.\n"
+TABLE = KIT + "\n## How to add something\n\n| thing | places |\n|---|---|\n| a counter | `python3 dev.py add counter` |\n"
 FILES = {
     "crates.txt": "# the wire\nlow:\n# above\nhigh: low\n",
     "README.md": "# A page\n\nIt sends what it has.\n\n    it tells and says and hears\n\n```\nit stands\n```\n\nAlso `it tells`.\n",
-    "CONTRIBUTING.md": "The kit is rattle-kit-13 with the letters 13b and 13y.\n",
-    "docs/ARCHITECTURE.md": TABLE,
+    "CONTRIBUTING.md": TABLE,
+    "docs/ARCHITECTURE.md": "# Architecture\n",
     "docs/page.1": ".TH PAGE\n.SH NAME\nIt \\fBtells\\fP it.\n.B says\n.nf\nit stands\n.fi\nIt was said once.\n",
     "crates/low/README.md": "# `low`: the wire's numbers\n",
     "crates/low/src/lib.rt": "mod low;\n\npub use low::{Low, free, lost};\n",
@@ -131,10 +132,10 @@ def tags(trial):
                 "crates/low/specs/Low.antt:2: what was said so far of the counter\n    low : N\n")
     trial.see((status, out) == (0, expected), f"add counter: {out}")
     trial.see("[add: nothing]" in trial.run("add", "nothing")[2], "add of no tag")
-    trial.write("docs/ARCHITECTURE.md", TABLE.replace("add counter", "add state"))
+    trial.write("CONTRIBUTING.md", TABLE.replace("add counter", "add state"))
     out = trial.run("docs")[1]
-    trial.see("docs/ARCHITECTURE.md:7: no source has the tag [add: state]" in out and "does not name `dev.py add counter`" in out, f"docs: {out}")
-    trial.write("docs/ARCHITECTURE.md", TABLE)
+    trial.see("CONTRIBUTING.md:7: no source has the tag [add: state]" in out and "does not name `dev.py add counter`" in out, f"docs: {out}")
+    trial.write("CONTRIBUTING.md", TABLE)
     trial.see("[add:" not in trial.run("docs")[1], "docs with its tags")
 
 
@@ -217,7 +218,7 @@ def shape(trial):
 
 def further(trial):
     trial.see("the kit here is rattle-kit-13x" in trial.run("docs")[1], "a kit that is not named")
-    trial.write("CONTRIBUTING.md", "The letters are 13b and 13x.\n")
+    trial.write("CONTRIBUTING.md", TABLE.replace("13y", "13x"))
     trial.see("the kit here" not in trial.run("docs")[1], "a kit that is named")
     status, _, said = trial.run("flash")
     trial.see(status == 1 and "the board is not built" in said, f"flash without a board: {said}")
