@@ -82,7 +82,7 @@ def main():
     if len(words) != 3:
         sys.exit(__doc__)
     if words[0] == "--plain":
-        modules, tail = {"1": read(words[1])}, ""
+        modules, tail = {"1": prepare.without_addresses(read(words[1]))}, ""
     else:
         kept = {crate for crate, _ in SETS.values() if os.path.exists(os.path.join(words[0], f"{crate}.ll"))}
         modules = {word: prepared(words[0], crate, left_out, words[1]) for word, (crate, left_out) in SETS.items() if crate in kept}

@@ -11,8 +11,8 @@ def is_shown(lines):
 class Branches(Arithmetic):
     """Where a text may go on: `follow` is the block after it, `loop` that of `continue`, and `leave` that of `break`."""
 
-    def __init__(self, function, shape, names, reserved):
-        super().__init__(function, shape, names, reserved)
+    def __init__(self, *words):
+        super().__init__(*words)
         self.written, self.used_labels = set(), set()
 
     def tree(self, at, follow, loop, leave):
@@ -49,7 +49,10 @@ class Branches(Arithmetic):
     def end_by_leave(self, at, it, *_):
         if it.value == "poison":
             self.line("UNREACHABLE();")
-        self.line("return;" if it.kind is None else f"return {self.value(it.value, it.kind).text};")
+        if it.kind is None:
+            self.line("return;")
+        else:
+            self.line(f"return {(self.number_of(it.value) if None in self.wide else self.value(it.value, it.kind)).text};")
         return False
 
     def end_by_unreachable(self, *_):

@@ -150,14 +150,24 @@ class Memory(Values):
         if it.callee.startswith("@llvm."):
             self.intrinsic(it)
             return
-        texts = [self.value(value, kind).text for kind, value in it.arguments]
-        text = f"{self.names[it.callee]}({', '.join(texts)})"
+        texts = [self.argument(it, index, *argument).text for index, argument in enumerate(it.arguments)]
+        text = Text(f"{self.names[it.callee]}({', '.join(texts)})", True)
         self.flush("*")
         if it.result is None or self.uses[it.result] == 0:
-            self.line(f"{text};")
-        else:
-            self.kinds[it.result] = it.kind
-            self.declare(it.result, Text(text))
+            self.line(f"{text.text};")
+            return
+        self.kinds[it.result] = kind = self.kind_of(it.result, it.kind)
+        is_number = (it.callee, None) in self.all_wide
+        if is_number and kind == "ptr":
+            text = self.pointer(text)
+        elif kind != it.kind and not is_number:
+            text = text.cast("size_t").cast("u64")
+        self.declare(it.result, text)
+
+    def argument(self, it, index, kind, value):
+        """What a call gives; an address that is carried as a number if the callee takes it so."""
+        names = self.parameters.get(it.callee, ())
+        return self.number_of(value) if names and (it.callee, names[index]) in self.all_wide else self.value(value, kind)
 
     def intrinsic(self, it):
         if is_lifetime(it):

@@ -7,11 +7,12 @@ from .forms import GLOBAL, c_type, declared, fields_of, is_struct, parts_of, req
 from .names import crate_of
 from .shape import Shape
 from .text import wrapped
+from .wide import Wide
 
 
-def signature(function, name, parameters):
-    both = [declared(kind, parameter) for kind, parameter in zip(function.kinds, parameters)]
-    return f"static {declared(function.result, name)}({', '.join(both) or 'void'})"
+def signature(result, name, parameters):
+    """The head of a function, with its parameters as types and names."""
+    return f"static {declared(result, name)}({', '.join(declared(*parameter) for parameter in parameters) or 'void'})"
 
 
 def shown_byte(byte):
@@ -49,6 +50,7 @@ class Translation:
         for name in self.order:
             self.note_constants(module.functions[name])
         self.shapes = {name: Shape(module.functions[name]) for name in self.order}
+        self.wide = Wide(module, self.order, self.shapes)
         Alignments(module, self.order, self.shapes).improve()
         for name in self.order:
             self.function(name)
@@ -69,14 +71,16 @@ class Translation:
 
     def function(self, name):
         function = self.module.functions[name]
-        body = Body(function, self.shapes[name], self.local_names, self.names.taken)
+        body = Body(function, self.shapes[name], self.wide, self.local_names, self.names.taken)
         parameters = [body.values[it].text for it in function.names]
         text = body.write()
         for kind in (function.result, *function.kinds, *body.kinds.values()):
             self.note_struct(kind)
-        c_name = self.names.of[name]
-        self.heads[name] = wrapped(f"{signature(function, c_name, parameters)};")
-        self.bodies[name] = [self.comment(name), *wrapped(f"{signature(function, c_name, parameters)} {{"), *text, "}", ""]
+        result = "i64" if None in body.wide else function.result
+        head = signature(result, self.names.of[name], [(body.kind_of(it, kind), text) for it, kind, text in
+                                                       zip(function.names, function.kinds, parameters)])
+        self.heads[name] = wrapped(f"{head};")
+        self.bodies[name] = [self.comment(name), *wrapped(f"{head} {{"), *text, "}", ""]
 
     def comment(self, name):
         """A line with the path of a function, and its file."""
@@ -90,7 +94,7 @@ def imported(it, name):
     """The function of the module's calls of one of the header's, `rattle_..`."""
     c, parameters = it.name[1:], [f"a{index}" for index in range(len(it.kinds))]
     given = ", ".join(parameter if kind == "ptr" else f"(size_t){parameter}" for kind, parameter in zip(it.kinds, parameters))
-    head = signature(it, name, parameters)
+    head = signature(it.result, name, list(zip(it.kinds, parameters)))
     if it.result == "void":
         return [f"{head} {{ {c}({given}); }}"]
     require(is_struct(it.result) and parts_of(it.result) in (["i64", "ptr"], ["i64", "i64"]), f"the result of {c}")

@@ -5,7 +5,6 @@ import re
 from .forms import GLOBAL, bits, declared, is_constant, is_struct, parts_of, require
 from .slots import Sharing, plain, slots_of
 from .text import LONGEST, Line, Text, number
-from .wide import wide_values
 
 KEYWORDS = frozenset("""auto break case char const continue default do double else enum extern float for goto if inline int long register restrict
 return short signed sizeof static struct switch typedef union unsigned void volatile while main
@@ -16,14 +15,14 @@ protected public template this throw true try typename using virtual xor""".spli
 class Values:
     """A value with one use, in its block, is written where it is used: until then its text is in `pending`. Any other has a variable."""
 
-    def __init__(self, function, shape, names, reserved):
-        self.function, self.shape, self.names = function, shape, names
+    def __init__(self, function, shape, wide, names, reserved):
+        self.function, self.shape, self.wide, self.names = function, shape, wide.of(function.name), names
+        self.all_wide, self.parameters = wide.values, {name: it.names for name, it in wide.module.functions.items()}
         self.lines, self.depth, self.top = [], 1, []    # `top` has the declarations at the start
         self.values, self.pending, self.slot_texts = {}, {}, set()
-        self.kinds = dict(zip(function.names, function.kinds))
+        self.kinds = {name: self.kind_of(name, kind) for name, kind in zip(function.names, function.kinds)}
         self.taken = set(names.values()) | reserved
         self.count_uses()
-        self.wide = wide_values(function.instructions())
         self.slots = slots_of(function, self.shape.first)
         self.promoted = plain(self.slots, function)
         self.shares = {name: group for group in Sharing(self.slots, self.shape).groups() for name in group}
