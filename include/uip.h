@@ -79,6 +79,7 @@ extern "C" {
 
 /* What a processor has to offer. */
 
+#ifndef UIP_SOURCE              /* uip.c is for every ABI: these are of the compiled libraries */
 #if defined(__BYTE_ORDER__) && defined(__ORDER_BIG_ENDIAN__) && __BYTE_ORDER__ == __ORDER_BIG_ENDIAN__
 #error "there is no library for big-endian targets"
 #endif
@@ -87,6 +88,7 @@ extern "C" {
 #endif
 #if defined(__riscv_float_abi_single) || defined(__riscv_float_abi_double) || defined(__riscv_abi_rve)
 #error "the library has the ABI ilp32 or lp64"
+#endif
 #endif
 typedef char uip_needs_32_or_64_bits[
     (sizeof(size_t) == 4 || sizeof(size_t) == 8) && sizeof(void *) == sizeof(size_t) ? 1 : -1];

@@ -38,7 +38,10 @@
 #
 # The first run proves the library (module.sh). Needs python3 and the kit of `rt`; for fetch, usage and state qemu-system-arm or
 # qemu-system-misc, `ip` and /dev/net/tun; for same and planted qemu-user and a C compiler for this machine; for wasm node.
-case "$1" in -h|--help|"") sed -n '2,43s/^# \{0,1\}//p' "$0"; exit 0;; esac
+case "$1" in
+-h|--help|"") sed -n '2,43s/^# \{0,1\}//p' "$0"; exit 0;;
+dist*|c) exec sh "$(dirname "$0")/dist.sh" "$@";;
+esac
 ports=$(cd "$(dirname "$0")" && pwd)
 top=$(cd "$ports/.." && pwd)
 example=$top/examples/board
