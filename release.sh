@@ -11,7 +11,7 @@ case "$1" in -h|--help) sed -n '2,9s/^# \{0,1\}//p' "$0"; exit 0;; esac
 top=$(cd "$(dirname "$0")" && pwd)
 fail() { echo "release: $1" >&2; exit 1; }
 cd "$top" || exit 1
-version=$(sed -n 's/^VERSION = //p' Makefile)
+version=$(sh packaging/version.sh)
 name=lowunbisa-$version
 mkdir -p "${1:-out}" || exit 1
 out=$(cd "${1:-out}" && pwd)
@@ -85,7 +85,9 @@ examples() {
     put examples/common/fallback examples/board/fallback/string.h
     put examples/m4 ports/archive/m4/Makefile ports/boards/mps2.c ports/boards/lan9118.c ports/boards/cortex_m.h
     put examples/rv32 ports/archive/rv32/Makefile ports/boards/riscv.c
-    put examples/linux ports/archive/linux/Makefile examples/linux-c/serve.c examples/linux-c/heap.c examples/linux-ether/tap.c
+    put examples/linux ports/archive/linux/Makefile examples/linux-c/heap.c examples/linux-ether/tap.c
+    put dist dist/*
+    put examples examples/serve.c
 }
 
 documents() {
