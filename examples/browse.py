@@ -67,6 +67,7 @@ LOCAL_RATE = 20000
 BOARD_RATE = 200000
 BOARD_MEMORY = (0x40000000, 0x10000)
 PATIENCE = 0.25
+QUEUE = 16384      # bytes that may wait for the line before datagrams wait in the interface
 HELD = 0.1         # seconds for which a datagram is held that is to be reordered
 LINK_TYPES = {False: 101, True: 1}    # of a capture file: raw IP, and Ethernet
 # The exit statuses of uipd (docs/uipd.1).
@@ -122,28 +123,44 @@ class Frames:
 
 
 class Line:
-    """The bytes to the node, at a rate: what waits is sent as time passes, and the rest of the time may be filled."""
+    """The bytes to the node, at a rate: what waits is sent as time passes, and the rest of the time may be filled. It never blocks, as the
+    node may read nothing before its own output is read."""
 
     def __init__(self, descriptor, form, rate, is_filled):
         self.is_heard = False    # whether the other end has sent something
         self.descriptor, self.form, self.rate, self.is_filled = descriptor, form, rate, is_filled
         self.queue, self.start, self.sent = b"", time.monotonic(), 0
+        self.untaken = b""       # what is sent, but not yet taken by the other end
+        os.set_blocking(descriptor, False)
 
     def put(self, datagram):
         self.queue += self.form.text_of(datagram)
 
+    def is_full(self):
+        """Whether so much waits that further datagrams should wait in the interface, which drops what is too much."""
+        return len(self.queue) > QUEUE
+
     def beat(self):
+        self.write()
         due = int((time.monotonic() - self.start) * self.rate) - self.sent
         due = min(due - due % len(self.form.filler), self.rate // 4)
         if due <= 0:
+            return
+        if self.untaken:
+            self.sent += due     # this time passed in vain
             return
         text = self.queue[:due]
         if self.is_filled and not self.queue[due:]:
             text += self.form.filler * ((due - len(text)) // len(self.form.filler))
         self.queue = self.queue[due:]
         self.sent += len(text) if self.is_filled else due
-        while text:
-            text = text[os.write(self.descriptor, text[:1024]):]
+        self.untaken = text
+        self.write()
+
+    def write(self):
+        with contextlib.suppress(BlockingIOError):
+            while self.untaken:
+                self.untaken = self.untaken[os.write(self.descriptor, self.untaken[:1024]):]
 
 
 class HastyLine(Line):
@@ -165,10 +182,11 @@ class HastyLine(Line):
             if self.is_heard and late > 0:
                 with contextlib.suppress(BlockingIOError):    # the board took them after all
                     self.lost += len(self.other.recv(late, socket.MSG_DONTWAIT))
-        waited = len(self.queue)
+        waited = len(self.queue) + len(self.untaken)
         super().beat()
-        if len(self.queue) < waited:
-            self.written += waited - len(self.queue)
+        taken = waited - len(self.queue) - len(self.untaken)
+        if taken > 0:
+            self.written += taken
             self.marks.append((now, self.written))
 
 
@@ -326,9 +344,20 @@ def machine_words(machine, firmware):
     return [os.environ.get("QEMU", program), *words]
 
 
+def stream_pair():
+    """Two connected sockets. They are TCP's, which joins what is written: a UNIX socket has room for some 280 writes, and most of qemu's ports
+    write single bytes, and some of them drop what the socket does not take."""
+    with socket.create_server(("127.0.0.1", 0)) as server:
+        line = socket.create_connection(server.getsockname())
+        port = server.accept()[0]
+    for end in (line, port):
+        end.setsockopt(socket.IPPROTO_TCP, socket.TCP_NODELAY, 1)
+    return line, port
+
+
 def emulate(firmware, further, machine=MACHINE):
     """A board by qemu, with both ends of its serial line and the end of its monitor."""
-    line, port = socket.socketpair()
+    line, port = stream_pair()
     monitor, monitor_end = socket.socketpair()
     words = [*machine_words(machine, firmware), "-nic", "none", "-display", "none", *further,
              "-chardev", f"socket,id=line,fd={port.fileno()}", "-serial", "chardev:line",
@@ -394,7 +423,9 @@ class Bridge:
 
     def run(self, is_done, ending):
         while not is_done():
-            for ready in select.select([self.interface, self.output], [], [], 0.02)[0]:
+            readers = [self.output] if self.line.is_full() else [self.interface, self.output]
+            writers = [self.line.descriptor] if self.line.untaken else []
+            for ready in select.select(readers, writers, [], 0.02)[0]:
                 if ready == self.interface:
                     self.send(self.to_node.put(os.read(self.interface, 2048)))
                     continue
