@@ -21,7 +21,7 @@ class Bounds:
     """The upper bounds of one function's numbers; -1 is that of a number which is never made."""
 
     def __init__(self, name, module, shape, all_bounds):
-        self.function, self.shape, self.all = module.functions[name], shape, all_bounds
+        self.function, self.shape, self.all, self.wide = module.functions[name], shape, all_bounds, all_bounds.wide.of(name)
         self.made = {it.result: it for it in self.function.instructions() if it.result}
         start = SIZE if self.function.is_export else -1
         self.bounds = {it: start for it, kind in zip(self.function.names, self.function.kinds) if kind == "i64"}
@@ -105,7 +105,7 @@ class Bounds:
         if it.form == "binary":
             return self.of_binary(it, self.at(it.one, label), self.at(it.other, label))
         if it.form == "number":
-            return SIZE
+            return FULL if it.value in self.wide else SIZE
         if it.form == "phi":
             return max((self.at(value, source, label) for source, value in it.sources.items() if source in self.shape.rank), default=-1)
         if it.form == "select":
@@ -195,8 +195,8 @@ class Bounds:
 class Narrow:
     """For a module: `of` has the numbers of a function that a size_t can carry, `results` the functions whose result it can carry."""
 
-    def __init__(self, module, order, shapes):
-        self.module = module
+    def __init__(self, module, order, shapes, wide):
+        self.module, self.wide = module, wide
         self.functions = {}
         for name in order:
             self.functions[name] = Bounds(name, module, shapes[name], self)
@@ -243,7 +243,9 @@ class Narrow:
     def needs(self, name, it):
         """The values whose upper half an instruction needs."""
         cut = self.cut[name]
-        if it.form == "offset" or it.form == "address" or is_lifetime(it) or it.form == "cast" and it.how == "trunc" and bits(it.new) <= 32:
+        if it.form == "address":
+            return [it.value] if it.result in self.functions[name].wide else []
+        if it.form == "offset" or is_lifetime(it) or it.form == "cast" and it.how == "trunc" and bits(it.new) <= 32:
             return []
         if it.form in ("phi", "select", "freeze") and it.kind == "i64" and it.result in cut:
             return [it.condition] if it.form == "select" else []

@@ -51,7 +51,8 @@ class Translation:
         for name in self.order:
             self.note_constants(module.functions[name])
         self.shapes = {name: Shape(module.functions[name]) for name in self.order}
-        self.wide, self.narrow = Wide(module, self.order, self.shapes), Narrow(module, self.order, self.shapes)
+        self.wide = Wide(module, self.order, self.shapes)
+        self.narrow = Narrow(module, self.order, self.shapes, self.wide)
         Alignments(module, self.order, self.shapes).improve()
         for name in self.order:
             self.function(name)
