@@ -16,7 +16,7 @@ int main(void) {
             random = random * 6364136223846793005ull + 1442695040888963407ull;
             area.bytes[at] = (unsigned char)((random >> 33) % (call % 3 ? 300 : 3));
         }
-        hash = (hash ^ CALL(area.bytes, random >> 20)) * 0x100000001b3ull;
+        hash = (hash ^ CALL(area.bytes, random >> 33)) * 0x100000001b3ull;
         for (unsigned at = 0; at < 256; at++) hash = (hash ^ area.bytes[at]) * 0x100000001b3ull;
     }
     printf("%llx\n", hash);

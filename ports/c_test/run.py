@@ -20,8 +20,9 @@ from to_c.forms import Unsupported
 from to_c.prepare import optimised
 
 TO_C = os.environ.get("TO_C", os.path.join(HERE, "..", "to_c.py"))
-HOSTS = (("gcc -O2", ""), ("tcc", ""), ("clang -O1 -fsanitize=undefined,address -fno-sanitize-recover=all", ""), ("i686-linux-gnu-gcc -O2 -static", ""),
-         ("mips-linux-gnu-gcc -O1 -static", "qemu-mips"), ("s390x-linux-gnu-gcc -O2 -static", "qemu-s390x"))
+HOSTS = (("gcc -O1", ""), ("i686-linux-gnu-gcc -O2 -static", ""), ("mips-linux-gnu-gcc -O1 -static", "qemu-mips"), ("tcc", ""),
+         ("clang -O1 -fsanitize=undefined,address -fno-sanitize-recover=all", ""), ("g++ -x c++ -O1", ""),
+         ("s390x-linux-gnu-gcc -O2 -static", "qemu-s390x"))
 
 
 class Wrong(Exception):
@@ -41,7 +42,7 @@ def write(path, text):
         file.write(text)
 
 
-def compared(name, text, clang, room):
+def compared(name, text, clang, room, to_c=TO_C):
     """Compares a module with its translation on each host that is here."""
     module, object_file, c_file, program = (os.path.join(room, it) for it in ("m.ll", "m.o", "m.c", "program"))
     write(module, text)
@@ -51,7 +52,7 @@ def compared(name, text, clang, room):
     must = run([program], f"{name} by clang")
     for kind, text_of in (("as it is", lambda: text), ("optimised", lambda: optimised(text, clang))):
         write(module, text_of())
-        run([sys.executable, TO_C, "--plain", module, c_file], "to_c.py")
+        run([sys.executable, to_c, "--plain", module, c_file], "to_c.py")
         for compiler, runner in HOSTS:
             words = compiler.split()
             if not shutil.which(words[0]) or (runner and not shutil.which(runner)):
@@ -100,4 +101,5 @@ def main():
     sys.exit(1 if wrong else 0)
 
 
-main()
+if __name__ == "__main__":
+    main()

@@ -5,6 +5,7 @@ from .text import Text, number, reads_of
 
 OPERATORS = {"add": "+", "sub": "-", "mul": "*", "udiv": "/", "urem": "%", "and": "&", "or": "|", "xor": "^", "shl": "<<", "lshr": ">>"}
 COMPARISONS = {"eq": "==", "ne": "!=", "lt": "<", "le": "<=", "gt": ">", "ge": ">="}
+MODULAR = ("add", "sub", "mul", "and", "or", "xor", "shl")
 OPPOSITE = {"==": "!=", "!=": "==", "<": ">=", ">=": "<", ">": "<=", "<=": ">"}
 
 
@@ -26,17 +27,19 @@ class Arithmetic(Memory):
     def select(self, it):
         condition, is_wide = self.value(it.condition, "i1"), it.result in self.wide
         one, other = [self.number_of(name) if is_wide else self.value(name, it.kind) for name in (it.one, it.other)]
+        is_size = it.kind == "i64" and it.result in self.sized
+        one, other = (one.size(), other.size()) if is_size else (one, other)
         if it.kind == "i1" and it.other == "false":
             text = f"{condition.operand()} && {one.operand()}"
         elif it.kind == "i1" and it.one == "true":
             text = f"{condition.operand()} || {other.operand()}"
         else:
             text = f"{condition.operand()} ? {one.operand()} : {other.operand()}"
-        self.give(it, self.kind_of(it.result, it.kind), Text(text, False, reads_of(condition, one, other)))
+        self.give(it, "i64" if is_wide else it.kind, Text(text, False, reads_of(condition, one, other), is_size=is_size))
 
     def freeze(self, it):
         is_wide = it.result in self.wide
-        self.give(it, self.kind_of(it.result, it.kind), self.number_of(it.value) if is_wide else self.value(it.value, it.kind))
+        self.give(it, "i64" if is_wide else it.kind, self.number_of(it.value) if is_wide else self.value(it.value, it.kind))
 
     def phi(self, it):
         """A variable, which each branch to the block sets."""
@@ -104,10 +107,24 @@ class Arithmetic(Memory):
             text = self.logical(it, left, right)
         elif it.kind == "i128":
             text = self.of_128(it, left, right)
+        elif it.kind == "i64":
+            text = self.of_64(it, left, right)
         else:
             text = self.unsigned(it, left, right)
         text.reads = reads_of(left, right)
         self.give(it, it.kind, text)
+
+    def of_64(self, it, left, right):
+        """As a size_t if that can carry the result, and what it is computed from."""
+        is_shift, is_known = it.how in ("shl", "lshr", "ashr"), left.is_size and (right.is_size or is_constant(it.other))
+        can = is_constant(it.other) and int(it.other) < 32 and not is_constant(it.one) if is_shift else True
+        if it.result in self.sized and can and (it.how in MODULAR or it.how in ("lshr", "udiv", "urem") and is_known):
+            text = self.unsigned(it, left.size(), right if is_shift else right.size())
+            text.is_size = True
+            return text
+        if left.is_size and (is_shift or is_known):
+            left = left.cast("u64")
+        return self.unsigned(it, left, right)
 
     @staticmethod
     def unsigned(it, left, right):

@@ -52,7 +52,8 @@ class Branches(Arithmetic):
         if it.kind is None:
             self.line("return;")
         else:
-            self.line(f"return {(self.number_of(it.value) if None in self.wide else self.value(it.value, it.kind)).text};")
+            text = self.number_of(it.value) if None in self.wide else self.value(it.value, it.kind)
+            self.line(f"return {(text.size() if self.function.name in self.facts.narrow.results else text).text};")
         return False
 
     def end_by_unreachable(self, *_):
@@ -70,6 +71,7 @@ class Branches(Arithmetic):
             value, local, is_wide = it.sources[at], self.values[it.result].text, it.result in self.wide
             if value != "poison":
                 text = self.number_of(value) if is_wide else self.value(value, it.kind)
+                text = text.size() if self.kinds[it.result] == "size" else text
                 if text.text != local:
                     todo.append((local, self.kinds[it.result], text))
         while todo:

@@ -60,11 +60,10 @@ class Memory(Values):
             self.values[name] = Text(base, unit == 1, base=base, is_unary=True)
 
     def load(self, it):
-        kind = self.kind_of(it.result, it.kind)
+        kind = it.kind
         if it.base in self.promoted:
             local = self.values[it.base].text
-            text = Text(local, True, frozenset({local}))
-            self.give(it, kind, text.cast("size_t").cast("u64") if kind != it.kind else text)
+            self.give(it, kind, Text(local, True, frozenset({local})))
             return
         address = self.value(it.base, "ptr")
         if not is_struct(kind):
@@ -119,7 +118,7 @@ class Memory(Values):
             self.give(it, "ptr", self.address_at(base, int(it.by) * scale))
             return
         by = self.value(it.by, "i64")
-        by_text = by.cast("size_t").text
+        by_text = by.size().operand()
         if scale > 1:
             by_text = f"{scale} * {by_text}"
         self.give(it, "ptr", Text(f"{base.operand()} + {by_text}", False, base.reads | by.reads, base=base.text, by=by_text))
@@ -129,7 +128,8 @@ class Memory(Values):
 
     def address(self, it):
         value = self.value(it.value, "i64")
-        self.give(it, self.kind_of(it.result, "ptr"), value if it.result in self.wide else self.pointer(value))
+        is_wide = it.result in self.wide
+        self.give(it, "i64" if is_wide else "ptr", value if is_wide else self.pointer(value))
 
     def insert(self, it):
         text = self.value(it.given, it.part)
@@ -144,7 +144,7 @@ class Memory(Values):
         require(whole.is_atom, "a field of a value without a name")
         text = Text(f"{whole.text}.f{it.index}", True)
         is_wide = it.result in self.wide
-        self.give(it, self.kind_of(it.result, kind), text.cast("size_t").cast("u64") if is_wide else text)
+        self.give(it, "i64" if is_wide else kind, text.cast("size_t").cast("u64") if is_wide else text)
 
     def call(self, it):
         if it.callee.startswith("@llvm."):
@@ -157,17 +157,22 @@ class Memory(Values):
             self.line(f"{text.text};")
             return
         self.kinds[it.result] = kind = self.kind_of(it.result, it.kind)
-        is_number = (it.callee, None) in self.all_wide
+        is_number = (it.callee, None) in self.facts.wide.values
         if is_number and kind == "ptr":
             text = self.pointer(text)
+        elif kind == "size":
+            text = Text(text.text, True, is_size=it.callee in self.facts.narrow.results).size()
         elif kind != it.kind and not is_number:
             text = text.cast("size_t").cast("u64")
         self.declare(it.result, text)
 
     def argument(self, it, index, kind, value):
         """What a call gives; an address that is carried as a number if the callee takes it so."""
-        names = self.parameters.get(it.callee, ())
-        return self.number_of(value) if names and (it.callee, names[index]) in self.all_wide else self.value(value, kind)
+        callee = self.facts.module.functions.get(it.callee)
+        if callee and (it.callee, callee.names[index]) in self.facts.wide.values:
+            return self.number_of(value)
+        text = self.value(value, kind)
+        return text.size() if callee and kind == "i64" and callee.names[index] in self.facts.narrow.of(it.callee) else text
 
     def intrinsic(self, it):
         if is_lifetime(it):
@@ -191,7 +196,7 @@ class Memory(Values):
             to = self.marked(to, aligned[0])
             what = self.marked(what, aligned[1]) if how != "MEMSET" else what
         else:
-            length = length.cast("size_t")
+            length = length.size()
         self.line(f"{how}({to.text}, {what.text}, {length.text});")
 
     def marked(self, address, align):

@@ -22,6 +22,7 @@ class Instruction:
         for form, pattern in COMPILED.items():
             if found := pattern.fullmatch(line):
                 self.line, self.form = line, form
+                self.is_upward = " nuw " in line    # an offset or a difference that is not negative
                 self.__dict__.update(found.groupdict())
                 break
         else:

@@ -8,11 +8,11 @@ LONGEST = 80    # of the text of a value that is written where it is used
 class Text:
     """The C text of a value. `reads` has the variables that it depends on, and "*" if it depends on memory. `opposite` is the text of the
     opposite condition. An address has its base and either an offset in bytes or the text of one, `by`. An atom needs no brackets anywhere, and
-    a unary none beside an operator with two operands."""
+    a unary none beside an operator with two operands. The type of a size is size_t."""
 
-    def __init__(self, text, is_atom=False, reads=frozenset(), *, opposite=None, base=None, offset=0, by=None, is_unary=False):
+    def __init__(self, text, is_atom=False, reads=frozenset(), *, opposite=None, base=None, offset=0, by=None, is_unary=False, is_size=False):
         self.text, self.is_atom, self.reads, self.opposite, self.base, self.offset, self.by = text, is_atom, reads, opposite, base, offset, by
-        self.is_unary = is_atom or is_unary
+        self.is_unary, self.is_size = is_atom or is_unary, is_size
 
     def atom(self):
         return self.text if self.is_atom else f"({self.text})"
@@ -24,6 +24,16 @@ class Text:
     def cast(self, kind):
         """The value as another type."""
         return Text(f"({kind}){self.operand()}", False, self.reads, is_unary=True)
+
+    def size(self):
+        """The number as a size_t: it fits, or its upper half does not count."""
+        if self.is_size:
+            return self
+        if found := re.fullmatch(r"(\d+|0x[0-9a-f]{1,8})ull", self.text):
+            return Text(found[1] + ("u" if int(found[1], 0) >= 2**15 else ""), True, is_size=True)
+        text = self.text[5:] if self.is_unary and self.text.startswith("(u64)") else self.operand()
+        text = text if text.startswith("(size_t)") else f"(size_t){text}"
+        return Text(text, False, self.reads, is_unary=True, is_size=True)
 
     def is_name(self):
         return re.fullmatch(r"\w+", self.text) is not None

@@ -5,6 +5,7 @@ from .alignment import Alignments
 from .body import Body
 from .forms import GLOBAL, c_type, declared, fields_of, is_struct, parts_of, require, size_of
 from .names import crate_of
+from .narrow import Narrow
 from .shape import Shape
 from .text import wrapped
 from .wide import Wide
@@ -51,6 +52,7 @@ class Translation:
             self.note_constants(module.functions[name])
         self.shapes = {name: Shape(module.functions[name]) for name in self.order}
         self.wide = Wide(module, self.order, self.shapes)
+        self.narrow = Narrow(module, self.order, self.shapes, self.wide)
         Alignments(module, self.order, self.shapes).improve()
         for name in self.order:
             self.function(name)
@@ -71,12 +73,12 @@ class Translation:
 
     def function(self, name):
         function = self.module.functions[name]
-        body = Body(function, self.shapes[name], self.wide, self.local_names, self.names.taken)
+        body = Body(function, self.shapes[name], self, self.local_names, self.names.taken)
         parameters = [body.values[it].text for it in function.names]
         text = body.write()
         for kind in (function.result, *function.kinds, *body.kinds.values()):
             self.note_struct(kind)
-        result = "i64" if None in body.wide else function.result
+        result = "i64" if None in body.wide else "size" if name in self.narrow.results else function.result
         head = signature(result, self.names.of[name], [(body.kind_of(it, kind), text) for it, kind, text in
                                                        zip(function.names, function.kinds, parameters)])
         self.heads[name] = wrapped(f"{head};")
@@ -106,7 +108,7 @@ def imported(it, name):
 def port_call(it, name):
     """port_NAME for an export, as calls.c calls it: a struct is returned through memory."""
     parameters = [f"a{index}" for index in range(len(it.kinds))]
-    heads = [declared(kind, parameter) for kind, parameter in zip(it.kinds, parameters)]
+    heads = [declared("size" if kind == "i64" else kind, parameter) for kind, parameter in zip(it.kinds, parameters)]
     call, port = f"{name}({', '.join(parameters)})", f"port_{it.name[1:]}"
     if is_struct(it.result):
         out = [f"static void {port}({', '.join(['u8 *to', *heads])}) {{", f"    {c_type(it.result)} out = {call};"]

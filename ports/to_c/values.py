@@ -15,9 +15,9 @@ protected public template this throw true try typename using virtual xor""".spli
 class Values:
     """A value with one use, in its block, is written where it is used: until then its text is in `pending`. Any other has a variable."""
 
-    def __init__(self, function, shape, wide, names, reserved):
-        self.function, self.shape, self.wide, self.names = function, shape, wide.of(function.name), names
-        self.all_wide, self.parameters = wide.values, {name: it.names for name, it in wide.module.functions.items()}
+    def __init__(self, function, shape, facts, names, reserved):
+        self.function, self.shape, self.facts, self.names = function, shape, facts, names
+        self.wide, self.sized = facts.wide.of(function.name), facts.narrow.of(function.name)
         self.lines, self.depth, self.top = [], 1, []    # `top` has the declarations at the start
         self.values, self.pending, self.slot_texts = {}, {}, set()
         self.kinds = {name: self.kind_of(name, kind) for name, kind in zip(function.names, function.kinds)}
@@ -27,13 +27,13 @@ class Values:
         self.promoted = plain(self.slots, function)
         self.shares = {name: group for group in Sharing(self.slots, self.shape).groups() for name in group}
         for name in function.names:
-            self.values[name] = Text(self.local(name), True)
+            self.values[name] = Text(self.local(name), True, is_size=name in self.sized)
         self.phis = {label: [it for it in block.body if it.form == "phi"] for label, block in self.shape.blocks.items()}
         for it in (it for phis in self.phis.values() for it in phis):
             local, kind = self.local(it.result), self.kind_of(it.result, it.kind)
             self.kinds[it.result] = kind
             self.at_top(kind, local)
-            self.values[it.result] = Text(local, True, frozenset({local}))
+            self.values[it.result] = Text(local, True, frozenset({local}), is_size=kind == "size")
 
     def count_uses(self):
         self.uses, self.home, self.users = collections.Counter(), {}, collections.defaultdict(set)
@@ -68,7 +68,7 @@ class Values:
         self.top.append(f"{declared(kind, name)};")
 
     def kind_of(self, name, kind):
-        return "i64" if name in self.wide else kind
+        return "i64" if name in self.wide else "size" if kind == "i64" and name in self.sized else kind
 
     def flush(self, of):
         """Writes the pending values that depend on this variable, or on memory."""
@@ -83,10 +83,12 @@ class Values:
         else:
             self.at_top(kind, local)
             self.line(f"{local} = {text.text};")
-        self.values[name] = Text(local, True)
+        self.values[name] = Text(local, True, is_size=kind == "size")
 
     def give(self, it, kind, text):
         """Keeps the text of a result until its use, or declares a variable for it."""
+        if kind == "i64" and it.result in self.sized:
+            kind, text = "size", text.size()
         self.kinds[it.result] = kind
         if self.uses[it.result] == 0:
             return
@@ -135,7 +137,7 @@ class Values:
         """A number as an address."""
         if text.is_atom and text.text.startswith("get8"):
             return Text(f"getp{text.text[4:]}", True, text.reads)
-        return Text(f"(u8 *)(size_t){text.operand()}", False, text.reads, is_unary=True)
+        return Text(f"(u8 *){text.size().operand()}", False, text.reads, is_unary=True)
 
     def global_value(self, name):
         if found := re.fullmatch(r"(@.*)\.plus\.(\d+)", name):
