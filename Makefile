@@ -7,7 +7,7 @@ PYTHON    = python3
 SITE      = examples/site
 PORT      = 8080
 SERVE     = out/uip
-LIBRARY   = out/libuip_c.a
+ARCHIVES  = out/libuip_c.a out/libuip_app_c.a out/libuip_both_c.a
 PROGRAM   = crates/uipd/out/uipd
 LIBRARIES = $(foreach name,uip_c uip_app_c uip_both_c,crates/$(name)/out/lib$(name).a)
 STACK     = dist/uip.c dist/uip.h dist/heap.c
@@ -18,7 +18,7 @@ help:
 	@echo "  make run-tun [SITE=FOLDER]           the same over Linux's own TCP, at http://10.0.0.1/; needs root"
 	@echo "  make test                            the tests that need no kit; some 5 minutes"
 	@echo "  make install [PREFIX=/usr/local] [DESTDIR=ROOT]   the C library with its headers and manual pages"
-	@echo "  make deb, make arduino, make platformio           packages of it, into out/"
+	@echo "  make deb, arduino, platformio, reference          packages of it, and its reference as HTML, into out/"
 	@echo "With the kit (its command rt on the path):"
 	@echo "  make test                            the whole gate, from nothing some 80 minutes on four processors"
 	@echo "  make build                           proves and builds uipd and the libraries; an hour"
@@ -44,17 +44,24 @@ run-tun: answers
 	@$(PYTHON) tools/pack.py $(SITE) out/site.img
 	@$(PYTHON) examples/browse.py --host $(SERVE) out/site.img
 
-$(LIBRARY): $(STACK)
+# One library for each set of calls: those of uip.h, of uip_app.h and of uip_both.h.
+out/libuip_c.a:      SET =
+out/libuip_app_c.a:  SET = -DUIP_APP
+out/libuip_both_c.a: SET = -DUIP_BOTH
+$(ARCHIVES): $(STACK)
 	@mkdir -p out
-	$(CC) $(CFLAGS) -ffunction-sections -fdata-sections -c dist/uip.c -o out/uip.o
-	rm -f $(LIBRARY)
-	$(AR) rcs $(LIBRARY) out/uip.o
+	$(CC) $(CFLAGS) $(SET) -ffunction-sections -fdata-sections -c dist/uip.c -o $(@:.a=.o)
+	rm -f $@
+	$(AR) rcs $@ $(@:.a=.o)
 
-install: $(LIBRARY)
-	sh packaging/install.sh "$(DESTDIR)" "$(PREFIX)"
+install: $(ARCHIVES)
+	@sh packaging/install.sh "$(DESTDIR)" "$(PREFIX)"
 
-deb arduino platformio:
-	sh packaging/$@.sh out
+deb: $(ARCHIVES)
+	@sh packaging/deb.sh out
+
+arduino platformio reference:
+	@sh packaging/$@.sh out
 
 # ---- with the kit, or what can be tested without
 
@@ -80,4 +87,4 @@ build:
 release:
 	sh release.sh
 
-.PHONY: help answers run run-tun install deb arduino platformio test build release
+.PHONY: help answers run run-tun install deb arduino platformio reference test build release

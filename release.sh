@@ -47,10 +47,11 @@ libraries() {
         mv "$made/lib/x86_64/$library.a" "$made/lib/x86_64/lib$library.a"
     done
     put include include/uip.h include/uip_app.h include/uip_both.h
-    put lib/cmake/uip_c uip_c-config.cmake
+    put lib/cmake/uip_c packaging/uip_c-config.cmake
+    sed "s|@VERSION@|$version|; s|@MAJOR@|${version%%.*}|" packaging/uip_c-config-version.cmake.in >"$made/lib/cmake/uip_c/uip_c-config-version.cmake"
     mkdir -p "$made/lib/pkgconfig"
     # shellcheck disable=SC2016
-    sed "s|@VERSION@|$version|"'; s|@LIBDIR@|${prefix}/lib/x86_64|' uip_c.pc.in >"$made/lib/pkgconfig/uip_c.pc"
+    sed "s|@VERSION@|$version|"'; s|@LIBDIR@|${prefix}/lib/x86_64|' packaging/uip_c.pc.in >"$made/lib/pkgconfig/uip_c.pc"
 }
 
 program() {
