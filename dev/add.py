@@ -12,7 +12,7 @@ MARKS = re.compile(r"^\s*(?:///?|//!|--|#+(?![\[!])|/\*+|\*|<!--)\s*|\s*(?:\*/|-
 TABLE = "CONTRIBUTING.md"
 SKIPPED = (".png", ".img", ".slip", ".xz", ".pcap", ".wasm")
 PARTS = ("src", "specs", "proofs", "must-fail")
-GENERATED = ("docs/DEFINITIONS.md", "docs/GUARANTEE.md", "docs/FIRST_PROOF.md")
+GENERATED = ("docs/DEFINITIONS.md", "docs/GUARANTEE.md", "crates/rexmit_timer/FIRST_PROOF.md")
 MOST_TEXT = 200
 
 

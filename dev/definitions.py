@@ -30,8 +30,6 @@ SECTIONS = (
      " sends. `python3 dev.py trusted text step` prints the rest of it."),
     ("The page of the web server", ("web_pages.specs.Pages.pages_of",),
      "The pages of a site, for which `page_laws` and `pages_are_bytes` of `web_pages` prove the hypotheses of that theorem."),
-    ("Sessions, and every line", ("node_laws.specs.TraceConforms.EveryTraceConforms", "line_laws.specs.Lines.EveryLineConforms"),
-     "The laws are `every_trace_conforms` of `node_laws` and `every_line` of `line_laws`."),
     ("Arrival, retransmission and windows",
      ("node_laws.specs.HonestPeers.HonestPeer", "node_laws.specs.Timers.RetransmitsOrResets", "node_laws.specs.Windows.WindowsAreRespected"),
      "The laws are `honest_peer`, `retransmits_or_resets` and `windows_are_respected` of `node_laws`."),

@@ -1,6 +1,6 @@
 """Which definitions a statement rests on: all that a reader must believe of it. It follows the names of specs/ through their imports.
 
-    python3 dev.py trusted              compares the generated texts of docs/ with the sources (status 1 if they differ)
+    python3 dev.py trusted              compares the generated texts of pages with the sources (status 1 if they differ)
     python3 dev.py trusted write        writes them again: docs/DEFINITIONS.md, and the marks of the other pages
     python3 dev.py trusted NAME ..      what a definition rests on, by file: step, HonestPeer, or link_world.specs.Headline.Tick
     python3 dev.py trusted text NAME    the same word for word, each definition before those that it names
@@ -10,7 +10,7 @@
     python3 dev.py trusted environment  the traits of a link, a sink and a shelf, with the clauses of their calls
     python3 dev.py trusted names        definitions that another crate cites and that have a namesake in another crate (status 1)
 
-The text between a mark and `<!-- end -->` on a page of docs/ is written from the sources:
+The text between a mark and `<!-- end -->` on a page of docs/ or of a crate is written from the sources:
 
     <!-- count: NAME .. -->              how many definitions, files and lines these definitions rest on
     <!-- text: MODULE: NAME, NAME -->    these definitions, word for word
@@ -128,10 +128,10 @@ def with_marks(page, sources):
 
 
 def pages(sources):
-    """Each generated page with its text: docs/DEFINITIONS.md, and the pages of docs/ that have marks. And the faults found on the way."""
+    """Each generated page with its text: docs/DEFINITIONS.md, and the pages of docs/ and of crates that have marks. And the faults found on the way."""
     new, lost = definitions.page(sources)
     found = {definitions.PAGE: new}
-    for path in sorted(glob.glob(os.path.join(TOP, "docs", "*.md"))):
+    for path in sorted(glob.glob(os.path.join(TOP, "docs", "*.md")) + glob.glob(os.path.join(CRATES, "*", "*.md"))):
         name = os.path.relpath(path, TOP)
         if name != definitions.PAGE and MARK.search(read(name)):
             try:
