@@ -106,7 +106,7 @@ inBrowser("a serial port is pinged, captured, closed and opened again", () => wi
   await click(tab, "ping");
   await tab.until(`document.getElementById("result").textContent.startsWith("echo reply after")`);
   const capture = await tab.run(`
-    return btoa(String.fromCharCode(...new Uint8Array(await node.session.capture.file().arrayBuffer())))`);
+    return btoa(String.fromCharCode(...new Uint8Array(await node.session.capture.plain().arrayBuffer())))`);
   if (!noProgram) {
     const line = execFileSync(UIPD, ["slip"], { input: Buffer.from(capture, "base64") });
     assert.match(dump(line), /icmp 10\.0\.0\.2 10\.0\.0\.1 8 0\n[^]* icmp 10\.0\.0\.1 10\.0\.0\.2 0 0\n/);
