@@ -45,7 +45,7 @@ async function seesSite(tab) {
   const seen = await tab.run(`
     const { document } = frames[0], [image] = document.images, [sheet] = document.styleSheets;
     return [image.naturalWidth > 0, sheet.cssRules.length, frames[0].getComputedStyle(document.body).color]`);
-  assert.deepEqual(seen, [true, 5, "rgb(20, 44, 36)"]);
+  assert.deepEqual(seen, [true, 6, "rgb(20, 44, 36)"]);
   await tab.run(`frames[0].document.querySelector('a[href="/stats.shtml"]').click()`);
   await tab.until(shows("What it counts"));
   assert.match(await tab.run(`return frames[0].document.body.innerText`), /ESTABLISHED/);
