@@ -45,7 +45,7 @@ async function seesSite(tab) {
   const seen = await tab.run(`
     const { document } = frames[0], [image] = document.images, [sheet] = document.styleSheets;
     return [image.naturalWidth > 0, sheet.cssRules.length, frames[0].getComputedStyle(document.body).color]`);
-  assert.deepEqual(seen, [true, 5, "rgb(20, 44, 36)"]);
+  assert.deepEqual(seen, [true, 6, "rgb(20, 44, 36)"]);
   await tab.run(`frames[0].document.querySelector('a[href="/stats.shtml"]').click()`);
   await tab.until(shows("What it counts"));
   assert.match(await tab.run(`return frames[0].document.body.innerText`), /ESTABLISHED/);
@@ -106,7 +106,7 @@ inBrowser("a serial port is pinged, captured, closed and opened again", () => wi
   await click(tab, "ping");
   await tab.until(`document.getElementById("result").textContent.startsWith("echo reply after")`);
   const capture = await tab.run(`
-    return btoa(String.fromCharCode(...new Uint8Array(await node.session.capture.file().arrayBuffer())))`);
+    return btoa(String.fromCharCode(...new Uint8Array(await node.session.capture.plain().arrayBuffer())))`);
   if (!noProgram) {
     const line = execFileSync(UIPD, ["slip"], { input: Buffer.from(capture, "base64") });
     assert.match(dump(line), /icmp 10\.0\.0\.2 10\.0\.0\.1 8 0\n[^]* icmp 10\.0\.0\.1 10\.0\.0\.2 0 0\n/);
