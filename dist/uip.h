@@ -44,9 +44,21 @@
  *   Sections   1 Rules   2 Statuses   3 Constants   4 Types   5 Open and close   6 Serial line
  *              7 Datagrams   8 Ethernet   9 Pages   10 State   11 Heap   12 Inline functions
  *
- * docs/FIRMWARE.md has a first program, how to build it, and a loop that never waits. docs/PAGES.md is
- * the guide to pages, and docs/LIMITS.md has what the node does not do. For TCP connections that your
- * program answers see uip_app.h and uip_both.h.
+ * The shortest loop, for a serial line. It waits while it sends; a product takes another one.
+ *
+ *     static uip_device device = UIP_INIT;
+ *     unsigned status = uip_open(&device, site_image, SITE_IMAGE_LEN, own).status;
+ *     while (status == UIP_OK) {
+ *         size_t len = read_serial(in, sizeof in);             // what your interrupt stored, or 0
+ *         status = uip_feed_all(&device, in, len, out, sizeof out, write_serial, NULL);
+ *         if (status == UIP_OK && tick_is_due_at(milliseconds()))             // support/ticks.h
+ *             status = uip_tick_all(&device, out, sizeof out, write_serial, NULL);
+ *         uip_set_value(&device, 3, UIP_TEXT("21.5"));         // a page shows it: %! value-html 3
+ *     }
+ *
+ * docs/FIRMWARE.md is the guide: whole programs, how to build them, loops that never wait, DMA, RTOS.
+ * docs/PAGES.md is the guide to pages, and docs/LIMITS.md has what the node does not do. For TCP
+ * connections that your program answers see uip_app.h and uip_both.h.
  *
  * Proved of the source, if you keep the ten rules: memory safety, and the exact output of each call
  * (docs/GUARANTEE.md). Tested, and not proved: the machine code, and the inline functions. Not proved:
@@ -77,10 +89,10 @@ extern "C" {
 #define UIP_VERSION_MAJOR 1
 #define UIP_VERSION_MINOR 1
 #define UIP_VERSION_PATCH 0
-#define UIP_VERSION_NUMBER 10100    /* in one number, for #if; uip.c does not compile with another header */
+#define UIP_VERSION_NUMBER 10100    /* all three in one number, for #if */
 #define UIP_INTERFACE 4
 
-/* What a processor has to offer. */
+/* What the compiler and the processor have to offer. */
 
 #ifndef UIP_SOURCE              /* uip.c is for every ABI: these are of the compiled libraries */
 #if defined(__BYTE_ORDER__) && defined(__ORDER_BIG_ENDIAN__) && __BYTE_ORDER__ == __ORDER_BIG_ENDIAN__
@@ -273,7 +285,7 @@ typedef struct uip_row { unsigned status, state; unsigned char peer[4]; unsigned
  *
  * A sink may wait. If it starts a DMA, it waits for the end of it, or copies the piece first. If it cannot
  * send, it drops the piece: TCP sends the data again. With this device it may make the calls of sections 9
- * and 10 except uip_close, and no other.
+ * and 10, and no other.
  */
 typedef void (*uip_sink)(void *to, const unsigned char *bytes, size_t len);
 
