@@ -38,10 +38,8 @@ class Documents:
         self.stems = {os.path.splitext(os.path.basename(it))[0] for it in self.files}
         self.names = {os.path.basename(it) for it in self.files} | self.stems
         self.places = set(self.files) | {"/".join(it.split("/")[:n]) for it in self.files for n in range(1, it.count("/") + 1)}
-        self.words = set()
-        for path in self.files:
-            if not path.endswith(NO_SOURCE):
-                self.words.update(re.findall(r"[A-Za-z_][\w'-]*|\w+", read(path)))
+        self.words_of = {it: set(re.findall(r"[A-Za-z_][\w'-]*|\w+", read(it))) for it in self.files if not it.endswith(NO_SOURCE)}
+        self.words = set().union(*self.words_of.values())
         self.words |= {part for it in self.words for part in re.split(r"[-']", it)}
 
     def fault(self, page, number, text):
@@ -63,6 +61,14 @@ class Documents:
         parts = [it for it in re.split(r"::|\.|\(\)|[<>,&]", text) if it]
         return all(it in self.words or it in self.names or it in OUTSIDE or it.isdigit() or KIT.fullmatch(it) for it in parts)
 
+    def is_member(self, text):
+        """Whether a name as `Type::call` has both words in one source, or the second in a file of the first name."""
+        pair = re.fullmatch(r"([A-Z][\w']*)(?:::|\.)([A-Za-z_][\w']*)(?:\(\))?", text)
+        if not pair or text in self.names:
+            return True
+        return any({pair[1], pair[2]} <= words or pair[2] in words and os.path.splitext(os.path.basename(path))[0] == pair[1]
+                   for path, words in self.words_of.items())
+
     def see_names(self, page, number, line, crates):
         """Compares the names and paths in back quotes with the sources; a path of a crate is a path of one of these crates."""
         for text in re.findall(r"`([^`]+)`", line):
@@ -73,6 +79,8 @@ class Documents:
                     self.fault(page, number, f"there is no {text}")
             elif re.fullmatch(r"[A-Za-z_][\w'-]*((::|\.)[A-Za-z_][\w'-]*)*(\(\))?", text) and not self.is_name(text):
                 self.fault(page, number, f"no source has the name {text}")
+            elif not self.is_member(text):
+                self.fault(page, number, f"no source has both parts of {text}")
         for target in re.findall(r"\]\(([^)\s]+)\)", line):
             path, _, anchor = target.partition("#")
             there = os.path.normpath(os.path.join(os.path.dirname(page), path)) if path else page

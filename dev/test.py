@@ -82,7 +82,7 @@ class Trial:
         self.room, self.failed, self.count = os.path.join(room, "repository"), 0, 0
         for path, text in FILES.items():
             self.write(path, text)
-        shutil.copytree(HERE, os.path.join(self.room, "dev"), ignore=shutil.ignore_patterns("__pycache__", "words.txt"))
+        shutil.copytree(HERE, os.path.join(self.room, "dev"), ignore=shutil.ignore_patterns("__pycache__", "words.txt", "test.py"))
         shutil.copy(os.path.join(HERE, "../dev.py"), self.room)
         bin_folder = os.path.join(room, "bin")
         os.makedirs(bin_folder)
@@ -158,12 +158,15 @@ def calls(trial):
 
 
 def documents(trial):
-    """Pages: a table of files, links to headings, the rows of crates, and generated texts."""
+    """Pages: a table of files, links to headings, names of two parts, the rows of crates, and generated texts."""
+    trial.write("crates/high/src/lib.rt", "fn go() {}\n")
     trial.write("docs/files.md", "# Files\n\n## The `low` crate\n\n| file of `crates/low/specs` | what |\n|---|---|\n| `Low` | it |\n"
                 "| `used` | a word of a source, and no file |\n\n| word | what |\n|---|---|\n| `used` | a call |\n\n"
-                "See [this](#the-low-crate), [that](files.md#no-such) and [more](#files).\n")
+                "See [this](#the-low-crate), [that](files.md#no-such) and [more](#files).\n\n`Low::used` is there, and `Low.go` is not.\n")
     out = [line for line in trial.run("docs")[1].splitlines() if line.startswith("docs/files.md")]
-    trial.see(out == ["docs/files.md:8: crates/low/specs has no file used", "docs/files.md:14: docs/files.md has no heading #no-such"],
+    trial.write("crates/high/src/lib.rt", FILES["crates/high/src/lib.rt"])
+    trial.see(out == ["docs/files.md:8: crates/low/specs has no file used", "docs/files.md:14: docs/files.md has no heading #no-such",
+                      "docs/files.md:16: no source has both parts of Low.go"],
               f"a page with a wrong file and a wrong heading: {out}")
     trial.write("crates/low/specs/More.antt", "-- a number\npub more : N\n")
     trial.write("docs/files.md", "# Files\n\n<!-- text: low.specs.More: more -->\n<!-- end -->\n\n<!-- crates --><!-- end -->\n")
