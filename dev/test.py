@@ -68,7 +68,8 @@ if sys.argv[1] == "version":
     print("rattle-kit-13x logic")
 elif sys.argv[1] == "ci":
     busy = "import time\\nwhile time.process_time() < 1.5: pass"
-    for words, place in ((["low"], "crates/low"), (["high", "--test"], "crates/high"), (["low"], tempfile.mkdtemp(prefix="rt-edit-"))):
+    edit = tempfile.mkdtemp(prefix="rt-edit-")
+    for words, place in ((["low"], "crates/low"), (["high", "--test"], "crates/high"), (["low"], edit), (["low"], edit)):
         subprocess.run([sys.executable, "-c", busy, "check", "--crate-name", *words], cwd=place)
     print("2 passed, 1 failed")
     sys.exit(7)
@@ -185,12 +186,17 @@ def documents(trial):
 
 
 def gate(trial):
+    gate_py = open(os.path.join(HERE, "gate.py"), encoding="utf8").read()
+    trial.write("dev/gate.py", gate_py.replace("PROGRESS = 20 ", "PROGRESS = 0 "))
     status, out, said = trial.run("ci")
     trial.see(status == 7 and "2 passed, 1 failed" in out, f"the status of the gate is {status}")
     rows = {line.split()[1]: [float(it) for it in line.split()[2:]] for line in said.splitlines() if line.startswith(("gate: low", "gate: high"))}
     good = set(rows) == {"low", "high"} and all(abs(seen - wanted) < 0.012 for name, wanted_row in
-           (("low", [0.025, 0, 0.025, 0, 0.05]), ("high", [0, 0.025, 0, 0, 0.025])) for seen, wanted in zip(rows[name], wanted_row))
+           (("low", [0.025, 0, 0.05, 0, 0.075]), ("high", [0, 0.025, 0, 0, 0.025])) for seen, wanted in zip(rows[name], wanted_row))
     trial.see(good, f"the minutes are {rows}")
+    lines = [line.split(", ")[:2] for line in said.splitlines() if line.startswith("progress: ")]
+    trial.see(["progress: 1 of 2 crates checked", "1 checks of 1 edits"] in lines, f"the progress is silent while edits are tried: {lines}")
+    trial.write("dev/gate.py", gate_py)
     trial.see(trial.run("gate")[1].count("low") == 1, "the table of the last run")
     trial.write("log", "rt: low proved\nrt: must-fail low/wrong.edit: refused\n")
     out = trial.run("gate", "log")[1]

@@ -3,7 +3,7 @@
 //     clang -g -O1 -fsanitize=fuzzer,address,undefined fuzz/libfuzzer.c dist/uip.c -o out/libfuzzer
 //     out/libfuzzer -max_len=4096
 //
-// The rest of the input is a row of pieces: two bytes with the length, and so many bytes, which are fed, received or, if their number is 0,
+// The rest of the input is a row of pieces: two bytes with a length, and that number of bytes, which are fed, received or, if their number is 0,
 // replaced by a tick. Checksums are right in few of them: the random calls of fuzz/run.sh reach deeper, and this finds what a tool for
 // fuzzing finds by coverage.
 #include <stdint.h>

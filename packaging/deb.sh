@@ -29,7 +29,7 @@ find "$root/usr/share/man" -type f -exec gzip -9 -n {} +
     printf 'Format: https://www.debian.org/doc/packaging-manuals/copyright-format/1.0/\nUpstream-Name: Lowunbisa\n\nFiles: *\n'
     printf 'Copyright: 2026 The Lowunbisa authors\nLicense: Apache-2.0 or Expat\n'
     printf 'Comment:\n'
-    sed -n '/^It covers/,/^$/p' LICENSE | sed '/^$/d; s/^/ /'
+    sed -n '/^Of the run-time/,/^$/p' LICENSE | sed '/^$/d; s/^/ /'
     printf '\nLicense: Apache-2.0\n On Debian systems the text is in /usr/share/common-licenses/Apache-2.0.\n\nLicense: Expat\n'
     sed '1,/^Copyright/d; s/^$/./; s/^/ /' LICENSE-MIT | sed '/./,$!d'
 } >"$doc/copyright"
