@@ -2,7 +2,8 @@
 // `uipd slip` as libpcap, which has no place for comments.
 const RAW_IP = 101, SNAP = 1500;
 const HEAD = Uint8Array.from([0xa1, 0xb2, 0xc3, 0xd4, 0, 2, 0, 4, 0, 0, 0, 0, 0, 0, 0, 0, 0, 0, SNAP >> 8, SNAP & 255, 0, 0, 0, RAW_IP]);
-const SECTION = 0x0a0d0d0a, INTERFACE = 1, PACKET = 6, COMMENT = 1, FLAGS = 2, INBOUND = 1, OUTBOUND = 2;   // of pcapng
+// Of pcapng: the kinds of blocks, the options of a packet, and its directions.
+const SECTION = 0x0a0d0d0a, INTERFACE = 1, PACKET = 6, COMMENT = 1, FLAGS = 2, INBOUND = 1, OUTBOUND = 2;
 
 const word = number => [number >>> 24, number >> 16 & 255, number >> 8 & 255, number & 255];
 const half = number => [number >> 8, number & 255];
@@ -17,7 +18,8 @@ function block(type, ...parts) {
 
 // The time is in microseconds. The direction is that of this page's interface.
 function packet({ datagram, time, isToNode, comment }) {
-  const micro = Math.floor(time * 1000), size = word(datagram.length), words = comment ? option(COMMENT, new TextEncoder().encode(comment)) : [];
+  const micro = Math.floor(time * 1000), size = word(datagram.length);
+  const words = comment ? option(COMMENT, new TextEncoder().encode(comment)) : [];
   return block(PACKET, word(0), word(Math.floor(micro / 2 ** 32)), word(micro >>> 0), size, size, padded(datagram),
     words, option(FLAGS, word(isToNode ? OUTBOUND : INBOUND)), option(0, []));
 }
@@ -53,7 +55,8 @@ export class Capture {
   // As pcapng (draft-ietf-opsawg-pcapng, section 4).
   file() {
     const section = block(SECTION, word(0x1a2b3c4d), half(1), half(0), word(0xffffffff), word(0xffffffff));
-    return new Blob([section, block(INTERFACE, half(RAW_IP), half(0), word(SNAP)), ...this.#records.map(packet)], { type: "application/x-pcapng" });
+    const line = block(INTERFACE, half(RAW_IP), half(0), word(SNAP));
+    return new Blob([section, line, ...this.#records.map(packet)], { type: "application/x-pcapng" });
   }
 
   // As libpcap.

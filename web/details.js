@@ -15,7 +15,8 @@ function hexOf(bytes) {
 }
 
 function fateOf({ fate, isAgain, otherAt }) {
-  const again = !isAgain ? "sent for the first time" : otherAt === null ? "a retransmission, identical to the bytes sent before" : `a retransmission: its bytes differ from those sent before, from number ${otherAt} on`;
+  const again = !isAgain ? "sent for the first time" : otherAt === null ? "a retransmission, identical to the bytes sent before"
+    : `a retransmission: its bytes differ from those sent before, from number ${otherAt} on`;
   return `${again}; ${fate.length ? fate.join(", ") : "delivered"}`;
 }
 
@@ -29,10 +30,11 @@ function segmentFields({ fromPort, toPort, seq, ack, flags, window, mss }, row) 
 
 // { title, fields, hex }: each field is a name and a value.
 export function detailsOf(row) {
-  const { datagram, number, time, isToNode } = row, { bad, from, to, echo, segment } = read(datagram), { what, numbers } = labelOf(row);
-  const fields = [["From", isToNode ? "this page, to the device" : "the device, to this page"], ["Time", `${time} s`], ["What became of it", fateOf(row)]];
+  const { datagram, number, time, isToNode, len } = row, { bad, from, to, echo, segment } = read(datagram), { what, numbers } = labelOf(row);
+  const fields = [["From", isToNode ? "this page, to the device" : "the device, to this page"], ["Time", `${time} s`]];
+  fields.push(["What became of it", fateOf(row)], ["Size", `${datagram.length} bytes, of which ${len} are text`]);
   if (bad) fields.push(["Fault", bad]);
-  else fields.push(["Addresses", `${from.join(".")} to ${to.join(".")}`], ["Size", `${datagram.length} bytes, of which ${row.len} are text`], ["Checksums", "right"]);
+  else fields.push(["Addresses", `${from.join(".")} to ${to.join(".")}`], ["Checksums", "right"]);
   if (echo) fields.push(["ICMP", echo.type === 8 ? "echo request" : "echo reply"]);
   if (segment) fields.push(...segmentFields(segment, row));
   return { title: `Datagram ${number}: ${[what, numbers].filter(Boolean).join(", ")}`, fields, hex: hexOf(datagram) };

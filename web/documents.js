@@ -8,7 +8,9 @@ const make = (tag, properties = {}, ...children) => {
 // The anchor of a heading, as code hosts make it.
 const anchorOf = text => text.toLowerCase().replace(/[^\w\- ]/g, "").replaceAll(" ", "-");
 
-const INLINE = /`+([^`]+)`+|!\[([^\]]*)\]\(([^)]+)\)|\[((?:[^[\]]|\[[^\]]*\]|`[^`]*`)*)\]\(([^)\s]+)\)|<(https?:[^>]+)>|\*\*(.+?)\*\*|\*([^*]+)\*|\\([\\`*_[\]<>|])/s;
+// Code, a picture, a link, an address, strong words, emphasis, and a sign that stands for itself.
+const INLINE = new RegExp([/`+([^`]+)`+/, /!\[([^\]]*)\]\(([^)]+)\)/, /\[((?:[^[\]]|\[[^\]]*\]|`[^`]*`)*)\]\(([^)\s]+)\)/, /<(https?:[^>]+)>/,
+  /\*\*(.+?)\*\*/, /\*([^*]+)\*/, /\\([\\`*_[\]<>|])/].map(it => it.source).join("|"), "s");
 
 // The nodes of a paragraph's text. `linkTo` returns the address of a link and of a picture.
 function inline(text, linkTo) {
@@ -29,7 +31,8 @@ const cellsOf = line => line.trim().replace(/^\||\|$/g, "").split(/(?<!\\)\|/).m
 function tableOf(lines, linkTo) {
   const row = (tag, line) => make("tr", {}, ...cellsOf(line).map(it => make(tag, {}, ...inline(it, linkTo))));
   const [head, , ...rest] = lines;
-  return make("div", { className: "wide" }, make("table", {}, make("thead", {}, row("th", head)), make("tbody", {}, ...rest.map(it => row("td", it)))));
+  const table = make("table", {}, make("thead", {}, row("th", head)), make("tbody", {}, ...rest.map(it => row("td", it))));
+  return make("div", { className: "wide" }, table);
 }
 
 const ITEM = /^( *)(?:[-*+]|\d+\.) +/;
@@ -58,23 +61,38 @@ function taken(lines, isPart) {
 
 const isStart = line => /^(#{1,6} |```|\||>|    )/.test(line) || ITEM.test(line);
 
+function headingOf(lines, linkTo) {
+  const [, { length }, words] = /^(#+) +(.*)/.exec(lines.shift()), it = make(`h${length}`, {}, ...inline(words, linkTo));
+  return Object.assign(it, { id: `doc-${anchorOf(it.textContent)}` });
+}
+
+function fencedOf(lines) {
+  lines.shift();
+  const code = taken(lines, it => !it.startsWith("```")).join("\n");
+  lines.shift();
+  return make("pre", { textContent: code });
+}
+
+function indentedOf(lines) {
+  const isCode = it => it.startsWith("    "), code = taken(lines, it => isCode(it) || !it.trim() && isCode(lines[1] ?? ""));
+  return make("pre", { textContent: code.map(it => it.slice(4)).join("\n") });
+}
+
+function quotationOf(lines, linkTo) {
+  return make("blockquote", {}, ...blocksOf(taken(lines, it => it.startsWith(">")).map(it => it.replace(/^> ?/, "")), linkTo));
+}
+
+// The lines of a list: its items, what is indented after them, also after an empty line, and lines that continue a paragraph.
+const isOfList = lines => it => ITEM.test(it) || it.startsWith("  ") || (it.trim() ? !isStart(it) : /^( {2}|[-*+] |\d+\. )/.test(lines[1] ?? ""));
+
 function blockOf(lines, linkTo) {
-  const [line] = lines, heading = /^(#{1,6}) +(.*)/.exec(line);
-  if (heading) {
-    lines.shift();
-    const it = make(`h${heading[1].length}`, {}, ...inline(heading[2], linkTo));
-    return Object.assign(it, { id: `doc-${anchorOf(it.textContent)}` });
-  }
-  if (line.startsWith("```")) {
-    lines.shift();
-    const code = taken(lines, it => !it.startsWith("```")).join("\n");
-    lines.shift();
-    return make("pre", { textContent: code });
-  }
-  if (line.startsWith("    ")) return make("pre", { textContent: taken(lines, (it, part) => it.startsWith("    ") || !it.trim() && part.length && lines[1]?.startsWith("    ")).map(it => it.slice(4)).join("\n") });
+  const [line] = lines;
+  if (/^#{1,6} /.test(line)) return headingOf(lines, linkTo);
+  if (line.startsWith("```")) return fencedOf(lines);
+  if (line.startsWith("    ")) return indentedOf(lines);
   if (line.startsWith("|")) return tableOf(taken(lines, it => it.startsWith("|")), linkTo);
-  if (line.startsWith(">")) return make("blockquote", {}, ...blocksOf(taken(lines, it => it.startsWith(">")).map(it => it.replace(/^> ?/, "")), linkTo));
-  if (ITEM.test(line)) return listOf(taken(lines, it => ITEM.test(it) || it.startsWith("  ") || !it.trim() && /^( {2}|[-*+] |\d+\. )/.test(lines[1] ?? "") || !isStart(it) && !!it.trim()), linkTo);
+  if (line.startsWith(">")) return quotationOf(lines, linkTo);
+  if (ITEM.test(line)) return listOf(taken(lines, isOfList(lines)), linkTo);
   const words = taken(lines, (it, part) => it.trim() && !(part.length && isStart(it))).join("\n");
   return make("p", {}, ...inline(words, linkTo));
 }

@@ -5,11 +5,12 @@ import { startTimer, stopTimer } from "./timers.js";
 
 const PERIOD = 500;
 
-// The site as it is now: { stamp, image }, where `image` packs it, or fails, and the stamp changes with any file. `fetched` returns a reply of
-// the server, or fails.
+// The site as it is now: { stamp, image }, where `image` packs it, or fails, and the stamp changes with any file. `fetched` returns a
+// reply of the server, or fails.
 export async function siteOfFolder(fetched) {
   const { names, isImage, stamp } = await (await fetched("folder")).json();
-  const bytesOf = async name => new Uint8Array(await (await fetched(`folder/${name.split("/").map(encodeURIComponent).join("/")}`)).arrayBuffer());
+  const pathOf = name => `folder/${name.split("/").map(encodeURIComponent).join("/")}`;
+  const bytesOf = async name => new Uint8Array(await (await fetched(pathOf(name))).arrayBuffer());
   const image = async () => {
     if (isImage) return bytesOf(names[0]);
     return pack(await Promise.all(names.map(async name => ({ name: `/${name}`, bytes: await bytesOf(name) }))));

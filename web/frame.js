@@ -2,7 +2,7 @@
 // changed. Its scripts have this page's origin; plain.js is for scripts that are not trusted.
 import { after } from "./timers.js";
 
-const LONGEST_BLANK = 300;   // milliseconds
+const LONGEST_BLANK = 300, LONGEST_VISIT = 5000;   // milliseconds for which a load is awaited
 
 export class WorkerFrame {
   #id;               // of the device that is open
@@ -11,6 +11,7 @@ export class WorkerFrame {
   #trail;            // the targets that were shown, the last is shown now
   #isBack = false;   // a visit by Back is under way
   isAway = false;    // a link led to another origin
+  #visited = -LONGEST_VISIT;   // when a visit began whose page is not loaded
   #watched = new WeakSet();   // documents whose drags are watched
   #href = "";
 
@@ -19,6 +20,7 @@ export class WorkerFrame {
   constructor(element, { get, shown, left = () => {}, dragged = () => {} }) {
     Object.assign(this, { element, get, shown, left, dragged });
     this.answer = event => this.#answer(event);
+    element.addEventListener("load", () => { this.#visited = -LONGEST_VISIT; });
     this.renew();
   }
 
@@ -49,6 +51,7 @@ export class WorkerFrame {
 
   visit(target) {
     this.element.removeAttribute("sandbox");
+    this.#visited = performance.now();
     this.element.src = this.#mount + target;
     this.element.removeAttribute("srcdoc");
   }
@@ -58,9 +61,10 @@ export class WorkerFrame {
     this.element.contentWindow.location.reload();
   }
 
-  // Whether files that the page names are still missing.
+  // Whether the page that was visited, or a file that it names, is still missing. A download is never loaded.
   get isLoading() {
     const { contentDocument } = this.element;
+    if (performance.now() - this.#visited < LONGEST_VISIT) return true;
     return !!contentDocument && contentDocument.readyState !== "complete";
   }
 

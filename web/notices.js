@@ -29,7 +29,8 @@ export class Notices {
   }
 
   #itemOf(words, kind) {
-    const item = document.createElement("li"), close = Object.assign(document.createElement("button"), { textContent: "×", type: "button" });
+    const item = document.createElement("li"), close = document.createElement("button");
+    Object.assign(close, { textContent: "×", type: "button" });
     close.setAttribute("aria-label", "Dismiss the message");
     close.addEventListener("click", () => { item.remove(); this.#count(); });
     Object.assign(item.dataset, { kind, times: 1 });

@@ -72,7 +72,8 @@ function shown(now) {
 // A link that leads away from the device opens in a tab of its own if it was clicked.
 function left(url) {
   const isOpened = navigator.userActivation?.isActive && open(url, "_blank", "noopener") !== undefined;
-  notice(isOpened ? `${url} is not a page of the device: it opens in a tab of its own` : `the device's page leads away, to ${url}: it stays here`, "left");
+  notice(isOpened ? `${url} is not a page of the device: it opens in a tab of its own`
+    : `the device's page leads away, to ${url}: it stays here`, "left");
 }
 const dragged = () => { $("drop").hidden = false; };
 const plain = new PlainFrame($("frame"), { get, shown, left, dragged, failed: error => notice(error.message) });
@@ -276,7 +277,8 @@ function followAddress() {
 function writeAddress() {
   const numbers = Object.fromEntries([...FAULTS, "speed", "seed"].map(name => [name, +$(name).value]));
   const hash = session ? addressOf({ device, numbers, path: target, tour: tour.step }) : "";
-  if (hash !== location.hash) try { history.replaceState(null, "", hash || location.pathname + location.search); } catch { /* too often */ }
+  if (hash === location.hash) return;
+  try { history.replaceState(null, "", hash || location.pathname + location.search); } catch { /* too often */ }
 }
 
 async function copyLink() {
@@ -396,7 +398,7 @@ function showDatagram(row) {
   const { title, fields, hex } = detailsOf(row), dialog = $("datagram");
   dialog.querySelector("h2").textContent = title;
   dialog.querySelector("dl").replaceChildren(...fields.flatMap(([name, value]) =>
-    [Object.assign(document.createElement("dt"), { textContent: name }), Object.assign(document.createElement("dd"), { textContent: value })]));
+    ["dt", "dd"].map((tag, n) => Object.assign(document.createElement(tag), { textContent: [name, value][n] }))));
   dialog.querySelector("pre").textContent = hex;
   dialog.showModal();
 }
@@ -422,14 +424,16 @@ async function until(isSo, milliseconds = 20000) {
 const panel = new DevicePanel($("panel"), guard);
 const tour = new Tour($("tour"), stepsOf({
   rows, panel, load, until, setFaults, openSensor, openMeter, openRules, session: () => session, device: () => device, target: () => target,
-  visit: path => frame().visit(path), verdictAt: path => verdicts.get(path)?.kind, isComplete: path => target === path && verdicts.get(path)?.kind === "complete" && !frame().isLoading,
+  visit: path => frame().visit(path), verdictAt: path => verdicts.get(path)?.kind,
+  isComplete: path => target === path && verdicts.get(path)?.kind === "complete" && !frame().isLoading,
   endTour: () => { $("tour").hidden = true; followAddress(); },
 }), followAddress);
 const help = new Documents($("document"), async name => (await fetched(documentBase() + name)).text(), documentBase());
 
 const ACTIONS = {
-  "open-inside": () => tryHere(), "open-site": () => openSite(), "open-own": () => $("own-site").click(), "open-image": () => $("own-image").click(),
-  "open-port": () => openSerial(null), "open-bridge": () => openBridge(), close: disconnect, reload: () => frame().reload(), back: () => frame().back(),
+  "open-inside": () => tryHere(), "open-site": () => openSite(), "open-port": () => openSerial(null), "open-bridge": () => openBridge(),
+  "open-own": () => $("own-site").click(), "open-image": () => $("own-image").click(),
+  close: disconnect, reload: () => frame().reload(), back: () => frame().back(),
   ping, many: fetchMany, "no-faults": () => setFaults({}), "copy-link": copyLink, help: () => help.open("web/README.md", "what-you-can-do"),
   "save-capture": () => save(session.capture.file(), "line.pcapng"), "save-plain": () => save(session.capture.plain(), "line.pcap"),
   "save-text": () => save(new Blob([rows.text()], { type: "text/plain" }), "sequence.txt"), clear: () => rows.clear(),

@@ -19,7 +19,8 @@ export class DevicePanel {
   // `guard` runs what may fail and reports why.
   constructor(box, guard) {
     Object.assign(this, { box, guard });
-    for (const name of ["sensors", "more", "values", "hits", "query", "slots", "facts"]) this[name] = box.querySelector(`[data-panel=${name}]`);
+    for (const name of ["sensors", "more", "values", "hits", "query", "slots", "facts"])
+      this[name] = box.querySelector(`[data-panel=${name}]`);
   }
 
   // Shows a device with the files of its site and the values that its scripts display: { number, isText }. `kinds` has by number the name
@@ -28,9 +29,10 @@ export class DevicePanel {
     this.hide();
     this.#device = device;
     this.#fields.clear();
-    const rows = values.map(({ number, isText }) => [kinds[number]?.isSensor, this.#valueOf(number, isText, kinds[number] ?? { name: `value ${number}` })]);
-    this.sensors.replaceChildren(...rows.filter(([isSensor]) => isSensor).map(([, row]) => row));
-    this.values.replaceChildren(...rows.filter(([isSensor]) => !isSensor).map(([, row]) => row));
+    const rows = isOfSensor => values.filter(({ number }) => !!kinds[number]?.isSensor === isOfSensor)
+      .map(({ number, isText }) => this.#valueOf(number, isText, kinds[number] ?? { name: `value ${number}` }));
+    this.sensors.replaceChildren(...rows(true));
+    this.values.replaceChildren(...rows(false));
     this.sensors.hidden = !this.sensors.children.length;
     this.values.closest("section").hidden = !this.values.children.length;
     this.#lamps = files.slice(0, MOST).map(({ name }) => ({ name, count: 0, since: -LIT, ...lampOf(name) }));
@@ -59,7 +61,8 @@ export class DevicePanel {
 
   // A field for a value; for a number also a slider.
   #valueOf(number, isText, { name, isOfFirmware = false, isSensor = false }) {
-    const text = make("input", { type: "text", maxLength: 32, spellcheck: false, placeholder: isText ? "text" : "number", readOnly: isOfFirmware });
+    const placeholder = isText ? "text" : "number";
+    const text = make("input", { type: "text", maxLength: 32, spellcheck: false, placeholder, readOnly: isOfFirmware });
     const slider = make("input", { type: "range", value: 0 }), label = make("span", { textContent: name });
     const row = make("div", { className: "value" }, label, slider, text);
     const set = value => {

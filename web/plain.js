@@ -47,8 +47,8 @@ export class PlainFrame {
   #running = 0;    // pages that are being put together
   isAway = false;  // as of WorkerFrame: links do not lead away here
 
-  // `get` returns a page's reply, `shown` receives the target that is shown, and `failed` the error if none is. `left` and `dragged` are as of
-  // WorkerFrame.
+  // `get` returns a page's reply, `shown` receives the target that is shown, and `failed` the error if none is. `left` and `dragged` are
+  // as of WorkerFrame.
   constructor(element, { get, shown, failed, left = () => {}, dragged = () => {} }) {
     Object.assign(this, { element, get, shown, failed, left, dragged });
     addEventListener("message", event => this.#receive(event));

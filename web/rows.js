@@ -28,7 +28,8 @@ export class Rows {
   #takeKey(event, choose) {
     const line = this.#lines.has(document.activeElement) ? document.activeElement : null, { rows } = this.body;
     if (event.key === "Enter" && line) choose(this.#lines.get(line));
-    const next = { ArrowDown: line ? line.nextElementSibling : rows[0], ArrowUp: line ? line.previousElementSibling : rows[rows.length - 1] }[event.key];
+    const next = event.key === "ArrowDown" ? (line ? line.nextElementSibling : rows[0])
+      : event.key === "ArrowUp" ? (line ? line.previousElementSibling : rows[rows.length - 1]) : null;
     if (!next) return;
     event.preventDefault();
     next.focus();
@@ -55,7 +56,8 @@ export class Rows {
   mark(numbers) {
     this.#marked = new Set(numbers);
     this.#showMarks([...this.body.rows]);
-    [...this.body.rows].find(line => line.classList.contains("marked"))?.scrollIntoView({ block: "nearest" });
+    const first = [...this.body.rows].find(line => line.classList.contains("marked"));
+    if (first) this.box.scrollTop = first.offsetTop - 2 * first.offsetHeight;   // the head of the table covers a row
   }
 
   #showMarks(lines) {

@@ -7,8 +7,8 @@ const NAME = 0, SECONDS = 1, NOTE = 3, ALARM = 6, PERIOD = 250, MOST_BYTES = 32;
 export const LEVEL = 2, LAMP = 4, LIMIT = 5;
 
 // Each value has a name. The sensor's is yours to move, and those of the firmware are its own.
-export const VALUES = [{ name: "name" }, { name: "seconds", isOfFirmware: true }, { name: "level", isSensor: true }, { name: "note", isOfFirmware: true },
-  { name: "lamp", isOfFirmware: true }, { name: "limit" }, { name: "alarm", isOfFirmware: true }];
+export const VALUES = [{ name: "name" }, { name: "seconds", isOfFirmware: true }, { name: "level", isSensor: true },
+  { name: "note", isOfFirmware: true }, { name: "lamp", isOfFirmware: true }, { name: "limit" }, { name: "alarm", isOfFirmware: true }];
 
 // The alarm level that a query sets, from 0 to 100, or undefined if it sets none. After it the query ends or "&" follows.
 function limitIn(query) {

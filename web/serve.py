@@ -427,7 +427,8 @@ class Words:
             form.error("-- is followed by the command of a program")
         if given.line and not given.line[1].isdigit():
             form.error(f"{given.line[1]} is no rate of a port, in bits a second")
-        ways = [name for name, value in (("UIPD or SITE", given.plain), ("--line", given.line), ("--board", given.board), ("--", self.command)) if value]
+        devices = (("UIPD or SITE", given.plain), ("--line", given.line), ("--board", given.board), ("--", self.command))
+        ways = [name for name, value in devices if value]
         if len(ways) > 1:
             form.error(f"{ways[0]} and {ways[1]} are two devices: the page has one")
         plain, self.port, self.board, self.is_alone, self.is_opened = given.plain, given.port, given.board, given.page, given.open

@@ -24,7 +24,8 @@ export class Session {
   sequence = new Sequence();
   capture = new Capture();
   // `retransmissions` are the device's, `repeated` are this page's.
-  sums = { datagrams: 0, hit: 0, retransmissions: 0, repeated: 0, different: 0, noise: 0, retried: 0, complete: 0, wrong: 0, truncated: 0, bytes: 0 };
+  sums = { datagrams: 0, hit: 0, retransmissions: 0, repeated: 0, different: 0, noise: 0, retried: 0, complete: 0, wrong: 0, truncated: 0,
+    bytes: 0 };
   #atOnce = AT_ONCE;
   #running = 0;
   #waiting = [];
@@ -96,7 +97,8 @@ export class Session {
     this.notice(`no answer for ${seconds} s${why || ";"} sent again`, "wait");
   }
 
-  // Requests a page: at most `atOnce` in parallel, the others wait. `judged` receives its verdict: complete, wrong or truncated, and why it is wrong.
+  // Requests a page: at most `atOnce` in parallel, the others wait. `judged` receives its verdict, complete, wrong or truncated, and why it
+  // is wrong.
   async get(target, judged = () => {}) {
     if (this.#running < this.atOnce) this.#running++;
     else await new Promise(resolve => this.#waiting.push(resolve));

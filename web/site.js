@@ -61,7 +61,8 @@ export function valuesOf(files) {
   const found = new Map();
   for (const { name, bytes } of files) {
     if (!name.endsWith(".shtml")) continue;
-    for (const [, form = "", number] of new TextDecoder().decode(bytes).matchAll(VALUE)) found.set(+number, (found.get(+number) ?? true) && form !== "");
+    for (const [, form = "", number] of new TextDecoder().decode(bytes).matchAll(VALUE))
+      found.set(+number, (found.get(+number) ?? true) && form !== "");
   }
   return [...found].map(([number, isText]) => ({ number, isText })).sort((a, b) => a.number - b.number);
 }

@@ -29,7 +29,7 @@ export function stepsOf(page) {
     const own = await opened();
     if (!own) return {};
     page.rows.mark([1, 2, 3]);
-    return { kind: "good", words: `Datagrams 1 to 3 are the handshake. The page and its style took ${own.sums.datagrams}.` };
+    return { kind: "good", words: `Datagrams 1 to 3 are the handshake. Here are ${own.sums.datagrams} in all.` };
   }
 
   async function press() {
@@ -52,8 +52,9 @@ export function stepsOf(page) {
     page.setFaults({ loss: 30, speed: 10 });
     const done = await page.load("/", 20);
     if (!done) return {};
-    const { retransmissions, different } = page.session().sums, counts = `${done.complete} pages complete, ${done.wrong} wrong`;
-    return { kind: done.wrong ? "bad" : "good", words: `${counts}. ${retransmissions} retransmissions by the device, ${different} different.` };
+    const { retransmissions, different } = page.session().sums, kind = done.wrong ? "bad" : "good";
+    const words = `${done.complete} pages complete, ${done.wrong} wrong. ${retransmissions} retransmissions by the device, ${different} different.`;
+    return { kind, words };
   }
 
   async function capture() {
@@ -61,7 +62,7 @@ export function stepsOf(page) {
     const own = await opened({ plan: losesFirstText() });
     if (!own) return {};
     await page.until(() => own.sums.retransmissions > 0, 1000);
-    const lost = page.rows.kept.find(it => it.fate.includes("lost")), again = page.rows.kept.find(it => it.isAgain && !it.isToNode);
+    const { kept } = page.rows, lost = kept.find(it => it.fate.includes("lost")), again = kept.find(it => it.isAgain && !it.isToNode);
     if (!lost || !again) return { kind: "warn", words: "The line was busy: try it again." };
     page.rows.mark([lost.number, again.number]);
     const wait = (again.time - lost.time).toFixed(1);
@@ -82,7 +83,8 @@ export function stepsOf(page) {
     page.setFaults({ speed: 10 });
     const here = await wrongPages(page.openMeter), there = here === null ? null : await wrongPages(page.openRules);
     if (there === null) return {};
-    return { kind: "bad", words: `Pages with both numbers: here ${here} of ${TIMES}; by uIP's rules ${there} of ${TIMES}, as the one that you see.` };
+    const words = `Pages with both numbers: here ${here} of ${TIMES}; by uIP's rules ${there} of ${TIMES}, as the one that you see.`;
+    return { kind: "bad", words };
   }
 
   async function end() {

@@ -33,17 +33,17 @@ const STEPS = [
 ];
 const LAST = {
   title: "Now break it yourself",
-  text: "Move the sliders, drop a folder with your own site onto this page, save the line for Wireshark, or send somebody the link to this run.",
+  text: "Move the sliders, drop a folder with your own site onto this page, save the line for Wireshark, or send somebody "
+    + "the link to this run.",
   button: "Back to the water tank",
 };
-export const STEP_COUNT = STEPS.length;
 
 export class Tour {
   #at = 0;
   #isBusy = false;
 
-  // `box` is the element; `actions` has one for each step and one for the end. Each resolves to { kind, words } or nothing. `moved` runs when
-  // another step is shown.
+  // `box` is the element; `actions` has one for each step and one for the end. Each resolves to { kind, words } or nothing. `moved` runs
+  // when another step is shown.
   constructor(box, actions, moved = () => {}) {
     Object.assign(this, { box, actions, moved });
     this.button = box.querySelector("[data-tour=go]");

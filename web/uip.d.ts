@@ -26,7 +26,7 @@ export interface Connection {
   port: number;
   /** How often the segment that waits for its acknowledgement was sent again. */
   tries: number;
-  /** The ticks until that segment is sent again; in FIN-WAIT-2 and TIME-WAIT the ticks spent there. */
+  /** The ticks that pass before that segment is sent again; in FIN-WAIT-2 and TIME-WAIT the ticks spent there. */
   count: number;
   isWaiting: boolean;
 }

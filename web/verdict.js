@@ -7,7 +7,8 @@ const replies = count => some(count, "reply", "replies");
 function again({ retransmissions, different }) {
   if (!retransmissions) return "The device sent nothing twice.";
   if (different) return `${some(different, "retransmission")} of ${retransmissions.toLocaleString("en")} with different bytes.`;
-  return retransmissions === 1 ? "One retransmission by the device, identical." : `${some(retransmissions, "retransmission")} by the device, all identical.`;
+  if (retransmissions === 1) return "One retransmission by the device, identical.";
+  return `${some(retransmissions, "retransmission")} by the device, all identical.`;
 }
 
 // `loading` is the target that the frame is loading, if it is.

@@ -127,6 +127,7 @@ inBrowser("each fault of a port has its message, and the page goes on", () => wi
   await tab.run(`self.chooseNone = false; self.refuseOpen = true`);
   await click(tab, "open-port");
   await tab.until(hasNotice("another program has it"));
+  await tab.until(ends("not connected"));
   await tab.run(`self.refuseOpen = false`);
   await click(tab, "open-port");
   await tab.until(shows("Lowunbisa"));
