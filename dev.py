@@ -12,6 +12,7 @@
     python3 dev.py counts             lines of imports, and clauses of over 200 characters; `docs` fails if they are above their limits
     python3 dev.py names              types of src/ that two crates define
     python3 dev.py calls              public calls that have neither a caller, nor a test, nor an edit
+    python3 dev.py trusted NAME       what a definition rests on; `trusted write` writes the generated pages; `trusted --help` has the rest
     python3 dev.py add NAME           the places that a new counter, state, command .. takes: the tags `[add: NAME]` of the sources
     python3 dev.py ci                 runs `rt ci`, and prints its progress and the processor minutes by crate; its status is that of rt
     python3 dev.py gate [LOG]         those minutes of the last run that was watched in this clone, or of a log
@@ -33,6 +34,7 @@ import counts  # noqa: E402
 import documents  # noqa: E402
 import flash  # noqa: E402
 import gate  # noqa: E402
+import trusted  # noqa: E402
 import words  # noqa: E402
 from repository import Crates  # noqa: E402
 
@@ -72,13 +74,14 @@ WITH_WORDS = {
     "above": lambda rest: of_crates("above", rest),
     "check": lambda rest: of_crates("check", rest),
 }
+OF_MODULES = {"words": words, "add": add, "trusted": trusted}
 WITH_ONE = {"gate": gate.show, "flash": flash.show, "watch": gate.watch}
 
 
 def main():
     verb, *rest = sys.argv[1:] or [""]
-    if verb in ("words", "add"):
-        (words if verb == "words" else add).main(rest)
+    if verb in OF_MODULES:
+        OF_MODULES[verb].main(rest)
     elif not rest and verb in PLAIN:
         PLAIN[verb]()
     elif rest and verb in WITH_WORDS:

@@ -11,7 +11,7 @@ case "$1" in -h|--help) sed -n '2,9s/^# \{0,1\}//p' "$0"; exit 0;; esac
 top=$(cd "$(dirname "$0")" && pwd)
 fail() { echo "release: $1" >&2; exit 1; }
 cd "$top" || exit 1
-version=$(sed -n 's/^VERSION = //p' Makefile)
+version=$(sh packaging/version.sh)
 name=lowunbisa-$version
 mkdir -p "${1:-out}" || exit 1
 out=$(cd "${1:-out}" && pwd)
@@ -47,10 +47,11 @@ libraries() {
         mv "$made/lib/x86_64/$library.a" "$made/lib/x86_64/lib$library.a"
     done
     put include include/uip.h include/uip_app.h include/uip_both.h
-    put lib/cmake/uip_c uip_c-config.cmake
+    put lib/cmake/uip_c packaging/uip_c-config.cmake
+    sed "s|@VERSION@|$version|; s|@MAJOR@|${version%%.*}|" packaging/uip_c-config-version.cmake.in >"$made/lib/cmake/uip_c/uip_c-config-version.cmake"
     mkdir -p "$made/lib/pkgconfig"
     # shellcheck disable=SC2016
-    sed "s|@VERSION@|$version|"'; s|@LIBDIR@|${prefix}/lib/x86_64|' uip_c.pc.in >"$made/lib/pkgconfig/uip_c.pc"
+    sed "s|@VERSION@|$version|"'; s|@LIBDIR@|${prefix}/lib/x86_64|' packaging/uip_c.pc.in >"$made/lib/pkgconfig/uip_c.pc"
 }
 
 program() {
@@ -85,7 +86,9 @@ examples() {
     put examples/common/fallback examples/board/fallback/string.h
     put examples/m4 ports/archive/m4/Makefile ports/boards/mps2.c ports/boards/lan9118.c ports/boards/cortex_m.h
     put examples/rv32 ports/archive/rv32/Makefile ports/boards/riscv.c
-    put examples/linux ports/archive/linux/Makefile examples/linux-c/serve.c examples/linux-c/heap.c examples/linux-ether/tap.c
+    put examples/linux ports/archive/linux/Makefile examples/linux-c/heap.c examples/linux-ether/tap.c
+    put dist dist/*
+    put examples examples/serve.c
 }
 
 documents() {

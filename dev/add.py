@@ -1,6 +1,6 @@
 """The places that a new counter, state, command .. takes: each has a tag `[add: NAME]` in a comment.
 
-docs/ARCHITECTURE.md, "How to add something", names the tags; `python3 dev.py add NAME` prints their places.
+CONTRIBUTING.md, "How to add something", names the tags; `python3 dev.py add NAME` prints their places.
 """
 import re
 import sys
@@ -9,10 +9,10 @@ from repository import Crates, read, tracked
 
 TAG = re.compile(r"\[add: ([a-z][a-z, -]*)\]")
 MARKS = re.compile(r"^\s*(?:///?|//!|--|#+(?![\[!])|/\*+|\*|<!--)\s*|\s*(?:\*/|-->)\s*$")
-TABLE = "docs/ARCHITECTURE.md"
+TABLE = "CONTRIBUTING.md"
 SKIPPED = (".png", ".img", ".slip", ".xz", ".pcap", ".wasm")
 PARTS = ("src", "specs", "proofs", "must-fail")
-GENERATED = ("docs/SPECIFICATION.md", "docs/FIRST_PROOF.md")
+GENERATED = ("docs/DEFINITIONS.md", "docs/GUARANTEE.md", "crates/rexmit_timer/FIRST_PROOF.md")
 MOST_TEXT = 200
 
 

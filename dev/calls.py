@@ -2,7 +2,8 @@
 
 A call is a `pub fn` that lib.rt passes on, or a method of a type that it passes on. A caller is a line of a source of the
 crate, or of a crate above it, that writes the call; a test is such a line of a test, or of a C program. An edit counts for
-the function whose text it changes. The search goes by names, so it can miss a call of a common name; it reports none wrongly.
+the function whose text it changes. A namesake is no caller: a free call counts in a file that imports it, or in the module
+that defines it, and a method that several types have counts in a crate that names its type.
 """
 import collections
 import os
@@ -13,16 +14,23 @@ from repository import read, tracked
 # Calls that are right without a caller, a test and an edit, each with the reason.
 EXCEPTIONS = {
     "tcp_segment::Segment::has_psh": "one of five readers of flags; no call here depends on PSH",
+    "tcp_machine::ask": "the interface has it; the node calls what it joins: `is_due`, `prepare` and `ask_prepared`",
+    "uip_edge::NullSink::new": "the interface has it; a run that needs no output takes the sink",
+    "uip_device::Device::ticks": "a reader of any device; the libraries for C read by `node_row` and the like",
+    "uip_device::Device::is_idle": "as `ticks`",
+    "uip_device::Device::row": "as `ticks`",
+    "uip_device::Device::counter": "as `ticks`",
 }
 CALL = re.compile(r"^(\s*)pub (?:unsafe )?(?:extern \"C\" )?fn (\w+)")
+OWNER = re.compile(r"^(?:pub(?:\(\w+\))? )?(?:impl(?:<[^{]*?>)?\s+(?:[^{]*?\bfor\s+)?|trait\s+)(\w+)")
 IMPL = re.compile(r"^impl(?:<[^{]*?>)?\s+(?:[^{]*?\bfor\s+)?(\w+)")
 
 
 class Call:
-    """A public function: its crate, file, type (none: it is free) and name, and the lines of its text."""
+    """A public function: its crate, file, type (none: it is free) and name, the lines of its text, and whether C can call it."""
 
-    def __init__(self, crate, path, owner, name, first, last):
-        self.crate, self.path, self.owner, self.name, self.first, self.last = crate, path, owner, name, first, last
+    def __init__(self, crate, path, owner, name, first, last, is_for_c):
+        self.crate, self.path, self.owner, self.name, self.first, self.last, self.is_for_c = crate, path, owner, name, first, last, is_for_c
 
     def full(self):
         return f"{self.crate}::{self.owner + '::' if self.owner else ''}{self.name}"
@@ -51,7 +59,8 @@ def calls_of(crate, sources):
                 owner = found[1] if found else None if line.startswith("}") else owner
             found = CALL.match(line)
             if found and not is_law(lines, number) and (is_open or (owner if found[1] else found[2]) in names):
-                yield Call(crate, path, owner if found[1] else None, found[2], number, end_of(lines, number, found[1]))
+                owned = owner if found[1] else None
+                yield Call(crate, path, owned, found[2], number, end_of(lines, number, found[1]), 'extern "C"' in line)
 
 
 def end_of(lines, number, indent):
@@ -76,13 +85,21 @@ class Uses:
         self.sources = {it: read(it) for it in tracked() if re.match(r"crates/\w+/src/.*\.rt$", it)}
         self.above = {name: set(crates.above([name])) for name in crates.below}
         self.aliases = collections.defaultdict(set)
+        self.owners = collections.defaultdict(set)   # the name of a method: the types that have one of this name
+        self.named = {}                              # a crate: the words of its sources
         self.at = collections.defaultdict(list)      # name: (path, line number, text)
         for path, text in self.sources.items():
             for alias, name in re.findall(r"^\s*(?:pub(?:\(\w+\))? )?type (\w+)[^=;]*=\s*(\w+)", text, re.M):
                 self.aliases[name].add(alias)
             for name, alias in re.findall(r"\b([A-Z]\w*) as ([A-Z]\w*)", text):
                 self.aliases[name].add(alias)
+            self.named.setdefault(path.split("/")[1], set()).update(re.findall(r"\w+", re.sub(r"//[^\n]*", "", text)))
+            owner = None
             for number, line in enumerate(text.split("\n"), 1):
+                head = OWNER.match(line)
+                owner = head[1] if head else owner if line[:1].isspace() or not line else None if line.startswith("}") else owner
+                for name in re.findall(r"^\s+(?:pub(?:\(\w+\))? )?(?:unsafe )?fn (\w+)", line):
+                    self.owners[name].add(owner)
                 for name in set(re.findall(r"\b(\w+)(?:::<[^>]*>)?\(", line.partition("//")[0])):
                     self.at[name].append((path, number, line))
         others = [it for it in tracked() if it.endswith((".c", ".h")) and not it.startswith("include/")]
@@ -90,13 +107,34 @@ class Uses:
 
     def is_used(self, call):
         """Whether a line writes the call, by its type or on a value."""
-        owners = "|".join({call.owner, "Self", *self.aliases[call.owner]}) if call.owner else ""
-        form = re.compile(rf"(?:\.|\b(?:{owners})(?:::<[^>]*>)?::){call.name}\b" if call.owner else rf"(?<![.\w]){call.name}\b(?:::<[^>]*>)?\(")
         for path, number, line in self.at[call.name]:
             is_own = path == call.path and call.first <= number <= call.last
-            if path.split("/")[1] in self.above[call.crate] and not is_own and not re.search(rf"\bfn {call.name}\b", line) and form.search(line):
+            is_above = path.split("/")[1] in self.above[call.crate] and not is_own and not re.search(rf"\bfn {call.name}\b", line)
+            if is_above and (self.is_of_type(call, path, line) if call.owner else self.is_free(call, path, line)):
                 return True
-        return call.name in self.c_words
+            if re.search(rf"\$\w+::{call.name}\(", line) and any(call.owner in self.named[it] for it in self.above[call.crate] - {call.crate}):
+                return True     # a macro calls it of each type that a line passes to it
+        return call.is_for_c and call.name in self.c_words
+
+    def is_of_type(self, call, path, line):
+        """Whether a line writes a method by its type, or on a value that can have this type."""
+        types = {call.owner, *self.aliases[call.owner]}
+        by_type = rf"\b(?:{'|'.join(types)}{'|Self' if path == call.path else ''})(?:::<[^>]*>)?::{call.name}\b"
+        if re.search(by_type, line):
+            return True
+        is_one = len(self.owners[call.name]) < 2 or types & self.named[path.split("/")[1]]
+        return bool(is_one and re.search(rf"\.{call.name}\b", line))
+
+    def is_free(self, call, path, line):
+        """Whether a line writes a free function that its file imports, or that the module defines which it names."""
+        module = os.path.basename(call.path)[:-3]
+        if re.search(rf"\b(?:{module}|{call.crate})::{call.name}\b(?:::<[^>]*>)?\(", line):
+            return True
+        text = self.sources[path]
+        imported = rf"^\s*(?:pub )?use [^;]*\b(?:{call.crate}|crate|super|self)::[^;]*(?:\b{call.name}\b|\*)[^;]*;"
+        is_here = path == call.path or re.search(imported, text, re.M)
+        is_other = path != call.path and re.search(rf"^\s*(?:pub(?:\(\w+\))? )?fn {call.name}\b", text, re.M)
+        return bool(is_here) and not is_other and bool(re.search(rf"(?<![.\w:]){call.name}\b(?:::<[^>]*>)?\(", line))
 
     def edited(self, crates, name):
         """For each file of a crate the numbers of the lines that its edits change."""

@@ -7,6 +7,7 @@ import sys
 import add
 import calls
 import counts
+import trusted
 import words
 from repository import TOP, read, tracked
 
@@ -24,23 +25,21 @@ OUTSIDE = set("""
 NO_PATH = re.compile(r"(.*/)?out/.*|rattle/.*|(text|image|font|audio|application)/.*|[A-Z]+(/[A-Z]+)+|\d+(/\d+)+")
 KIT = re.compile(r"rattle-kit-\w+")
 # Files whose words name nothing: pages, data, and the stored counts of words.
-NO_SOURCE = (".md", ".png", ".img", ".slip", ".xz", ".pcap", ".wasm", "docs/words.txt")
+NO_SOURCE = (".md", ".png", ".img", ".slip", ".xz", ".pcap", ".wasm", "dev/words.txt")
 
 
 class Documents:
     """The Markdown pages and the words of all sources."""
 
     def __init__(self, crates):
-        self.crates, self.faults = crates, []
+        self.crates, self.faults, self.anchors_of, self.files_of = crates, [], {}, None
         self.files = tracked()
         self.pages = [it for it in self.files if it.endswith(".md")]
         self.stems = {os.path.splitext(os.path.basename(it))[0] for it in self.files}
         self.names = {os.path.basename(it) for it in self.files} | self.stems
         self.places = set(self.files) | {"/".join(it.split("/")[:n]) for it in self.files for n in range(1, it.count("/") + 1)}
-        self.words = set()
-        for path in self.files:
-            if not path.endswith(NO_SOURCE):
-                self.words.update(re.findall(r"[A-Za-z_][\w'-]*|\w+", read(path)))
+        self.words_of = {it: set(re.findall(r"[A-Za-z_][\w'-]*|\w+", read(it))) for it in self.files if not it.endswith(NO_SOURCE)}
+        self.words = set().union(*self.words_of.values())
         self.words |= {part for it in self.words for part in re.split(r"[-']", it)}
 
     def fault(self, page, number, text):
@@ -62,6 +61,14 @@ class Documents:
         parts = [it for it in re.split(r"::|\.|\(\)|[<>,&]", text) if it]
         return all(it in self.words or it in self.names or it in OUTSIDE or it.isdigit() or KIT.fullmatch(it) for it in parts)
 
+    def is_member(self, text):
+        """Whether a name as `Type::call` has both words in one source, or the second in a file of the first name."""
+        pair = re.fullmatch(r"([A-Z][\w']*)(?:::|\.)([A-Za-z_][\w']*)(?:\(\))?", text)
+        if not pair or text in self.names:
+            return True
+        return any({pair[1], pair[2]} <= words or pair[2] in words and os.path.splitext(os.path.basename(path))[0] == pair[1]
+                   for path, words in self.words_of.items())
+
     def see_names(self, page, number, line, crates):
         """Compares the names and paths in back quotes with the sources; a path of a crate is a path of one of these crates."""
         for text in re.findall(r"`([^`]+)`", line):
@@ -72,9 +79,38 @@ class Documents:
                     self.fault(page, number, f"there is no {text}")
             elif re.fullmatch(r"[A-Za-z_][\w'-]*((::|\.)[A-Za-z_][\w'-]*)*(\(\))?", text) and not self.is_name(text):
                 self.fault(page, number, f"no source has the name {text}")
+            elif not self.is_member(text):
+                self.fault(page, number, f"no source has both parts of {text}")
         for target in re.findall(r"\]\(([^)\s]+)\)", line):
-            if not re.match(r"[a-z]+:|#", target) and not os.path.exists(os.path.join(TOP, os.path.dirname(page), target.split("#")[0])):
+            path, _, anchor = target.partition("#")
+            there = os.path.normpath(os.path.join(os.path.dirname(page), path)) if path else page
+            if re.match(r"[a-z]+:", target):
+                continue
+            if not os.path.exists(os.path.join(TOP, there)):
                 self.fault(page, number, f"the link to {target} has no target")
+            elif anchor and there.endswith(".md") and anchor not in self.anchors(there):
+                self.fault(page, number, f"{there} has no heading #{anchor}")
+
+    def anchors(self, page):
+        """The anchors of a page: those of its headings, as hosts of repositories make them, and those with an id."""
+        if page not in self.anchors_of:
+            text = re.sub(r"^```.*?^```", "", read(page), flags=re.S | re.M)
+            heads = re.findall(r"^#+ +(.*?) *$", text, re.M)
+            slugs = {re.sub(r"[^\w\- ]", "", re.sub(r"\]\([^)]*\)", "", it).lower()).replace(" ", "-") for it in heads}
+            self.anchors_of[page] = slugs | set(re.findall(r'<a id="([^"]+)"', text))
+        return self.anchors_of[page]
+
+    def see_files(self, page, number, line):
+        """In a table headed by `file of` a folder, each name in the first column is a file of that folder."""
+        cells = [it.strip() for it in line.strip().strip("|").split("|")]
+        head = re.fullmatch(r"files? of `([\w/-]+)`", cells[0], re.I)
+        if head or not line.startswith("|"):
+            self.files_of = head[1] if head else None
+        elif self.files_of:
+            for name in re.findall(r"`([^`]+)`", cells[0]):
+                folders = (self.files_of, os.path.join(os.path.dirname(page), self.files_of))
+                if not any(os.path.normpath(f"{at}/{name}{end}") in self.places for at in folders for end in ("", ".antt", ".rt")):
+                    self.fault(page, number, f"{self.files_of} has no file {name}")
 
     def crates_in(self, text):
         return {it for it in re.findall(r"\w+", text) if it in self.crates.below}
@@ -86,16 +122,13 @@ class Documents:
         latest = set()
         for number, line in enumerate(lines, 1):
             latest = self.crates_in(line) or latest
-            for mark in re.findall(r"<!-- list: (.*?) -->", line):
-                for it in mark.split():
-                    if it not in self.crates.below and not self.is_path(page, it, ()):
-                        self.fault(page, number, f"the list has {it}, which is neither a crate nor a file of a crate")
             in_code ^= line.startswith("```")
             in_list = (in_list or line.startswith("<!-- ")) and not line.startswith("<!-- end")
             if in_code or line.startswith(("    ", "```")):
                 continue
             if not in_list:
                 self.see_names(page, number, line, latest | about)
+                self.see_files(page, number, line)
                 if len(line) > WIDTH and not line.startswith(("|", "#")) and " " in line.strip()[:WIDTH] and "](" not in line:
                     self.fault(page, number, f"{len(line)} columns; at most {WIDTH} are allowed")
             timed = re.search(r"\b\d+( to \d+)? (s|seconds)\b.*\bcheck|\bcheck\w*\b[^.]*\b\d+( to \d+)? (s|seconds)\b", line)
@@ -109,8 +142,10 @@ class Documents:
             if page not in self.places:
                 self.fault(page, 1, "the crate has no page")
                 continue
-            if not re.search(rf"^\| \[`{name}`\]\(\.\./crates/{name}/README\.md\)", table, re.M):
-                self.fault("docs/ARCHITECTURE.md", 1, f"the table of crates has no row for {name}")
+            if not re.search(rf"^\| \[`{name}`\]\(\.\./crates/{name}/README\.md\) \|", table, re.M):
+                self.fault("docs/ARCHITECTURE.md", 1, f"the table of crates has no row for {name}: `python3 dev.py trusted write` makes it")
+            if not re.match(rf"# `{name}`: \S", read(page)):
+                self.fault(page, 1, f"the heading of the page is not `# {name}:` in back quotes, with what it is")
             sources = [it for it in self.files if it.startswith(f"crates/{name}/src/")]
             has_tests = any("#[test]" in read(it) for it in sources)
             for number, line in enumerate(read(page).splitlines(), 1):
@@ -196,12 +231,11 @@ def see_kit():
 def docs(crates):
     documents = Documents(crates)
     documents.see_all()
-    faults = documents.faults + add.faults(crates) + calls.faults(crates) + words.faults() + counts.faults()
+    faults = documents.faults + add.faults(crates) + calls.faults(crates) + words.faults() + counts.faults() + trusted.faults()
     for line in faults:
         print(line)
     failed = bool(faults)
-    for command in (["docs/trusted.py"], ["docs/trusted.py", "names"], ["examples/image.py"]):
-        failed |= subprocess.run([sys.executable, *command], cwd=TOP, check=False).returncode != 0
+    failed |= subprocess.run([sys.executable, "examples/image.py"], cwd=TOP, check=False).returncode != 0
     see_kit()
     if not failed:
         print("the documents agree with the sources")

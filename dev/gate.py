@@ -17,6 +17,7 @@ from repository import TOP, Crates, store
 
 EVERY = 0.5            # seconds between two samples
 PROGRESS = 20          # seconds between two lines of progress, at least
+SILENCE = 300          # seconds after which a line is printed, even if nothing has ended
 KINDS = ("proof", "tests", "edits", "programs")
 TICKS = os.sysconf("SC_CLK_TCK")
 STORED = "lowunbisa-gate"
@@ -122,9 +123,13 @@ class Watch:
         spent[None] += self.rest
         return spent
 
-    def progress(self):
+    def counts(self):
+        """How many crates are checked, how many checks of edits have ended, and how many tests and programs."""
         working = {task[0] for task, _ in self.live.values() if task[1] == "proof"}
-        done = len(self.ended["proof"] - working)
+        return len(self.ended["proof"] - working), self.tried, len(self.ended["tests"] | self.ended["programs"])
+
+    def progress(self):
+        done = self.counts()[0]
         edits = sum(len(self.crates.edits(name)) for name in self.crates.below)
         minutes, busy = (time.monotonic() - self.started) / 60, sum(self.seconds().values()) / 60
         return (f"progress: {done} of {len(self.crates.below)} crates checked, {self.tried} checks of {edits} edits, "
@@ -179,14 +184,14 @@ def show(path):
 
 def follow(watch, is_over):
     """Samples until the run has ended, and prints its progress on standard error."""
-    printed, last = 0.0, ""
+    printed, last = time.monotonic(), watch.counts()
     while not is_over():
         if not watch.sample():
             break
-        line = watch.progress()
-        if watch.ended["proof"] and line.partition(", ")[0] != last and time.monotonic() - printed >= PROGRESS:
-            printed, last = time.monotonic(), line.partition(", ")[0]
-            print(line, file=sys.stderr, flush=True)
+        counts, silence = watch.counts(), time.monotonic() - printed
+        if (counts != last and silence >= PROGRESS) or silence >= SILENCE:
+            printed, last = time.monotonic(), counts
+            print(watch.progress(), file=sys.stderr, flush=True)
         time.sleep(EVERY)
     lines = table_of(watch.seconds(), watch.crates.below, time.monotonic() - watch.started)
     with open(store(STORED), "w", encoding="utf8") as file:

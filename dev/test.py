@@ -10,14 +10,15 @@ import sys
 import tempfile
 
 HERE = os.path.dirname(os.path.abspath(__file__))
-TABLE = "# Architecture\n\n## How to add something\n\n| thing | places |\n|---|---|\n| a counter | `python3 dev.py add counter` |\n"
+KIT = "The kit is rattle-kit-13 with the letters 13b and 13y.\n"
+TABLE = KIT + "\n## How to add something\n\n| thing | places |\n|---|---|\n| a counter | `python3 dev.py add counter` |\n"
 FILES = {
     "crates.txt": "# the wire\nlow:\n# above\nhigh: low\n",
     "README.md": "# A page\n\nIt sends what it has.\n\n    it tells and says and hears\n\n```\nit stands\n```\n\nAlso `it tells`.\n",
-    "CONTRIBUTING.md": "The kit is rattle-kit-13 with the letters 13b and 13y.\n",
-    "docs/ARCHITECTURE.md": TABLE,
+    "CONTRIBUTING.md": TABLE,
+    "docs/ARCHITECTURE.md": "# Architecture\n",
     "docs/page.1": ".TH PAGE\n.SH NAME\nIt \\fBtells\\fP it.\n.B says\n.nf\nit stands\n.fi\nIt was said once.\n",
-    "crates/low/README.md": "# `low`\n",
+    "crates/low/README.md": "# `low`: the wire's numbers\n",
     "crates/low/src/lib.rt": "mod low;\n\npub use low::{Low, free, lost};\n",
     "crates/low/src/low.rt": """/// The numbers that were handed over.
 pub struct Low {
@@ -67,7 +68,8 @@ if sys.argv[1] == "version":
     print("rattle-kit-13x logic")
 elif sys.argv[1] == "ci":
     busy = "import time\\nwhile time.process_time() < 1.5: pass"
-    for words, place in ((["low"], "crates/low"), (["high", "--test"], "crates/high"), (["low"], tempfile.mkdtemp(prefix="rt-edit-"))):
+    edit = tempfile.mkdtemp(prefix="rt-edit-")
+    for words, place in ((["low"], "crates/low"), (["high", "--test"], "crates/high"), (["low"], edit), (["low"], edit)):
         subprocess.run([sys.executable, "-c", busy, "check", "--crate-name", *words], cwd=place)
     print("2 passed, 1 failed")
     sys.exit(7)
@@ -81,7 +83,7 @@ class Trial:
         self.room, self.failed, self.count = os.path.join(room, "repository"), 0, 0
         for path, text in FILES.items():
             self.write(path, text)
-        shutil.copytree(HERE, os.path.join(self.room, "dev"), ignore=shutil.ignore_patterns("__pycache__"))
+        shutil.copytree(HERE, os.path.join(self.room, "dev"), ignore=shutil.ignore_patterns("__pycache__", "words.txt", "test.py"))
         shutil.copy(os.path.join(HERE, "../dev.py"), self.room)
         bin_folder = os.path.join(room, "bin")
         os.makedirs(bin_folder)
@@ -113,7 +115,7 @@ def words(trial):
     status, out, _ = trial.run("words")
     trial.see(status == 1 and "no counts are stored" in out, f"words without a store: {out}")
     status, out, _ = trial.run("words", "write")
-    stored = open(os.path.join(trial.room, "docs/words.txt"), encoding="utf8").read()
+    stored = open(os.path.join(trial.room, "dev/words.txt"), encoding="utf8").read()
     rows = [line for line in stored.splitlines() if not line.startswith("#") and not line.startswith(("dev", "dev.py"))]
     trial.see(rows == ["crates/low: 1 handed, 1 say, 1 tell", "docs/page.1: 1 say"], f"the stored counts are {rows}")
     trial.see(status == 0 and trial.run("words")[0] == 0, "words after a store")
@@ -131,10 +133,10 @@ def tags(trial):
                 "crates/low/specs/Low.antt:2: what was said so far of the counter\n    low : N\n")
     trial.see((status, out) == (0, expected), f"add counter: {out}")
     trial.see("[add: nothing]" in trial.run("add", "nothing")[2], "add of no tag")
-    trial.write("docs/ARCHITECTURE.md", TABLE.replace("add counter", "add state"))
+    trial.write("CONTRIBUTING.md", TABLE.replace("add counter", "add state"))
     out = trial.run("docs")[1]
-    trial.see("docs/ARCHITECTURE.md:7: no source has the tag [add: state]" in out and "does not name `dev.py add counter`" in out, f"docs: {out}")
-    trial.write("docs/ARCHITECTURE.md", TABLE)
+    trial.see("CONTRIBUTING.md:7: no source has the tag [add: state]" in out and "does not name `dev.py add counter`" in out, f"docs: {out}")
+    trial.write("CONTRIBUTING.md", TABLE)
     trial.see("[add:" not in trial.run("docs")[1], "docs with its tags")
 
 
@@ -143,18 +145,58 @@ def calls(trial):
     names = [line.split()[1] for line in lines]
     trial.see(names == ["low::Low::unused", "low::lost"], f"unused calls: {names}")
     text = FILES["crates/high/src/lib.rt"]
-    trial.write("crates/high/src/lib.rt", text.replace("free()", "free() + lost() + low.unused()"))
+    trial.write("crates/high/src/lib.rt", text.replace("free()", "free() + lost() + low.unused()").replace("free}", "free, lost}"))
     trial.see(not [line for line in trial.run("calls")[1].splitlines() if "neither" in line], "calls that are used")
+    trial.write("crates/high/src/lib.rt", text)
+    # a namesake is no caller: a function of the crate itself, a method of another type, a word of a C program
+    other = "\npub struct Other;\n\nimpl Other {\n    pub fn unused(&self) -> u32 {\n        1\n    }\n}\n\nfn lost() -> u32 {\n    3\n}\n"
+    trial.write("crates/high/src/lib.rt", text.replace("use low::{Low, free};", "use low::{free, take_low};").replace("low: &Low", "other: &Other")
+                .replace("low.used() + free()", "free() + lost() + other.unused()") + other)
+    trial.write("a.c", "int lost(void) { return 0; }\n")
+    names = {line.split()[1] for line in trial.run("calls")[1].splitlines() if "neither" in line}
+    trial.see({"low::Low::unused", "low::lost"} <= names, f"calls that only a namesake calls: {names}")
     trial.write("crates/high/src/lib.rt", text)
 
 
+def documents(trial):
+    """Pages: a table of files, links to headings, names of two parts, the rows of crates, and generated texts."""
+    trial.write("crates/high/src/lib.rt", "fn go() {}\n")
+    trial.write("docs/files.md", "# Files\n\n## The `low` crate\n\n| file of `crates/low/specs` | what |\n|---|---|\n| `Low` | it |\n"
+                "| `used` | a word of a source, and no file |\n\n| word | what |\n|---|---|\n| `used` | a call |\n\n"
+                "See [this](#the-low-crate), [that](files.md#no-such) and [more](#files).\n\n`Low::used` is there, and `Low.go` is not.\n")
+    out = [line for line in trial.run("docs")[1].splitlines() if line.startswith("docs/files.md")]
+    trial.write("crates/high/src/lib.rt", FILES["crates/high/src/lib.rt"])
+    trial.see(out == ["docs/files.md:8: crates/low/specs has no file used", "docs/files.md:14: docs/files.md has no heading #no-such",
+                      "docs/files.md:16: no source has both parts of Low.go"],
+              f"a page with a wrong file and a wrong heading: {out}")
+    trial.write("crates/low/specs/More.antt", "-- a number\npub more : N\n")
+    trial.write("docs/files.md", "# Files\n\n<!-- text: low.specs.More: more -->\n<!-- end -->\n\n<!-- crates --><!-- end -->\n")
+    trial.see("docs/files.md:4: it differs from the sources" in trial.run("docs")[1], "a page whose generated text is not written")
+    trial.run("trusted", "write")
+    with open(os.path.join(trial.room, "docs/files.md"), encoding="utf8") as file:
+        text = file.read()
+    trial.see("-- a number\nmore : N\n```" in text and "| **the wire** | |\n| [`low`](../crates/low/README.md) | the wire's numbers |" in text,
+              f"the generated texts: {text}")
+    trial.see("docs/files.md" not in trial.run("docs")[1], "a page whose generated text is written")
+    trial.write("crates/low/specs/More.antt", "-- a number\npub more : M\n")
+    trial.see("docs/files.md:6: it differs from the sources" in trial.run("docs")[1], "a definition that has changed")
+    os.remove(os.path.join(trial.room, "crates/low/specs/More.antt"))
+    trial.see("the heading of the page is not" in trial.run("docs")[1], "a crate's page without what the crate is")
+    os.remove(os.path.join(trial.room, "docs/files.md"))
+
+
 def gate(trial):
+    gate_py = open(os.path.join(HERE, "gate.py"), encoding="utf8").read()
+    trial.write("dev/gate.py", gate_py.replace("PROGRESS = 20 ", "PROGRESS = 0 "))
     status, out, said = trial.run("ci")
     trial.see(status == 7 and "2 passed, 1 failed" in out, f"the status of the gate is {status}")
     rows = {line.split()[1]: [float(it) for it in line.split()[2:]] for line in said.splitlines() if line.startswith(("gate: low", "gate: high"))}
     good = set(rows) == {"low", "high"} and all(abs(seen - wanted) < 0.012 for name, wanted_row in
-           (("low", [0.025, 0, 0.025, 0, 0.05]), ("high", [0, 0.025, 0, 0, 0.025])) for seen, wanted in zip(rows[name], wanted_row))
+           (("low", [0.025, 0, 0.05, 0, 0.075]), ("high", [0, 0.025, 0, 0, 0.025])) for seen, wanted in zip(rows[name], wanted_row))
     trial.see(good, f"the minutes are {rows}")
+    lines = [line.split(", ")[:2] for line in said.splitlines() if line.startswith("progress: ")]
+    trial.see(["progress: 1 of 2 crates checked", "1 checks of 1 edits"] in lines, f"the progress is silent while edits are tried: {lines}")
+    trial.write("dev/gate.py", gate_py)
     trial.see(trial.run("gate")[1].count("low") == 1, "the table of the last run")
     trial.write("log", "rt: low proved\nrt: must-fail low/wrong.edit: refused\n")
     out = trial.run("gate", "log")[1]
@@ -185,7 +227,7 @@ def shape(trial):
 
 def further(trial):
     trial.see("the kit here is rattle-kit-13x" in trial.run("docs")[1], "a kit that is not named")
-    trial.write("CONTRIBUTING.md", "The letters are 13b and 13x.\n")
+    trial.write("CONTRIBUTING.md", TABLE.replace("13y", "13x"))
     trial.see("the kit here" not in trial.run("docs")[1], "a kit that is named")
     status, _, said = trial.run("flash")
     trial.see(status == 1 and "the board is not built" in said, f"flash without a board: {said}")
@@ -197,7 +239,7 @@ def further(trial):
 def main():
     with tempfile.TemporaryDirectory() as room:
         trial = Trial(room)
-        for part in (words, tags, calls, gate, shape, further):
+        for part in (words, tags, calls, documents, gate, shape, further):
             part(trial)
     print(f"dev.py: {trial.count} expectations, {trial.failed} failed")
     sys.exit(1 if trial.failed else 0)

@@ -1,7 +1,7 @@
 """Counts words in the prose that the field does not use as this repository once did, and fails if a count has risen.
 
 Prose is what a reader reads: pages, comments, and the messages of scripts. Code blocks and quoted code are not prose.
-The counts are stored in docs/words.txt, by page and by crate. `python3 dev.py words` prints their sums.
+The counts are stored in dev/words.txt, by page and by crate. `python3 dev.py words` prints their sums.
 """
 import collections
 import os
@@ -12,7 +12,7 @@ import tempfile
 
 from repository import TOP, tracked
 
-STORED = "docs/words.txt"
+STORED = "dev/words.txt"
 # Each word with its inflections, and what to write. A longer one comes first, since each text is counted once.
 PATTERNS = [
     ("want of memory", r"wants? of memory|memory (?:is|was) wanting", "out of memory"),
@@ -41,7 +41,7 @@ NO_PROSE = (STORED, "dev/words.py", "dev/test.py")
 
 def of_page(text):
     """A Markdown page without its code blocks, generated lists, quoted code and targets of links."""
-    text = re.sub(r"<!-- (?:list|all|count|arms|text|trait|code|constants)\b.*?<!-- end -->|<!--.*?-->", " ", text, flags=re.S)
+    text = re.sub(r"<!-- (?:count|text|code|crates)\b.*?<!-- end -->|<!--.*?-->", " ", text, flags=re.S)
     text = re.sub(r"^[ \t]*```.*?^[ \t]*```", " ", text, flags=re.S | re.M)
     lines, is_code, was_blank = [], False, True
     for line in text.split("\n"):
@@ -138,7 +138,7 @@ def count(top, paths):
 
 
 def stored():
-    """The counts of docs/words.txt, or None if there is no such file."""
+    """The counts of dev/words.txt, or None if there is no such file."""
     try:
         with open(os.path.join(TOP, STORED), encoding="utf8") as file:
             lines = [line for line in file.read().splitlines() if line and not line.startswith("#")]

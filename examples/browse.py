@@ -13,7 +13,7 @@ privilege. In the second form the node is a board: the command starts qemu (`qem
                          same /24, or its .1 if the node has the .2. A server that the script starts gets ADDRESS
     --line DEVICE RATE   starts no server: the node is at the other end of a serial port, for example /dev/ttyUSB0 115200
     --silent             with --line: that node has a clock of its own, as a firmware has, so the line is not filled (see below)
-    --ether              Ethernet frames over a TAP interface, with Linux's own ARP, in place of SLIP (`UIPD ether`)
+    --ether              Ethernet frames over a TAP interface, with Linux's own ARP, in place of SLIP (`UIPD ether`, or a board's controller)
     --desk               a shell at port 23 beside the pages (`UIPD desk`)
     --host               no namespace: the interface is one of this machine, so its usual browser opens the pages. This needs root,
                          or an interface uip0 that was made for this user and ADDRESS (the script prints how); the /24 has to be free
@@ -67,7 +67,9 @@ LOCAL_RATE = 20000
 BOARD_RATE = 200000
 BOARD_MEMORY = (0x40000000, 0x10000)
 PATIENCE = 0.25
+QUEUE = 16384      # bytes that may wait for the line before datagrams wait in the interface
 HELD = 0.1         # seconds for which a datagram is held that is to be reordered
+SOCKET_ROOM = 65536
 LINK_TYPES = {False: 101, True: 1}    # of a capture file: raw IP, and Ethernet
 # The exit statuses of uipd (docs/uipd.1).
 STATUSES = {
@@ -102,48 +104,63 @@ class Slip:
 
 
 class Frames:
-    """Ethernet frames, each after its length in two bytes. A frame of length 0 is dropped."""
-    filler = bytes([0, 0])
+    """Ethernet frames, each after its length in two bytes, or in four as qemu has it. A frame of length 0 is dropped."""
 
-    def __init__(self):
-        self.rest = b""
+    def __init__(self, head=2):
+        self.head, self.rest, self.filler = head, b"", bytes(head)
 
     def text_of(self, frame):
-        return len(frame).to_bytes(2, "big") + frame
+        return len(frame).to_bytes(self.head, "big") + frame
 
     def feed(self, data):
         self.rest += data
-        frames = []
-        while len(self.rest) >= 2 and len(self.rest) >= 2 + int.from_bytes(self.rest[:2], "big"):
-            end = 2 + int.from_bytes(self.rest[:2], "big")
-            frames.append(self.rest[2:end])
+        frames, head = [], self.head
+        while len(self.rest) >= head and len(self.rest) >= head + int.from_bytes(self.rest[:head], "big"):
+            end = head + int.from_bytes(self.rest[:head], "big")
+            frames.append(self.rest[head:end])
             self.rest = self.rest[end:]
         return [frame for frame in frames if frame]
 
 
 class Line:
-    """The bytes to the node, at a rate: what waits is sent as time passes, and the rest of the time may be filled."""
+    """The bytes to the node, at a rate: what waits is sent as time passes, and the rest of the time may be filled. It never blocks, as the
+    node may read nothing before its own output is read."""
 
     def __init__(self, descriptor, form, rate, is_filled):
         self.is_heard = False    # whether the other end has sent something
         self.descriptor, self.form, self.rate, self.is_filled = descriptor, form, rate, is_filled
         self.queue, self.start, self.sent = b"", time.monotonic(), 0
+        self.untaken = b""       # what is sent, but not yet taken by the other end
+        os.set_blocking(descriptor, False)
 
     def put(self, datagram):
         self.queue += self.form.text_of(datagram)
 
+    def is_full(self):
+        """Whether so much waits that further datagrams should wait in the interface, which drops what is too much."""
+        return len(self.queue) > QUEUE
+
     def beat(self):
+        self.write()
         due = int((time.monotonic() - self.start) * self.rate) - self.sent
         due = min(due - due % len(self.form.filler), self.rate // 4)
         if due <= 0:
+            return
+        if self.untaken:
+            self.sent += due     # this time passed in vain
             return
         text = self.queue[:due]
         if self.is_filled and not self.queue[due:]:
             text += self.form.filler * ((due - len(text)) // len(self.form.filler))
         self.queue = self.queue[due:]
         self.sent += len(text) if self.is_filled else due
-        while text:
-            text = text[os.write(self.descriptor, text[:1024]):]
+        self.untaken = text
+        self.write()
+
+    def write(self):
+        with contextlib.suppress(BlockingIOError):
+            while self.untaken:
+                self.untaken = self.untaken[os.write(self.descriptor, self.untaken):]
 
 
 class HastyLine(Line):
@@ -165,10 +182,11 @@ class HastyLine(Line):
             if self.is_heard and late > 0:
                 with contextlib.suppress(BlockingIOError):    # the board took them after all
                     self.lost += len(self.other.recv(late, socket.MSG_DONTWAIT))
-        waited = len(self.queue)
+        waited = len(self.queue) + len(self.untaken)
         super().beat()
-        if len(self.queue) < waited:
-            self.written += waited - len(self.queue)
+        taken = waited - len(self.queue) - len(self.untaken)
+        if taken > 0:
+            self.written += taken
             self.marks.append((now, self.written))
 
 
@@ -326,21 +344,34 @@ def machine_words(machine, firmware):
     return [os.environ.get("QEMU", program), *words]
 
 
-def emulate(firmware, further, machine=MACHINE):
-    """A board by qemu, with both ends of its serial line and the end of its monitor."""
-    line, port = socket.socketpair()
+def stream_pair():
+    """Two connected sockets, of which the first holds little of what is sent to the second. They are TCP's, which joins what is written: a
+    UNIX socket has room for some 280 writes, and most of qemu's ports write single bytes, and some drop what the socket does not take."""
+    with socket.create_server(("127.0.0.1", 0)) as server:
+        line = socket.create_connection(server.getsockname())
+        port = server.accept()[0]
+    line.setsockopt(socket.SOL_SOCKET, socket.SO_SNDBUF, SOCKET_ROOM)
+    for end in (line, port):
+        end.setsockopt(socket.IPPROTO_TCP, socket.TCP_NODELAY, 1)
+    return line, port
+
+
+def emulate(firmware, further, machine=MACHINE, ether=False):
+    """A board by qemu, with both ends of its serial line, or of its network, and the end of its monitor."""
+    line, port = stream_pair()
     monitor, monitor_end = socket.socketpair()
-    words = [*machine_words(machine, firmware), "-nic", "none", "-display", "none", *further,
-             "-chardev", f"socket,id=line,fd={port.fileno()}", "-serial", "chardev:line",
+    link = ["-nic", f"socket,fd={port.fileno()}", "-serial", "null"] if ether else \
+        ["-nic", "none", "-chardev", f"socket,id=line,fd={port.fileno()}", "-serial", "chardev:line"]
+    words = [*machine_words(machine, firmware), *link, "-display", "none", *further,
              "-chardev", f"socket,id=monitor_end,fd={monitor_end.fileno()}", "-mon", "chardev=monitor_end"]
     board = subprocess.Popen(words, pass_fds=[port.fileno(), monitor_end.fileno()])
     monitor_end.close()
     return board, line.detach(), port.detach(), monitor
 
 
-def start_board(firmware, further=(), machine=MACHINE):
-    """A board by qemu, with the end of its serial line, which ends if the board does, and that of its monitor."""
-    board, line, other, monitor = emulate(firmware, further, machine)
+def start_board(firmware, further=(), machine=MACHINE, ether=False):
+    """A board by qemu, with the end of its serial line or network, which ends if the board does, and that of its monitor."""
+    board, line, other, monitor = emulate(firmware, further, machine, ether)
     os.close(other)
     return board, line, monitor
 
@@ -394,7 +425,9 @@ class Bridge:
 
     def run(self, is_done, ending):
         while not is_done():
-            for ready in select.select([self.interface, self.output], [], [], 0.02)[0]:
+            readers = [self.output] if self.line.is_full() else [self.interface, self.output]
+            writers = [self.line.descriptor] if self.line.untaken else []
+            for ready in select.select(readers, writers, [], 0.02)[0]:
                 if ready == self.interface:
                     self.send(self.to_node.put(os.read(self.interface, 2048)))
                     continue
@@ -511,6 +544,8 @@ class Words:
             fail("--silent goes with --line")
         if self.ether and self.desk:
             fail("--desk is served over a serial line: omit --ether")
+        if self.ether and self.baud:
+            fail("--baud is the rate of a serial line: omit --ether")
         if not shutil.which("ip"):
             fail("no command `ip` here: it is in the package iproute2")
         if self.is_board:
@@ -565,13 +600,13 @@ class Node:
 
     def __init__(self, words, port):
         self.server = self.monitor = None
-        form = Frames() if words.ether else Slip()
+        form = Frames(4 if words.is_board else 2) if words.ether else Slip()
         if words.is_board and words.baud:
             self.server, to_node, other, self.monitor = emulate(words.board, words.qemu, words.machine or MACHINE)
             self.output, self.line = to_node, HastyLine(to_node, form, words.rate(), other)
             return
         if words.is_board:
-            self.server, to_node, self.monitor = start_board(words.board, words.qemu, words.machine or MACHINE)
+            self.server, to_node, self.monitor = start_board(words.board, words.qemu, words.machine or MACHINE, words.ether)
             self.output = to_node
         elif port is not None:
             to_node = self.output = port

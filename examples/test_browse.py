@@ -47,6 +47,35 @@ def framing(trial):
     frames = browse.Frames()
     trial.see(frames.text_of(b"abc") == b"\0\3abc", "the text of an Ethernet frame")
     trial.see([frames.feed(it) for it in (b"\0", b"\3ab", b"c\0\0\0\1d")] == [[], [], [b"abc", b"d"]], "the Ethernet frames of a line")
+    frames = browse.Frames(4)
+    trial.see(frames.text_of(b"abc") == b"\0\0\0\3abc", "the text of a frame of qemu's network")
+    trial.see([frames.feed(it) for it in (b"\0\0\0\3ab", b"c\0\0")] == [[], [b"abc"]], "the frames of qemu's network")
+
+
+def lines(trial):
+    """A line whose other end reads nothing does not block, and loses nothing; and one-byte writes fill it only after many."""
+    near, far = browse.stream_pair()
+    line = browse.Line(near.detach(), browse.Slip(), 4000000, False)
+    data = bytes(range(1, 101)) * 10000
+    line.put(data)
+    line.start -= 1
+    line.beat()
+    trial.see(len(line.untaken) > len(data) / 2, f"of a million bytes a line that is not read takes some: {len(line.untaken)} wait")
+    got = b""
+    far.settimeout(5)
+    while len(got) < len(data) + 2:
+        got += far.recv(1 << 20)
+        line.beat()
+    trial.see(got == bytes([browse.END]) + data + bytes([browse.END]), "all of it arrives")
+    near, far = browse.stream_pair()
+    far.setblocking(False)
+    taken = 0
+    try:
+        while taken < 20000:
+            taken += far.send(b"x")
+    except BlockingIOError:
+        pass
+    trial.see(taken == 20000, f"a line takes 20,000 writes of one byte: {taken}")
 
 
 def faults(trial):
@@ -75,7 +104,8 @@ def words(trial):
     trial.see(browse.machine_words(own.machine, own.board) == ["qemu-x", "-kernel", "f.bin"] and own.qemu == ["-d", "cpu"], "a machine with {}")
     rates = browse.Words(["--loss", "1", "--dup", "2", "--reorder", "3", "--damage", "4.5"]).rates
     trial.see(rates == {"loss": 1, "dup": 2, "reorder": 3, "damage": 4.5}, f"the rates of the faults: {rates}")
-    for bad in (["--loss", "101"], ["--loss"], ["--frob"], ["a", "b", "c"], ["--line", "x"], ["--silent"]):
+    for bad in (["--loss", "101"], ["--loss"], ["--frob"], ["a", "b", "c"], ["--line", "x"], ["--silent"],
+                ["--ether", "--baud", "9600"]):
         done = subprocess.run([sys.executable, os.path.join(HERE, "browse.py"), *bad], capture_output=True, text=True, check=False)
         trial.see(done.returncode == 1 and done.stderr.startswith("browse.py: "), f"{bad}: {done.stderr}")
 
@@ -179,6 +209,17 @@ def whole_runs(trial, room):
     trial.see(done.stdout == PAGE, f"datagrams that are held back: {done}")
 
 
+def flooded(trial, room):
+    """Both directions full: the node reads nothing until its own 300,000 bytes are taken, and more than its terminal holds is sent to it."""
+    flood = "import socket; it = socket.socket(socket.AF_INET, socket.SOCK_DGRAM); [it.sendto(bytes(1400), ('10.0.0.1', 9)) for _ in range(40)]"
+    try:
+        done = run(room, "--", "sh", "-c", f'{sys.executable} -c "{flood}"; exec curl -s -m 60 http://10.0.0.1/',
+                   node=f"sleep 1; head -c 300000 /dev/zero | tr '\\000' '\\300'; {rules(30)}")
+        trial.see(done.returncode == 0 and done.stdout == PAGE, f"a page after a flood: {done}")
+    except subprocess.TimeoutExpired:
+        trial.see(False, "a flood: the script and the node wait for each other")
+
+
 def runs_elsewhere(trial, room):
     """--node with a node that is reached, with TAP, and with a port."""
     path, given = os.path.join(room, "elsewhere.pcap"), os.path.join(room, "words")
@@ -200,11 +241,12 @@ def runs_elsewhere(trial, room):
 
 def main():
     trial = Trial()
-    for part in (framing, faults, words, addresses, statuses):
+    for part in (framing, lines, faults, words, addresses, statuses):
         part(trial)
     if shutil.which("ip") and shutil.which("curl") and os.access("/dev/net/tun", os.W_OK):
         with tempfile.TemporaryDirectory() as room:
             whole_runs(trial, room)
+            flooded(trial, room)
             runs_elsewhere(trial, room)
     else:
         print("skipped: whole runs: they need ip, curl and /dev/net/tun")

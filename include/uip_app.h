@@ -3,18 +3,25 @@
  *
  * A node has one IPv4 address. It answers ping and ARP, and your program answers its connections: for a
  * console, SCPI, G-code or Modbus over TCP. It has no web server; for both on one device see uip_both.h.
- * Read uip.h first: rules, statuses, links and ticks are the same.
+ * Rules, statuses, frames and ticks are those of uip.h.
+ *
+ *   uip_app_open(device, own, mac, mask, router)             opens a device on Ethernet
+ *   uip_app_listen(device, port)                             opens a port, one of at most four
+ *   uip_app_input_frame(device, frame, len, room)            takes a frame, writes the reply in its place
+ *   uip_app_periodic_frame(device, slot, frame, room)        runs the timers of one slot
+ *   uip_app_read(device, slot, bytes, room)                  copies what a connection has received
+ *   uip_app_write(device, slot, taken, text, len, last, frame, room)      answers it by one message
+ *   uip_app_close(device)                                    frees its memory
+ *   UIP_APP_MEMORY                                           the bytes of heap that a device needs
  *
  *   Library     libuip_app_c.a. It has the calls of this header, and none of uip.h. A program links one
  *               library of Lowunbisa.
- *   Whole       examples/linux-app/       for Linux: a console, and Modbus/TCP
- *   programs    examples/board/app.c      a firmware for qemu
- *   Stack       On a Cortex-M4 uip_app_open needs 1,520 bytes, and the other calls less (computed for our
- *               test firmware). That is rule 9 of uip.h.
+ *   Programs    examples/firmware/lines.c answers lines; examples/linux-app/ is a console and Modbus/TCP for
+ *               Linux, and examples/board/app.c a firmware for qemu.
  *   Proved      Of the source, if you keep the rules: memory safety, and that each call writes exactly the
  *               frame that the definition of the node and of ARP gives. For fewer than 2^32 calls and 2^30
  *               bytes to a connection, what its peer receives is a prefix of your messages, in order
- *               (crates/uip_app_c). Not proved: that a message arrives.
+ *               (docs/GUARANTEE.md). Not proved: that a message arrives.
  *
  * SPDX-License-Identifier: MIT OR Apache-2.0
  * Copyright 2026 The Lowunbisa authors; see LICENSE on the run-time library in each binary
@@ -28,67 +35,18 @@
 extern "C" {
 #endif
 
-/* ---- Program -----------------------------------------------------------------------------------
+/* ---- How a connection is answered ---------------------------------------------------------------
  *
- * It answers each line that a peer sends to port 5025. You write the four functions that it declares.
- *
- *     #include <string.h>                                       // memchr
- *     #include "uip_app.h"
- *     #define UIP_HEAP_SIZE UIP_APP_MEMORY
- *     #include "heap.c"                                         // support/heap.c: the memory for one device
- *     #include "ticks.h"                                        // support/ticks.h: tick_is_due_at
- *
- *     size_t mac_receive(unsigned char *frame, size_t room);    // as in uip.h
- *     void mac_send(const unsigned char *frame, size_t len);    // as in uip.h, without `to`
- *     unsigned milliseconds(void);
- *     size_t answer(const char *line, size_t len, char *reply, unsigned *last);    // at most UIP_MAX_MESSAGE bytes
- *
- *     static uip_app device = UIP_APP_INIT;
- *     static unsigned char frame[UIP_MAX_FRAME];
- *
- *     static void send(uip_result done) { if (done.written) mac_send(frame, done.written); }
- *
- *     static void serve(void) {                                 // answers each connection that has a whole line
- *         char line[UIP_MAX_RECEIVED], reply[UIP_MAX_MESSAGE], *end;
- *         size_t slot;
- *         for (slot = 0; slot < UIP_SLOTS; slot++) {
- *             unsigned last = 0;
- *             uip_received it = uip_app_read(&device, slot, line, sizeof line);
- *             if (!it.ready || !(end = memchr(line, '\n', it.len))) continue;
- *             size_t len = answer(line, (size_t)(end - line), reply, &last);
- *             send(uip_app_write(&device, slot, (size_t)(end - line) + 1, reply, len, last, frame, sizeof frame));
- *         }
- *     }
- *
- *     int main(void) {
- *         static const unsigned char own[4] = {10, 0, 0, 1}, mac[6] = {2, 0, 0, 0, 0, 1};
- *         static const unsigned char mask[4] = {255, 255, 255, 0}, router[4] = {10, 0, 0, 254};
- *         size_t len, slot;
- *         if (uip_app_open(&device, own, mac, mask, router) != UIP_OK) return 1;
- *         if (uip_app_listen(&device, 5025) != UIP_OK) return 1;
- *         for (;;) {
- *             if ((len = mac_receive(frame, sizeof frame)) != 0) {
- *                 send(uip_app_input_frame(&device, frame, len, sizeof frame));
- *                 serve();
- *             }
- *             if (tick_is_due_at(milliseconds())) {
- *                 for (slot = 0; slot < UIP_SLOTS; slot++)
- *                     send(uip_app_periodic_frame(&device, slot, frame, sizeof frame));
- *                 serve();
- *             }
- *         }
- *     }
- *
- * RULES: 1 to 5 and 7 to 10 of uip.h. There uip_app_open and uip_app_close have the place of
- * uip_open_ether and uip_close. Rule 5 holds for `bytes` of uip_app_read as for `out`.
+ * RULES: 1 to 5 and 7 to 10 of uip.h. Rule 5 holds for `bytes` of uip_app_read as for `out`. For rule 9
+ * ports/README.md, "Figures", has the stack.
  *
  * STATUSES: as in uip.h. If the status is not UIP_OK, the call has changed nothing, and the other fields
  * are 0. Each call lists its statuses in the order in which it checks for them.
  *
- * HOW A CONNECTION IS ANSWERED. A connection stores what it receives, up to UIP_MAX_RECEIVED bytes.
- * uip_app_read copies these bytes and takes none. uip_app_write takes the first `taken` of them and sends
- * one message. The next message can be written when the peer has acknowledged this one: then `ready` is 1.
- * A program that writes without being asked passes `taken` 0.
+ * ANSWERS. A connection stores what it receives, up to UIP_MAX_RECEIVED bytes. uip_app_read copies these
+ * bytes and takes none. uip_app_write takes the first `taken` of them and sends one message. The next message
+ * can be written when the peer has acknowledged this one: then `ready` is 1. A program that writes without
+ * being asked passes `taken` 0.
  *
  * What the peer receives is a prefix of the messages, in the order in which they were written. A segment
  * that is sent again has the same bytes. If a connection ends before its last message, the peer sees a
@@ -159,8 +117,8 @@ unsigned uip_app_open(uip_app *device, const unsigned char own[4], const unsigne
 unsigned uip_app_listen(uip_app *device, unsigned port);
 
 /* Receives one frame, and writes the frame to send in its place, if there is one: as uip_input_frame of
- * uip.h. It is inline. After it look at each connection, as serve does above: the frame may have brought
- * bytes, or an acknowledgement.
+ * uip.h. It is inline. After it look at each connection: the frame may have brought bytes, or an
+ * acknowledgement.
  *
  *   frame, len    an area with the received frame at its start, and the length of that frame, 0 to `room`
  *   room          the size of the area, UIP_MAX_FRAME or more

@@ -1,23 +1,25 @@
 /*
- * uip_both.h - the C interface of a Lowunbisa node on Ethernet with a web server, and with TCP connections that
- * your program answers
+ * uip_both.h - the C interface of a Lowunbisa node on Ethernet with a web server, and with TCP connections that your
+ * program answers
  *
  * It serves pages at port 80, as in uip.h. Your program answers the connections at up to four other ports, as in
- * uip_app.h. The two share the ten connections and the packet buffer, and nothing else. Read uip.h and uip_app.h
- * first.
+ * uip_app.h. The two share the ten connections and the packet buffer, and nothing else. Beside the calls of uip.h:
+ *
+ *   uip_listen(device, port)                       opens a port
+ *   uip_read(device, slot, bytes, room)            copies what a connection has received
+ *   uip_write(device, slot, taken, text, len, last, frame, room)      answers it by one message
+ *   UIP_BOTH_MEMORY(files)                         the bytes of heap that a device needs
  *
  *   Library     libuip_both_c.a, in the place of libuip_c.a. It has these calls of uip.h: uip_open_ether,
  *               uip_input_frame, uip_periodic_frame, uip_tick_frames, uip_set_value, uip_hits, uip_query, uip_ticks,
- *               uip_is_idle, uip_needs_ticks, uip_counter, uip_connection and uip_close. It has the three calls
- *               below. It has no call for a serial line or for datagrams, and none of uip_app.h.
- *   Whole       examples/linux-both/      for Linux: pages, a console, and Modbus/TCP
- *   programs    examples/board/both.c     a firmware for qemu
- *   Stack       On a Cortex-M4 uip_open_ether needs 7,384 bytes, uip_close 2,496, and the other calls at most 2,328
- *               (computed from the linked code). On rv32 uip_open_ether needs 8,832. That is rule 9 of uip.h.
- *   Proved      Of the source, if you keep the rules: memory safety, and that each call writes exactly the frame
- *               that the definition of the node and of ARP gives. A peer at port 80 receives a prefix of the reply
- *               to its request, and a peer at another port a prefix of your messages, for fewer than 2^32 calls and
- *               2^30 bytes (crates/uip_both_c).
+ *               uip_is_idle, uip_needs_ticks, uip_counter, uip_connection and uip_close. It has no call for a serial
+ *               line or for datagrams, and none of uip_app.h.
+ *   Programs    examples/linux-both/ for Linux: pages, a console, and Modbus/TCP. examples/board/both.c is a firmware
+ *               for qemu.
+ *   Proved      Of the source, if you keep the rules: memory safety, and that each call writes exactly the frame that
+ *               the definition of the node and of ARP gives. A peer at port 80 receives a prefix of the reply to its
+ *               request, and a peer at another port a prefix of your messages, for fewer than 2^32 calls and 2^30
+ *               bytes (docs/GUARANTEE.md).
  *
  * SPDX-License-Identifier: MIT OR Apache-2.0
  * Copyright 2026 The Lowunbisa authors; see LICENSE on the run-time library in each binary
@@ -32,60 +34,10 @@
 extern "C" {
 #endif
 
-/* ---- Program -----------------------------------------------------------------------------------
+/* ---- What is as in the other headers -----------------------------------------------------------------------------
  *
- * It serves a site, and answers each line that a peer sends to port 5025. The functions that it declares are
- * those of the program in uip_app.h.
- *
- *     #include <string.h>                                       // memchr
- *     #include "uip_both.h"
- *     #include "site.c"                                         // as in uip.h
- *     #define UIP_HEAP_SIZE UIP_BOTH_MEMORY(SITE_IMAGE_FILES)
- *     #include "heap.c"                                         // support/heap.c
- *     #include "ticks.h"                                        // support/ticks.h
- *
- *     size_t mac_receive(unsigned char *frame, size_t room);
- *     void mac_send(void *to, const unsigned char *frame, size_t len);
- *     unsigned milliseconds(void);
- *     size_t answer(const char *line, size_t len, char *reply, unsigned *last);
- *
- *     static uip_device device = UIP_INIT;
- *     static unsigned char frame[UIP_MAX_FRAME];
- *
- *     static void send(uip_result done) { if (done.written) mac_send(NULL, frame, done.written); }
- *
- *     static void serve(void) {                                 // answers each connection that has a whole line
- *         char line[UIP_MAX_RECEIVED], reply[UIP_MAX_MESSAGE], *end;
- *         size_t slot;
- *         for (slot = 0; slot < UIP_SLOTS; slot++) {
- *             unsigned last = 0;
- *             uip_received it = uip_read(&device, slot, line, sizeof line);
- *             if (!it.ready || !(end = memchr(line, '\n', it.len))) continue;
- *             size_t len = answer(line, (size_t)(end - line), reply, &last);
- *             send(uip_write(&device, slot, (size_t)(end - line) + 1, reply, len, last, frame, sizeof frame));
- *         }
- *     }
- *
- *     int main(void) {
- *         static const unsigned char own[4] = {10, 0, 0, 1}, mac[6] = {2, 0, 0, 0, 0, 1};
- *         static const unsigned char mask[4] = {255, 255, 255, 0}, router[4] = {10, 0, 0, 254};
- *         size_t len;
- *         if (uip_open_ether(&device, site_image, SITE_IMAGE_LEN, own, mac, mask, router).status != UIP_OK) return 1;
- *         if (uip_listen(&device, 5025) != UIP_OK) return 1;
- *         for (;;) {
- *             if ((len = mac_receive(frame, sizeof frame)) != 0) {
- *                 send(uip_input_frame(&device, frame, len, sizeof frame));
- *                 serve();
- *             }
- *             if (tick_is_due_at(milliseconds())) {
- *                 uip_tick_frames(&device, frame, sizeof frame, mac_send, NULL);
- *                 serve();
- *             }
- *         }
- *     }
- *
- * RULES: those of uip.h. Rule 5 holds for `bytes` of uip_read as for `out`. A sink may also call uip_read and
- * uip_listen, and not uip_write.
+ * RULES: those of uip.h. Rule 5 holds for `bytes` of uip_read as for `out`. For rule 9 ports/README.md, "Figures",
+ * has the stack. A sink may also call uip_read and uip_listen, and not uip_write.
  *
  * What uip_app.h states of connections, ports and limits holds for the connections at the ports that uip_listen
  * opened. Port 80 is open from the start, and its connections are those of uip.h: for them uip_read returns `ready`,
@@ -93,9 +45,9 @@ extern "C" {
  * nor open. It sends no reset, and no counter counts the segment.
  */
 
-/* The bytes of heap that one device needs, for an image of `files` files, 1 or more: 7,824 for six files. They are
- * the six blocks of uip_open_ether, with 4800 bytes in the place of 1600 and 1288 in the place of 976, each rounded up
- * to a multiple of 16 (measured on x86-64; every target of ports has the same blocks).
+/* The bytes of heap that one device needs, for an image of `files` files, 1 or more. They are the six blocks of
+ * uip_open_ether, with 4800 bytes in the place of 1600 and 1288 in the place of 976, each rounded up to a multiple of
+ * 16 (measured on x86-64; every target of ports has the same blocks).
  */
 #define UIP_BOTH_MEMORY(files) (UIP_MEMORY_ETHER(files) + 3520)
 

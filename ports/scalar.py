@@ -44,14 +44,20 @@ def redirected(module, crates, path, prefix, old, new):
     return module
 
 
+def without_vectors(module, crates):
+    """The module in which no function with vectors is called."""
+    for pair in PAIRS:
+        module = redirected(module, crates, *pair)
+    return module
+
+
 def main():
     if len(sys.argv) != 4:
         sys.exit(__doc__)
-    module = read(sys.argv[1])
-    for pair in PAIRS:
-        module = redirected(module, sys.argv[2], *pair)
+    module = without_vectors(read(sys.argv[1]), sys.argv[2])
     with open(sys.argv[3], "w") as file:
         file.write(module)
 
 
-main()
+if __name__ == "__main__":
+    main()

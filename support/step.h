@@ -1,5 +1,5 @@
 /*
- * A loop for a serial line that never waits for the port, and sleeps if there is nothing to do. It makes all calls of uip.h, section 7.
+ * A loop for a serial line that never waits for the port, and sleeps if there is nothing to do. It makes all calls of uip.h for a serial line.
  *
  * COMPILE your program with -Iinclude -Isupport, support/step.c, and one port of examples/firmware. Or write a port: see the end.
  *

@@ -1,5 +1,6 @@
 // The time of a host, in milliseconds. It may go quicker than the clock on the wall, for a line that is played, and change
 // its pace while something is under way.
+import { startTimer, stopTimer } from "./timers.js";
 
 export class Clock {
   #rate = 1;
@@ -15,7 +16,12 @@ export class Clock {
   }
 
   later(wait, what) {
-    return setTimeout(what, wait / this.#rate);
+    return startTimer(wait / this.#rate, what);
+  }
+
+  // Ends what `later` returned; 0 or undefined is nothing.
+  cancel(timer) {
+    if (timer) stopTimer(timer);
   }
 
   get rate() {

@@ -75,7 +75,7 @@ export class Connection {
 
   #leave() {
     this.state = "CLOSED";
-    clearTimeout(this.#timer);
+    this.host.clock.cancel(this.#timer);
     this.host.leave(this);
   }
 
@@ -151,7 +151,7 @@ export class Connection {
 
   // The timer runs while something of ours is not acknowledged, and while text of the node's is awaited.
   #arm(wait = this.host.firstWait()) {
-    clearTimeout(this.#timer);
+    this.host.clock.cancel(this.#timer);
     if (this.#isOutstanding() || this.#isOpen()) this.#timer = this.host.clock.later(wait, () => this.#expire(wait));
   }
 
@@ -249,7 +249,7 @@ export class Connection {
   // TIME-WAIT: the node's FIN may come again.
   #rest() {
     this.state = "TIME-WAIT";
-    clearTimeout(this.#timer);
+    this.host.clock.cancel(this.#timer);
     this.#timer = this.host.clock.later(TIME_WAIT, () => this.#leave());
   }
 }

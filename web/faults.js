@@ -21,18 +21,24 @@ export class Faults {
   reordering = 0;
   corruption = 0;
   delay = 0;
+  plan = () => false;   // which datagrams are lost beside these, by the datagram and its direction
   #held = { true: null, false: null };   // by direction
   #isClosed = false;
 
   constructor(seed = 1, clock = new Clock()) {
+    this.clock = clock;
+    this.begin(seed);
+  }
+
+  // The numbers of a seed, from the first.
+  begin(seed) {
     const next = numbers(seed);
     this.chance = () => next() / 0x100000000;
-    this.clock = clock;
   }
 
   // The faults that hit a datagram, in words, and `go`, which delivers it so.
   pass(datagram, isToNode, deliver) {
-    if (this.chance() < this.loss) return { words: ["lost"], go() {} };
+    if (this.plan(datagram, isToNode) || this.chance() < this.loss) return { words: ["lost"], go() {} };
     const isDamaged = this.chance() < this.corruption, isTwice = this.chance() < this.duplication;
     const isLate = this.chance() < this.reordering && !this.#held[isToNode];
     const sent = isDamaged ? this.#damaged(datagram) : datagram;
@@ -64,7 +70,7 @@ export class Faults {
   #release(isToNode) {
     const held = this.#held[isToNode];
     this.#held[isToNode] = null;
-    clearTimeout(held?.timer);
+    this.clock.cancel(held?.timer);
     held?.give();
   }
 

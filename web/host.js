@@ -41,12 +41,12 @@ export class Host {
     const number = this.#ping = plus(this.#ping, 1), start = this.clock.now();
     const payload = Uint8Array.from({ length }, (_, at) => at & 0xff);
     return new Promise((resolve, reject) => {
-      const fail = why => { this.#pings.delete(number); clearTimeout(timer); reject(new Error(why)); };
+      const fail = why => { this.#pings.delete(number); this.clock.cancel(timer); reject(new Error(why)); };
       const timer = this.clock.later(patience, () => fail("no reply"));
       const receive = reply => {
         if (!isSame(reply, payload)) return;
         this.#pings.delete(number);
-        clearTimeout(timer);
+        this.clock.cancel(timer);
         resolve(this.clock.now() - start);
       };
       this.#pings.set(number, { receive, fail });

@@ -9,7 +9,7 @@ export function lineTo({ feed, tick }, clock, period = TICK) {
   let out, timer = 0;
   const send = text => out.enqueue(text);
   const stop = () => {
-    clearTimeout(timer);
+    clock.cancel(timer);
     timer = 0;
   };
   function beat() {

@@ -1,6 +1,7 @@
 // Between a host's datagrams and the bytes of a line. A line is what has `readable` and `writable`, streams of bytes: a
 // serial port as Web Serial has it, the bridge of web/serve.py (a WebSocket, RFC 6455), or a child process in a test.
 import { Clock } from "./clock.js";
+import { after, startTimer, stopTimer } from "./timers.js";
 import { SlipReader, silence, slipText } from "./wire.js";
 
 // The errors after which Web Serial gives a port another `readable`.
@@ -57,10 +58,10 @@ export function fillSilence(wire, rate, clock = new Clock()) {
     const due = Math.floor((now - then) / 1000 * rate * clock.rate) - (wire.counts.written - sent);
     if (due > 0 && wire.counts.waiting < most) wire.fill(Math.min(due, most));
     [sent, then] = [wire.counts.written, now];
-    timer = setTimeout(beat, Math.min(50, 200 / clock.rate));
+    timer = startTimer(Math.min(50, 200 / clock.rate), beat);
   }
   beat();
-  return () => clearTimeout(timer);
+  return () => stopTimer(timer);
 }
 
 // The bridge of web/serve.py as a line. Where it ends by a fault its words are the error's.
@@ -86,7 +87,7 @@ export async function bridge(url) {
   });
   const writable = new WritableStream({
     async write(bytes) {
-      while (socket.bufferedAmount > 65536) await new Promise(resolve => setTimeout(resolve, 10));
+      while (socket.bufferedAmount > 65536) await after(10);
       socket.send(bytes);
     },
     close,

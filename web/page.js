@@ -5,68 +5,43 @@ import { Session } from "./session.js";
 import { bridge } from "./line.js";
 import { nodeInside } from "./inside.js";
 import { serverByUipsRules } from "./uip_rules.js";
+import { SMALL, faultOf, meterSite, runMeter } from "./meter.js";
 import { imageOf, unpack, valuesOf, warningsOf } from "./site.js";
 import { siteOfFolder, watchFolder } from "./folder.js";
 import { idOf, lastPort, openPort, portFault, segmentAt } from "./port.js";
 import { WorkerFrame } from "./frame.js";
 import { PlainFrame } from "./plain.js";
 import { Rows } from "./rows.js";
+import { detailsOf } from "./details.js";
 import { readReport } from "./sequence.js";
 import { drawSequence } from "./picture.js";
 import { DevicePanel } from "./panel.js";
-import { NAMES, runFirmware } from "./sensor.js";
+import { VALUES, runFirmware } from "./sensor.js";
 import { Tour } from "./tour.js";
+import { stepsOf } from "./steps.js";
+import { Notices } from "./notices.js";
+import { Documents } from "./documents.js";
+import { addressOf, readAddress } from "./address.js";
 import { remember, remembered } from "./settings.js";
 import { resultOf, verdictOf } from "./verdict.js";
+import { after, startTimer } from "./timers.js";
 
 const $ = id => document.getElementById(id);
 const FAULTS = ["loss", "duplication", "reordering", "corruption", "delay"], KEPT = ["baud", "address", "fill", "apart"];
-const NOTICES = 30, DRAWN = 1000, OF_LINE = ["noise", "different", "wait", "wrong"];   // kinds of session.js
+const DRAWN = 1000, FAST = 10, SETTLED = 300;   // datagrams of a picture; the clock's usual haste; milliseconds until the address follows
 const CHANGED = "the site has changed";   // the word of web/serve.py, which has packed it again
 const INSIDE = "the device inside this page";
 const meta = name => JSON.parse(document.querySelector(`meta[name=${name}]`)?.content ?? "null");
 const bridged = meta("bridge"), folder = meta("folder"), documents = meta("documents");
-const clock = new Clock(), rows = new Rows($("rows"), $("diagram"));
+const clock = new Clock(), rows = new Rows($("rows"), $("diagram"), showDatagram);
+const notices = new Notices($("messages"), $("notices"), $("all-notices")), notice = (words, kind) => notices.add(words, kind);
 
 let session = null;   // while a line is open
 let code = null;      // node.wasm, compiled
 let stopBeside = () => {};   // what runs for the site: live reload, or a firmware
-let target = "/";     // what the frame shows
-const verdicts = new Map();   // of the pages in the frame, by target
-
-// A message. The next one of the same kind takes its place and counts. The last one is shown, and the others on request.
-function notice(words, kind = words) {
-  const same = [...$("notices").children].find(it => it.dataset.kind === kind);
-  if (same) {
-    same.dataset.times = +same.dataset.times + 1;
-    same.firstElementChild.textContent = `${words} (${same.dataset.times} times)`;
-    if (same.nextElementSibling) $("notices").append(same);
-  } else {
-    const item = document.createElement("li");
-    const close = Object.assign(document.createElement("button"), { textContent: "×", type: "button" });
-    close.setAttribute("aria-label", "Dismiss the message");
-    close.addEventListener("click", () => { item.remove(); countNotices(); });
-    Object.assign(item.dataset, { kind, times: 1 });
-    item.append(Object.assign(document.createElement("span"), { textContent: words }), close);
-    $("notices").append(item);
-  }
-  while ($("notices").children.length > NOTICES) $("notices").firstElementChild.remove();
-  countNotices();
-}
-
-// The messages about a line that is over.
-function forgetLine() {
-  for (const it of [...$("notices").children]) if (OF_LINE.includes(it.dataset.kind)) it.remove();
-  countNotices();
-  showResult("", "");
-}
-
-function countNotices() {
-  const count = $("notices").children.length;
-  $("messages").hidden = !count;
-  $("all-notices").hidden = count < 2;
-  $("all-notices").textContent = $("messages").classList.contains("all") ? "Show the last" : `Show all ${count}`;
-}
+let target = "/";     // what the frame shows, or "" if that is not the device's
+let device = "";      // which device is open, if everybody has it (address.js)
+const verdicts = new Map();   // of the pages in the frame, by target: { kind, why }
 
 function showResult(words, kind) {
   $("result").textContent = words;
@@ -87,14 +62,23 @@ function show(words, kind) {
 const get = wanted => {
   if (!session) return Promise.reject(new Error("not connected"));
   verdicts.delete(wanted);
-  return session.get(wanted, verdict => verdicts.set(wanted, verdict));
+  return session.get(wanted, (kind, why) => verdicts.set(wanted, { kind, why }));
 };
 function shown(now) {
+  if (target !== now) followAddress();
   target = now;
   if (document.activeElement !== $("target")) $("target").value = now;
 }
-const plain = new PlainFrame($("frame"), { get, shown, failed: error => notice(error.message) });
-const byWorker = new WorkerFrame($("frame"), { get, shown });
+// A link that leads away from the device opens in a tab of its own if it was clicked.
+function left(url) {
+  const isClicked = navigator.userActivation?.isActive ?? true;
+  if (isClicked) open(url, "_blank", "noopener");
+  notice(isClicked ? `${url} is not a page of the device: it opens in a tab of its own`
+    : `the device's page leads away, to ${url}: it stays here`, "left");
+}
+const dragged = () => { $("drop").hidden = false; };
+const plain = new PlainFrame($("frame"), { get, shown, left, dragged, failed: error => notice(error.message) });
+const byWorker = new WorkerFrame($("frame"), { get, shown, left, dragged: event => { if (hasFiles(event)) dragged(); } });
 let hasWorker = false;
 const frame = () => hasWorker && !$("apart").checked ? byWorker : plain;
 
@@ -115,15 +99,19 @@ function setAddress(from, to) {
 }
 
 // Makes a line the session's, and shows the workspace.
-function begin(line, { rate = 0, fill = false, first = "/", kind = "good", ...options }) {
+function begin(line, { rate = 0, fill = false, first = "/", kind = "good", plan, ...options }) {
   const over = why => { if (session === own) guard(() => lineEnded(why)); };
-  const own = new Session(line, { ...addresses(), ...options, clock, seed: Date.now(), show: row => rows.add(row), notice, over });
+  const own = new Session(line, { ...addresses(), ...options, clock, seed: +$("seed").value, show: row => rows.add(row), notice, over });
   session = own;
   session.rate = rate;
+  if (plan) session.faults.plan = plan;
   $("fill").checked = fill;
   apply();
-  forgetLine();
+  notices.forgetLine();
+  showResult("", "");
   verdicts.clear();
+  for (const it of [plain, byWorker]) it.renew();
+  target = first;
   show(`connected: ${options.name}`, kind);
   for (const button of document.querySelectorAll("[data-needs-line]")) button.disabled = false;
   $("close").hidden = false;
@@ -137,13 +125,15 @@ function begin(line, { rate = 0, fill = false, first = "/", kind = "good", ...op
 // The other end went away. If the site of web/serve.py has changed, the line is opened again.
 async function lineEnded(why) {
   await close(why ? `the line ended: ${why}` : "the line ended", "bad");
-  if (why === CHANGED) return openBridge(target);
+  if (why === CHANGED) return openBridge(target || "/");
   notice(why ? `the line ended: ${why}` : "the line ended");
 }
 
 async function close(why = "not connected", kind = "idle") {
   const old = session;
   session = null;
+  device = "";
+  verdicts.clear();
   stopBeside();
   stopBeside = () => {};
   for (const button of document.querySelectorAll("[data-needs-line]")) button.disabled = true;
@@ -158,10 +148,12 @@ async function disconnect() {
   $("tour").hidden = $("work").hidden = $("close").hidden = true;
   $("start").hidden = false;
   $("open-inside").focus();
+  followAddress();
 }
 
 // Opens a line by `open`; if that fails, the page is as if none had been open.
 async function openBy(open, words) {
+  await frame().blank();
   await close(words);
   try { return await open(); } catch (error) {
     await close();
@@ -173,58 +165,75 @@ const openBridge = first => openBy(async () => {
   begin(await bridge(new URL("line", document.baseURI).href.replace(/^http/, "ws")), { ...bridged, first });
 }, "connecting");
 
+// A reply of this page's own server.
+async function fetched(name) {
+  const reply = await fetch(new URL(name, document.baseURI)).catch(() => {
+    throw new Error("the server of this page does not answer: is web/serve.py still running?");
+  });
+  if (!reply.ok) throw new Error(`no ${name} beside this page`);
+  return reply;
+}
+
 // A file beside this page, or one that the page holds if it is a single file (web/one_file.py).
 async function beside(name) {
   const held = $(`held-${name}`);
   if (held) return Uint8Array.from(atob(held.textContent.trim()), sign => sign.charCodeAt(0));
-  const reply = await fetch(new URL(name, document.baseURI));
-  if (!reply.ok) throw new Error(`no ${name} beside this page`);
-  return new Uint8Array(await reply.arrayBuffer());
+  return new Uint8Array(await (await fetched(name)).arrayBuffer());
 }
 
-const openInside = (image, { name = INSIDE, first = "/", names } = {}) => openBy(async () => {
-  rows.clear();
+// A device inside the page. If its image is bad, the line that is open stays open. `run` starts a firmware, and returns how to stop it.
+async function openInside(image, { name = INSIDE, kinds, run, id = "", ...options } = {}) {
   code ??= await WebAssembly.compile(await beside("node.wasm"));
-  const site = image ?? await beside("site.img"), { device, line, stop } = nodeInside({ code, image: site, own: addresses().node, clock });
-  const files = unpack(site), visited = begin(line, { name, first, leave: stop });
-  session.device = device;
-  panel.show(device, files, valuesOf(files), names);
+  const inside = nodeInside({ code, image, own: addresses().node, clock }), files = unpack(image);
+  await frame().blank();
+  await close("starting the device");
+  rows.clear();
+  device = id;
+  begin(inside.line, { name, leave: inside.stop, ...options });
+  session.device = inside.device;
+  panel.show(inside.device, files, valuesOf(files), kinds);
   for (const words of warningsOf(files)) notice(words);
-  return visited;
-}, "starting the device");
-
-async function tryHere() {
-  await openInside();
-  tour.start();
+  if (run) stopBeside = run(inside.device);
 }
 
-// A device whose pages display values, with the firmware that sets them.
-async function openSensor() {
-  $("tour").hidden = true;   // it ends here
-  await openInside(await beside("state.img"), { name: `${INSIDE}, with a sensor and a lamp`, names: NAMES });
-  stopBeside = runFirmware(session.device, panel);
+async function tryHere(step = 1) {
+  await openSensor();
+  tour.start(step);
 }
+
+// The device of the first screen, whose pages display values, with the firmware that sets them.
+const openSensor = async options => openInside(await beside("state.img"), {
+  name: `${INSIDE}, with a sensor and a lamp`, kinds: VALUES, id: "sensor", run: device => runFirmware(device, panel), ...options,
+});
+
+const openSite = async options => openInside(await beside("site.img"), { id: "site", ...options });
+
+const openMeter = options => openInside(meterSite(), { name: `${INSIDE}, with a meter`, run: runMeter, mss: SMALL, faultOf, ...options });
 
 async function openOwn(items) {
-  $("tour").hidden = true;
-  return openInside(await imageOf(items), { name: `${INSIDE}, with your own site` });
+  const image = await imageOf(items);
+  await openInside(image, { name: `${INSIDE}, with your own site` });
+  $("tour").hidden = true;   // it ends here
+  followAddress();
 }
 
 // The folder of web/serve.py, packed here, and again whenever a file of it changes, even if it could not be packed.
 async function openFolder(first = "/") {
-  const { image, stamp } = await siteOfFolder();
+  const { image, stamp } = await siteOfFolder(fetched);
   try {
     await openInside(await image(), { name: `${INSIDE}, with ${folder.name}`, first });
   } finally {
     stopBeside();
-    stopBeside = watchFolder(stamp, () => guard(() => openFolder(target)));
+    stopBeside = watchFolder(stamp, fetched, () => guard(() => openFolder(target || "/")));
   }
 }
 
-const openRules = () => openBy(() => {
+const openRules = options => openBy(() => {
   rows.clear();
   const { line, stop } = serverByUipsRules({ clock });
-  begin(line, { name: "a server by uIP's rules, not Lowunbisa", kind: "bad", leave: stop });
+  device = "rules";
+  const name = "a server by uIP's rules, not Lowunbisa";
+  begin(line, { name, kind: "bad", leave: stop, mss: SMALL, faultOf, first: "/meter.shtml", ...options });
 }, "starting a server by uIP's rules");
 
 const openSerial = known => openBy(async () => {
@@ -239,37 +248,87 @@ const openSerial = known => openBy(async () => {
 
 // Puts the sliders and options into force.
 function apply() {
-  for (const name of FAULTS) {
-    const value = +$(name).value, output = $(name).nextElementSibling;
-    output.textContent = name === "delay" ? `${value} ms` : `${value} %`;
-    output.dataset.kind = value ? "on" : "";
-    if (session) session.faults[name] = name === "delay" ? value : value / 100;
+  for (const name of [...FAULTS, "speed"]) {
+    const value = +$(name).value, words = name === "delay" ? `${value} ms` : name === "speed" ? `× ${value}` : `${value} %`;
+    const output = $(name).nextElementSibling;
+    output.textContent = words;
+    output.dataset.kind = value > +$(name).min ? "on" : "";
+    $(name).setAttribute("aria-valuetext", words);
+    if (session && name !== "speed") session.faults[name] = name === "delay" ? value : value / 100;
   }
   clock.rate = +$("speed").value;
-  $("speed").nextElementSibling.textContent = `× ${clock.rate}`;
+  $("fast").checked = clock.rate >= FAST;
   session?.fill($("fill").checked ? session.rate : 0);
+  followAddress();
 }
 
 function setFaults(values) {
   for (const name of [...FAULTS, "speed"]) $(name).value = values[name] ?? (name === "speed" ? 1 : 0);
+  if (session) session.faults.plan = () => false;
   apply();
 }
 
+// The address follows what the page does, a while later: a slider moves often.
+let isFollowing = false;
+function followAddress() {
+  if (isFollowing) return;
+  isFollowing = true;
+  startTimer(SETTLED, () => { isFollowing = false; writeAddress(); });
+}
+
+function writeAddress() {
+  const numbers = Object.fromEntries([...FAULTS, "speed", "seed"].map(name => [name, +$(name).value]));
+  const hash = session ? addressOf({ device, numbers, path: target, tour: tour.step }) : "";
+  if (hash === location.hash) return;
+  try { history.replaceState(null, "", hash || location.pathname + location.search); } catch { /* too often */ }
+}
+
+async function copyLink() {
+  writeAddress();
+  await navigator.clipboard?.writeText(location.href).then(
+    () => showResult(`The link is copied${device ? "" : ": it has the faults and the seed, and not the device"}.`, "good"),
+    () => showResult(location.href, ""));
+}
+
+// Does what an address asks for. Returns whether it asks for a device.
+async function openAddress() {
+  const { device: asked, numbers, path, tour: step } = readAddress(location.hash);
+  for (const [name, value] of Object.entries(numbers)) $(name).value = value;
+  apply();
+  if (!asked) return false;
+  await guard(async () => {
+    if (step) return tryHere(step);
+    $("tour").hidden = true;
+    return { sensor: openSensor, site: openSite, rules: openRules }[asked](asked === "rules" ? {} : { first: path });
+  });
+  return true;
+}
+
 const PAGE_VERDICTS = {
-  complete: ["good", "This page is complete."], wrong: ["bad", "Wrong page: its bytes differ from those of the first copy."],
-  truncated: ["warn", "Truncated: the connection ended before the page did."],
+  complete: ["good", "This page is complete."], truncated: ["warn", "Truncated: the connection ended before the page did."],
 };
 
+// The verdict on the page in the frame: { kind, words }, and whether it is being loaded.
+function pageVerdict() {
+  if (!session) return { kind: "", words: "Not connected." };
+  if (frame().isAway) return { kind: "warn", words: "This is another site: a link led away from the device. Back returns to its page." };
+  const { kind, why } = verdicts.get(target) ?? {};
+  if (kind === "wrong") return { kind: "bad", words: `Wrong page: ${why}.` };
+  if (!kind || kind === "complete" && frame().isLoading) return { kind: "", words: "Loading ..", isLoading: true };
+  return { kind: PAGE_VERDICTS[kind][0], words: PAGE_VERDICTS[kind][1] };
+}
+
 function showVerdicts() {
-  const [kind, words] = PAGE_VERDICTS[verdicts.get(target)] ?? ["", session ? "Loading .." : ""];
+  const { kind, words, isLoading } = pageVerdict();
   if ($("page-verdict").textContent !== words) Object.assign($("page-verdict"), { textContent: words }).dataset.kind = kind;
   if (!session) return;
-  const { sums } = session, verdict = verdictOf(sums);
+  const { sums } = session, verdict = verdictOf(sums, isLoading ? target : "");
   $("verdict").dataset.kind = verdict.kind;
   $("verdict-head").textContent = verdict.head;
   $("verdict-more").textContent = verdict.more;
-  const counts = [["Datagrams", sums.datagrams], ["Hit by faults", sums.hit], ["Retransmitted", sums.retransmissions],
-    ["Different", sums.different, 1], ["Complete", sums.complete], ["Wrong", sums.wrong, 1], ["Truncated", sums.truncated], ["Retried", sums.retried]];
+  const counts = [["Datagrams", sums.datagrams], ["Hit", sums.hit], ["Device again", sums.retransmissions], ["Page again", sums.repeated],
+    ["Different", sums.different, 1], ["Complete", sums.complete], ["Wrong", sums.wrong, 1], ["Truncated", sums.truncated],
+    ["Retried", sums.retried]];
   $("counts").replaceChildren(...counts.map(([name, count, isBad]) => {
     const group = document.createElement("div");
     const value = Object.assign(document.createElement("dd"), { textContent: count.toLocaleString("en") });
@@ -282,15 +341,24 @@ function showVerdicts() {
 // Loads a page several times and shows the result. Returns it, or null if the line was closed meanwhile.
 async function load(path, count) {
   const own = session, report = sums => { const { kind, words } = resultOf(sums); showResult(words, kind); };
-  const done = await own.fetchMany(path, count, report);
+  const done = await own.fetchMany(path, count, sums => { if (session === own) report(sums); });
+  if (session !== own) return null;
   report(done);
-  return session === own ? done : null;
+  return done;
+}
+
+// The number in a field, which has to be one that it allows.
+function numberIn(id, what) {
+  const { value, min, max, validity } = $(id);
+  if (!validity.valid || !Number.isInteger(+value)) throw new Error(`${what}: a whole number from ${min} to ${max}`);
+  return +value;
 }
 
 async function fetchMany() {
   if (!session) throw new Error("not connected");
-  session.atOnce = +$("at-once").value;
-  return load(pathTyped($("target").value), +$("count").value);
+  const count = numberIn("count", "the requests of a load test");
+  session.atOnce = numberIn("at-once", "the requests in parallel");
+  return load(pathTyped($("target").value, $("address").value), count);
 }
 
 async function ping() {
@@ -315,7 +383,7 @@ function draw(list, options) {
   URL.revokeObjectURL(image.src);
   image.dataset.text = text;
   image.src = URL.createObjectURL(pictureFile());
-  image.alt = `${options.title}: ${list.length} datagrams between a client and the node`;
+  image.alt = `${options.title}: ${list.length} datagrams between this page and the device`;
   $("drawing").showModal();
 }
 
@@ -328,79 +396,61 @@ async function drawReport() {
   draw(some, { title: file.name, unit });
 }
 
+// The fields and the bytes of a datagram.
+function showDatagram(row) {
+  const { title, fields, hex } = detailsOf(row), dialog = $("datagram");
+  dialog.querySelector("h2").textContent = title;
+  dialog.querySelector("dl").replaceChildren(...fields.flatMap(([name, value]) =>
+    ["dt", "dd"].map((tag, n) => Object.assign(document.createElement(tag), { textContent: [name, value][n] }))));
+  dialog.querySelector("pre").textContent = hex;
+  dialog.showModal();
+}
+
 // A path as people type it: without its slash, or after the device's address.
-export function pathTyped(text) {
-  const url = new URL(text.trim().replace(/^(https?:\/\/)?(\d+\.){3}\d+(?=[/:?#]|$)(:\d+)?/, "") || "/", "http://node/");
+export function pathTyped(text, node) {
+  const [, scheme, host, rest] = /^(https?:\/\/)?([^/?#]*)(.*)$/is.exec(text.trim()), isAddress = /^(\d+\.){3}\d+(:\d+)?$/.test(host);
+  if ((scheme || isAddress) && host.replace(/:\d+$/, "") !== node)
+    throw new Error(`only pages of the device at ${node} are shown here, and ${text.trim()} is elsewhere`);
+  const url = new URL((scheme || isAddress ? rest : host + rest) || "/", "http://node/");
   return url.pathname + url.search + url.hash;
 }
-const visitTyped = () => { $("target").blur(); return frame().visit(pathTyped($("target").value)); };
+const visitTyped = () => { $("target").blur(); return frame().visit(pathTyped($("target").value, $("address").value.trim())); };
 
 async function until(isSo, milliseconds = 20000) {
   for (const end = performance.now() + milliseconds; performance.now() < end;) {
     if (isSo()) return true;
-    await new Promise(resolve => setTimeout(resolve, 40));
+    await after(40);
   }
   return false;
 }
 
-// The steps of the tour, each with what it showed.
-async function tourPage() {
-  if (!session?.device) await openInside();
-  setFaults({});
-  const own = session;
-  await frame().visit("/stats.shtml");
-  await until(() => session !== own || verdicts.get("/stats.shtml"));
-  return { kind: "good", words: `Complete. ${own.sums.datagrams} datagrams so far.` };
-}
-
-async function tourLoss() {
-  if (!session?.device) await openInside();
-  setFaults({ loss: 30, speed: 10 });
-  Object.assign($("target"), { value: "/" });
-  const done = await load("/", 20);
-  if (!done) return {};
-  const { retransmissions, different } = session.sums, counts = `${done.complete} pages complete, ${done.wrong} wrong`;
-  return { kind: done.wrong ? "bad" : "good", words: `${counts}. ${retransmissions} retransmissions, ${different} different.` };
-}
-
-async function tourRules() {
-  setFaults({});
-  await openRules();
-  const own = session;
-  await until(() => session !== own || verdicts.get("/"));
-  if (session === own) setFaults({ loss: 30, speed: 10 });
-  const done = session === own && await load("/", 20);
-  for (let n = 0; session === own && n < 40 && verdicts.get("/") !== "wrong"; n++) {
-    verdicts.delete("/");
-    await frame().visit("/");
-    await until(() => session !== own || verdicts.get("/"));
-  }
-  if (session !== own) return {};
-  return { kind: "bad", words: `The page shows 100. ${done.wrong} of 20 pages are wrong.` };
-}
-
-async function tourEnd() {
-  setFaults({});
-  await openSensor();
-}
-
 const panel = new DevicePanel($("panel"), guard);
-const tour = new Tour($("tour"), [tourPage, tourLoss, tourRules, tourEnd]);
+const tour = new Tour($("tour"), stepsOf({
+  rows, panel, load, until, setFaults, showResult, openSensor, openMeter, openRules,
+  session: () => session, device: () => device, target: () => target,
+  visit: path => frame().visit(path), verdictAt: path => verdicts.get(path)?.kind,
+  isComplete: path => target === path && verdicts.get(path)?.kind === "complete" && !frame().isLoading,
+  endTour: () => { $("tour").hidden = true; followAddress(); },
+}), followAddress);
+const help = new Documents($("document"), async name => (await fetched(documentBase() + name)).text(), documentBase());
 
 const ACTIONS = {
-  "open-inside": tryHere, "open-sensor": openSensor, "open-own": () => $("own-site").click(), "open-image": () => $("own-image").click(),
-  "open-port": () => openSerial(null),
-  "open-bridge": () => openBridge(), close: disconnect, reload: () => frame().reload(), back: () => frame().back(), ping, many: fetchMany,
-  "no-faults": () => setFaults({}), "all-notices": () => { $("messages").classList.toggle("all"); countNotices(); },
-  "save-capture": () => save(session.capture.file(), "line.pcap"),
+  "open-inside": () => tryHere(), "open-site": () => openSite(), "open-port": () => openSerial(null), "open-bridge": () => openBridge(),
+  "open-own": () => $("own-site").click(), "open-image": () => $("own-image").click(),
+  close: disconnect, reload: () => frame().reload(), back: () => frame().back(),
+  ping, many: fetchMany, "no-faults": () => setFaults({}), "copy-link": copyLink, help: () => help.open("web/README.md", "what-you-can-do"),
+  "save-capture": () => save(session.capture.file(), "line.pcapng"), "save-plain": () => save(session.capture.plain(), "line.pcap"),
   "save-text": () => save(new Blob([rows.text()], { type: "text/plain" }), "sequence.txt"), clear: () => rows.clear(),
   draw: () => draw(rows.kept.slice(-DRAWN), { title: `Sequence diagram: ${session?.name ?? "a line"}` }),
   "save-picture": () => save(pictureFile(), "sequence.svg"),
 };
 
+function hasFiles(event) { return !!event.dataTransfer?.types.includes("Files"); }
+
 function takeDrops() {
-  addEventListener("dragenter", event => { if (event.dataTransfer?.types.includes("Files")) $("drop").hidden = false; });
+  addEventListener("dragenter", event => { if (hasFiles(event)) dragged(); });
   $("drop").addEventListener("dragleave", () => { $("drop").hidden = true; });
+  $("drop").addEventListener("pointermove", () => { $("drop").hidden = true; });   // the drag is over: it has no such events
   $("drop").addEventListener("dragover", event => event.preventDefault());
   $("drop").addEventListener("drop", event => {
     event.preventDefault();
@@ -422,10 +472,7 @@ function takeMenu() {
   addEventListener("focusin", event => { if (!menu.contains(event.target)) close(); });
 }
 
-function takeEvents() {
-  for (const [id, action] of Object.entries(ACTIONS)) $(id).addEventListener("click", () => guard(action));
-  $("go").addEventListener("submit", event => { event.preventDefault(); guard(visitTyped); });
-  $("report").addEventListener("change", () => guard(drawReport));
+function takeFields() {
   for (const id of ["own-site", "own-image"])
     $(id).addEventListener("change", () => guard(async () => {
       const files = [...$(id).files];
@@ -437,20 +484,40 @@ function takeEvents() {
   $("baud").addEventListener("change", () => remember("baud", $("baud").value));
   $("apart").addEventListener("change", () => { remember("apart", $("apart").checked); if (session) guard(visitTyped); });
   $("fill").addEventListener("change", () => { remember("fill", $("fill").checked); apply(); });
-  $("faults").addEventListener("input", apply);
-  addEventListener("hashchange", () => { if (location.hash === "#try") guard(tryHere); });
+  $("faults").addEventListener("input", event => {
+    if (event.target === $("fast")) $("speed").value = $("fast").checked ? FAST : 1;
+    if (event.target === $("seed")) return guard(() => { session?.faults.begin(numberIn("seed", "the seed")); followAddress(); });
+    apply();
+  });
+}
+
+function takeEvents() {
+  for (const [id, action] of Object.entries(ACTIONS)) $(id).addEventListener("click", () => guard(action));
+  $("go").addEventListener("submit", event => { event.preventDefault(); guard(visitTyped); });
+  $("report").addEventListener("change", () => guard(drawReport));
+  addEventListener("hashchange", () => openAddress());
   $("start").querySelectorAll("button").forEach(it => { it.type = "button"; });
+  takeFields();
   takeDrops();
   takeMenu();
 }
 
-// Links to files of the repository, if this page comes from it. web/serve.py lists those that it has.
+// Where the files of the repository are, if this page comes from it, or null. web/serve.py lists those that it has.
+function documentBase() {
+  return documents ? "" : /\/web\/(index\.html)?$/.test(location.pathname) && location.protocol !== "file:" ? "../" : null;
+}
+
 function linkDocuments() {
-  const base = documents ? "" : /\/web\/(index\.html)?$/.test(location.pathname) && location.protocol !== "file:" ? "../" : null;
+  const base = documentBase();
   for (const it of document.querySelectorAll("[data-file]")) {
-    if (base !== null) it.href = base + it.dataset.file;
-    it.parentElement.hidden = !!documents && !documents.includes(it.dataset.file);
+    const { file } = it.dataset, isHere = base !== null && (!documents || documents.includes(file));
+    (it.closest("li") ?? it).hidden = !isHere;
+    if (it.tagName !== "A" || !isHere) continue;
+    it.href = base + file;
+    it.addEventListener("click", event => { event.preventDefault(); guard(() => help.open(file)); });
   }
+  $("documents").hidden = base === null;
+  $("no-documents").hidden = base !== null;
 }
 
 // Fills in what was remembered, and what this browser and this server have.
@@ -460,6 +527,7 @@ async function prepare() {
     if (typeof value === "boolean") $(name).checked = value;
     else if (value !== undefined) $(name).value = value;
   }
+  $("seed").value = 1 + Math.floor(Math.random() * 9999);
   guard(() => setAddress("address", "start-address"));
   linkDocuments();
   $("open-bridge").disabled = !bridged;
@@ -477,15 +545,15 @@ async function prepare() {
 async function start() {
   takeEvents();
   await prepare();
-  apply();
   setInterval(showVerdicts, 200);
   await byWorker.start().then(() => { hasWorker = true; }, () => { $("apart").checked = $("apart").disabled = true; });
-  if (location.hash === "#try") await guard(tryHere);
-  else if (folder) await guard(() => openFolder());
-  else if (bridged?.now) await guard(() => openBridge());
+  if (!await openAddress()) {
+    if (folder) await guard(() => openFolder());
+    else if (bridged?.now) await guard(() => openBridge());
+  }
   document.documentElement.dataset.ready = hasWorker ? "by-worker" : "plain";
 }
 
 // For tests and the console.
-window.node = { get session() { return session; }, openOwn, rows, fetchMany, visit: wanted => frame().visit(wanted) };
+window.node = { get session() { return session; }, openOwn, openSite, rows, fetchMany, visit: wanted => frame().visit(wanted) };
 start();

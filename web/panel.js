@@ -1,11 +1,14 @@
-// The panel of a device inside the page: its values as sliders, the hits of its files as lamps, their last query, and its ten slots.
+// The panel of a device inside the page: its sensors as sliders, its values as fields, the hits of its files as lamps, their last query,
+// and its ten slots.
 const LIT = 600, MOST = 24;   // milliseconds that a lamp is lit; files that have a lamp
+const ROOMY = 800;            // the height of a window in which all of the panel has room
 
 const make = (tag, properties = {}, ...children) => {
   const it = Object.assign(document.createElement(tag), properties);
   it.append(...children);
   return it;
 };
+const isNumber = text => text.trim() !== "" && Number.isFinite(+text);
 
 export class DevicePanel {
   #device = null;
@@ -16,19 +19,26 @@ export class DevicePanel {
   // `guard` runs what may fail and reports why.
   constructor(box, guard) {
     Object.assign(this, { box, guard });
-    for (const name of ["values", "hits", "query", "slots", "facts"]) this[name] = box.querySelector(`[data-panel=${name}]`);
+    for (const name of ["sensors", "more", "values", "hits", "query", "slots", "facts"])
+      this[name] = box.querySelector(`[data-panel=${name}]`);
   }
 
-  // Shows a device with the files of its site and the numbers of the values that its scripts display; `names` are those of the values.
-  show(device, files, numbers, names = []) {
+  // Shows a device with the files of its site and the values that its scripts display: { number, isText }. `kinds` has by number the name
+  // of a value, and whether it is a sensor's or the firmware's.
+  show(device, files, values, kinds = []) {
     this.hide();
     this.#device = device;
     this.#fields.clear();
-    this.values.replaceChildren(...numbers.map(number => this.#valueOf(number, names[number] ?? `value ${number}`)));
-    this.values.closest("section").hidden = !numbers.length;
+    const rows = isOfSensor => values.filter(({ number }) => !!kinds[number]?.isSensor === isOfSensor)
+      .map(({ number, isText }) => this.#valueOf(number, isText, kinds[number] ?? { name: `value ${number}` }));
+    this.sensors.replaceChildren(...rows(true));
+    this.values.replaceChildren(...rows(false));
+    this.sensors.hidden = !this.sensors.children.length;
+    this.values.closest("section").hidden = !this.values.children.length;
     this.#lamps = files.slice(0, MOST).map(({ name }) => ({ name, count: 0, since: -LIT, ...lampOf(name) }));
     this.hits.replaceChildren(...this.#lamps.map(it => it.item));
     this.slots.replaceChildren(...device.connections.map((_, slot) => make("li", { className: "slot", title: `slot ${slot}` })));
+    this.more.open = innerHeight >= ROOMY && !kinds.length;
     this.box.hidden = false;
     this.#timer = setInterval(() => this.guard(() => this.#look()), 150);
   }
@@ -49,21 +59,26 @@ export class DevicePanel {
 
   value(number) { return this.#fields.get(number).text.value; }
 
-  // A field and a slider for a value.
-  #valueOf(number, name) {
-    const text = make("input", { type: "text", maxLength: 32, spellcheck: false, placeholder: "text" });
-    const slider = make("input", { type: "range", value: 0 });
+  // A field for a value; for a number also a slider.
+  #valueOf(number, isText, { name, isOfFirmware = false, isSensor = false }) {
+    const placeholder = isText ? "text" : "number";
+    const text = make("input", { type: "text", maxLength: 32, spellcheck: false, placeholder, readOnly: isOfFirmware });
+    const slider = make("input", { type: "range", value: 0 }), label = make("span", { textContent: name });
+    const row = make("div", { className: "value" }, label, slider, text);
     const set = value => {
+      slider.hidden = isOfFirmware || (value ? !isNumber(value) : isText);
       slider.value = value;
-      slider.className = isNaN(value) ? "no-number" : "";
+      slider.setAttribute("aria-valuetext", value || "not set");
       this.guard(() => this.#device.setValue(number, value));
     };
     this.#fields.set(number, { text, set });
-    text.setAttribute("aria-label", name);
-    slider.setAttribute("aria-label", `${name} from 0 to 100`);
+    slider.hidden = isOfFirmware || isText;
+    if (isSensor) label.prepend(make("i", { textContent: "Sensor: " }));
+    text.setAttribute("aria-label", isOfFirmware ? `${name}, set by the firmware` : name);
+    slider.setAttribute("aria-label", `${name}, from 0 to 100`);
     text.addEventListener("input", () => set(text.value));
     slider.addEventListener("input", () => { text.value = slider.value; set(slider.value); });
-    return make("div", { className: "value" }, make("span", { textContent: name }), slider, text);
+    return row;
   }
 
   // The query that the device keeps, if it is one of a file that has a lamp.

@@ -1,6 +1,6 @@
-// The sequence diagram as a picture: two time lines, the client's and the node's, and an arrow for each datagram (as in
-// RFC 793 section 3.4, figures 7 to 13). It is one SVG file.
-import { wordsOf } from "./sequence.js";
+// The sequence diagram as a picture, in the words of the page: two time lines, the page's and the device's, and an arrow for each
+// datagram (as in RFC 793 section 3.4, figures 7 to 13). It is one SVG file.
+import { labelOf, wordsOf } from "./sequence.js";
 
 const LEFT = 190, RIGHT = 610, WIDTH = 800, TOP = 70, STEP = 34, SLOPE = 16, GAP = 26;
 
@@ -25,8 +25,8 @@ export function drawSequence(rows, { title = "A sequence diagram", unit = "s" } 
   return `<svg xmlns="http://www.w3.org/2000/svg" viewBox="0 0 ${WIDTH} ${height}" width="${WIDTH}" role="img" aria-label="${name}">
 <style>${STYLE}</style><rect width="100%" height="100%" fill="#ffffff"/>
 <text x="20" y="24" class="head">${name}</text>
-<text x="${LEFT}" y="${TOP - 14}" text-anchor="middle" class="head">client</text>
-<text x="${RIGHT}" y="${TOP - 14}" text-anchor="middle" class="head">node</text>
+<text x="${LEFT}" y="${TOP - 14}" text-anchor="middle" class="head">this page</text>
+<text x="${RIGHT}" y="${TOP - 14}" text-anchor="middle" class="head">device</text>
 <path class="line" d="M${LEFT} ${TOP}V${height - 20}M${RIGHT} ${TOP}V${height - 20}"/>
 ${parts.join("\n")}
 </svg>
@@ -44,7 +44,7 @@ function arrow(row, y, unit) {
   const at = isLost ? (LEFT + RIGHT) / 2 + sign * 60 : end, low = y + SLOPE * Math.abs(at - start) / (RIGHT - LEFT);
   const cross = `M${at - 5} ${low - 5}l10 10m-10 0l10 -10`, tip = `M${at - sign * 9} ${low - 5}L${at} ${low}L${at - sign * 8} ${low + 4}`;
   const side = isToNode ? `x="${LEFT - 8}" text-anchor="end"` : `x="${RIGHT + 8}"`;
-  const words = [`${row.flags} ${row.seq} ${row.len}`, wordsOf(row)].filter(Boolean).join("  ");
+  const { what, numbers } = labelOf(row), words = [what, numbers, wordsOf(row)].filter(Boolean).join("  ");
   return `<g class="${names.join(" ")}"><path class="wire" d="M${start} ${y}L${at} ${low}"/><path class="tip" d="${isLost ? cross : tip}"/>
 <text ${side} y="${y + 4}" class="time">${escaped(`${row.who}  ${row.time} ${unit === "s" ? "s" : "t"}`)}</text>
 <text x="${(LEFT + RIGHT) / 2}" y="${y + 2}" text-anchor="middle">${escaped(words)}</text></g>`;

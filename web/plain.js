@@ -18,6 +18,7 @@ function inFrame() {
     event.preventDefault();
     ask({ visit: `${path}?${new URLSearchParams(new FormData(form, event.submitter))}` });
   });
+  addEventListener("dragenter", event => { if (event.dataTransfer.types.includes("Files")) ask({ isDrag: true }); });
   window.fetch = what => new Promise((resolve, reject) => {
     waiting.set(++count, { resolve, reject });
     ask({ fetch: what.url ?? String(what), count });
@@ -43,17 +44,31 @@ const pathOf = url => url.pathname + url.search;
 export class PlainFrame {
   #visited = [];   // targets, the last is shown
   #refresh = 0;    // a timer
+  #running = 0;    // pages that are being put together
+  isAway = false;  // as of WorkerFrame: links do not lead away here
 
-  // `get` returns a page's reply, `shown` receives the target that is shown, and `failed` the error if none is.
-  constructor(element, { get, shown, failed }) {
-    Object.assign(this, { element, get, shown, failed });
+  // `get` returns a page's reply, `shown` receives the target that is shown, and `failed` the error if none is. `left` and `dragged` are
+  // as of WorkerFrame.
+  constructor(element, { get, shown, failed, left = () => {}, dragged = () => {} }) {
+    Object.assign(this, { element, get, shown, failed, left, dragged });
     addEventListener("message", event => this.#receive(event));
   }
 
+  // Another device is open.
+  renew() {
+    clearTimeout(this.#refresh);
+    this.#visited = [];
+  }
+
+  blank() { this.element.srcdoc = ""; }
+
   async visit(target) {
     this.#visited.push(target);
-    try { await this.#show(target); } catch (error) { this.failed(error); }
+    this.#running++;
+    try { await this.#show(target); } catch (error) { this.failed(error); } finally { this.#running--; }
   }
+
+  get isLoading() { return this.#running > 0; }
 
   reload() {
     return this.visit(this.#visited.pop() ?? "/");
@@ -108,9 +123,11 @@ export class PlainFrame {
 
   async #receive({ source, data }) {
     if (source !== this.element.contentWindow || typeof data !== "object") return;
+    if (data.isDrag) this.dragged();
     if (typeof data.visit === "string") {
       const url = new URL(data.visit, this.#base());
       if (url.host === "node") this.visit(pathOf(url) + url.hash);
+      else if (/^https?:$/.test(url.protocol)) this.left(url.href);
     }
     if (typeof data.fetch !== "string") return;
     const { count } = data;

@@ -2,7 +2,7 @@
 //
 //     page.png      the device inside the page, with 30 % loss
 //     browser.png   the first screen
-//     state.png     the device with a sensor and a lamp, dark
+//     state.png     the device with all its values, dark
 //     rules.png     a server by uIP's own rules, and its wrong page
 import { join } from "node:path";
 import { startChromium } from "./test/chromium.mjs";
@@ -34,18 +34,17 @@ async function shot(browser, server, name, { size = WIDE, hash = "", isDark = fa
   await tab.call("Page.close");
 }
 
-async function throughTour(tab, steps) {
-  for (let n = 0; n < steps; n++) {
-    if (n) await step(tab);   // to the next step
-    await step(tab);
-  }
+// Does the step of the tour that the address names.
+async function doStep(tab) {
+  await tab.until(`frames[0].document.body?.innerText.includes("full")`);
+  await step(tab);
 }
 
 async function withValues(tab) {
-  await tab.run(`document.getElementById("open-sensor").click()`);
   await tab.until(`frames[0].document.body?.innerText.includes("full")`);
   await tab.run(`
-    const level = document.querySelectorAll(".value")[2].querySelector("[type=range]");
+    document.querySelector("#panel details").open = true;
+    const level = document.querySelector(".sensors [type=range]");
     level.value = 73;
     level.dispatchEvent(new Event("input"));
     frames[0].document.querySelector('a[href="/lamp-on.html"]').click()`);
@@ -56,9 +55,9 @@ async function withValues(tab) {
 const server = await serve({}), browser = await startChromium();
 try {
   await shot(browser, server, "browser.png", {}, () => {});
-  await shot(browser, server, "page.png", { hash: "#try" }, tab => throughTour(tab, 2));
-  await shot(browser, server, "rules.png", { hash: "#try" }, tab => throughTour(tab, 3));
-  await shot(browser, server, "state.png", { size: SMALL, isDark: true }, withValues);
+  await shot(browser, server, "page.png", { hash: "#device=sensor&tour=3&seed=7" }, doStep);
+  await shot(browser, server, "rules.png", { hash: "#device=sensor&tour=5&seed=7" }, doStep);
+  await shot(browser, server, "state.png", { size: SMALL, hash: "#device=sensor&seed=7", isDark: true }, withValues);
 } finally {
   await browser.stop();
   server.stop();

@@ -1,9 +1,14 @@
 // The firmware of the device with a sensor and a lamp, as examples/linux-c/state.c is in C. It sets the values that the pages of
 // examples/state display, switches the lamp if a page of the lamp was requested, and reads the alarm level that their form sends. The
 // level is the slider's.
-const NAME = 0, SECONDS = 1, LEVEL = 2, NOTE = 3, LAMP = 4, LIMIT = 5, ALARM = 6, PERIOD = 250, MOST_BYTES = 32;
+import { startTimer, stopTimer } from "./timers.js";
 
-export const NAMES = ["name", "seconds", "level", "note", "lamp", "limit", "alarm"];
+const NAME = 0, SECONDS = 1, NOTE = 3, ALARM = 6, PERIOD = 250, MOST_BYTES = 32;
+export const LEVEL = 2, LAMP = 4, LIMIT = 5;
+
+// Each value has a name. The sensor's is yours to move, and those of the firmware are its own.
+export const VALUES = [{ name: "name" }, { name: "seconds", isOfFirmware: true }, { name: "level", isSensor: true },
+  { name: "note", isOfFirmware: true }, { name: "lamp", isOfFirmware: true }, { name: "limit" }, { name: "alarm", isOfFirmware: true }];
 
 // The alarm level that a query sets, from 0 to 100, or undefined if it sets none. After it the query ends or "&" follows.
 function limitIn(query) {
@@ -13,7 +18,7 @@ function limitIn(query) {
 
 // `panel` has the fields of the values. Returns how to stop.
 export function runFirmware(device, panel) {
-  let on = 0, off = 0, last = 0;
+  let on = 0, off = 0, last = 0, timer = 0;
   panel.put(NAME, "Water tank");
   panel.put(LEVEL, "42");
   panel.put(LAMP, "off");
@@ -37,9 +42,9 @@ export function runFirmware(device, panel) {
     panel.put(SECONDS, `${Math.floor(device.ticks / 2)}`);
     panel.put(NOTE, `${panel.value(LEVEL)} % full`);
     showAlarm();
+    timer = startTimer(PERIOD, beat);
   }
   beat();
   device.work = readForm;
-  const timer = setInterval(beat, PERIOD);
-  return () => clearInterval(timer);
+  return () => stopTimer(timer);
 }

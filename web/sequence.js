@@ -6,7 +6,7 @@ import { isAfter, plus } from "./connection.js";
 
 const NAMES = [[SYN, "S"], [ACK, "A"], [PSH, "P"], [FIN, "F"], [RST, "R"]];
 const LONG_NAMES = { S: "SYN", A: "ACK", P: "PSH", F: "FIN", R: "RST" };
-const ECHO = { 0: "reply", 8: "echo" };
+const ECHO = { 0: "reply", 8: "echo" }, PING = { echo: "ping", reply: "reply to the ping" };
 const KEPT = 65536, REMEMBERED = 64;
 const UNKNOWN = -1, END = 256, START = 257;   // what a number has beside bytes: nothing yet, a FIN, a SYN
 
@@ -69,18 +69,19 @@ export class Sequence {
   #clients = 0;
   #connections = new Map();   // by ports: { client, to, from }, its number and its two flows
 
-  // The row of a datagram: { number, who, flags, seq, len, isAgain, otherAt }, and `bad` where a check fails. Numbers of
-  // bytes are counted from the connection's first.
+  // The row of a datagram: { number, who, flags, seq, len, ack, carries, isAgain, otherAt }, and `bad` where a check fails. Numbers of
+  // bytes are counted from the connection's first; `ack` is undefined if there is none, and `carries` is what its text begins with.
   add(datagram, isToNode) {
     const row = { number: ++this.#count, isToNode, size: datagram.length, seq: 0, len: 0, isAgain: false, otherAt: null };
     const { bad, echo, segment } = read(datagram);
     if (bad) return { ...row, who: isToNode ? "p" : "n0", flags: bad.replace(" ", "-"), bad };
     if (echo) return { ...row, who: isToNode ? "p" : "n0", flags: ECHO[echo.type] ?? `icmp-${echo.type}` };
-    const connection = this.#connectionOf(segment, isToNode), flow = isToNode ? connection.to : connection.from;
+    const connection = this.#connectionOf(segment, isToNode), [flow, other] = isToNode ? [connection.to, connection.from] : [connection.from, connection.to];
     const names = NAMES.filter(([bit]) => segment.flags & bit).map(([, name]) => name);
     return {
       ...row, ...flow.take(segment), who: `${isToNode ? "c" : "n"}${connection.client}`, flags: names.join("") || "-",
-      seq: plus(segment.seq, -flow.first), len: segment.text.length,
+      seq: plus(segment.seq, -flow.first), len: segment.text.length, carries: carriedBy(segment.text),
+      ack: segment.flags & ACK && other ? plus(segment.ack, -other.first) : undefined,
     };
   }
 
@@ -98,6 +99,26 @@ export class Sequence {
     if (isAnew || !connection[side]) connection[side] = new Flow(seq);
     return connection;
   }
+}
+
+// The request or the status that a text begins with (RFC 1945 sections 5.1 and 6.1), or an empty text.
+function carriedBy(text) {
+  const line = String.fromCharCode(...text.subarray(0, 96));
+  return /^GET \S+/.exec(line)?.[0] ?? /^HTTP\/\d\.\d (\d{3} [^\r\n]*)/.exec(line)?.[1] ?? "";
+}
+
+export const isEcho = ({ flags }) => /^(echo|reply|icmp-.*)$/.test(flags);
+
+// A row in words: what it is, and its numbers. A report has neither texts nor acknowledgements.
+export function labelOf(row) {
+  const { bad, flags, seq, len, ack, carries } = row, names = flagsOf(row), acked = ack === undefined ? "" : `ack ${ack}`;
+  if (bad) return { what: flags, numbers: "" };
+  if (isEcho(row)) return { what: PING[flags] ?? flags, numbers: "" };
+  if (flags === "A" && !len) return { what: ack === undefined ? "ACK" : `ACK ${ack}`, numbers: "" };
+  const bytes = `bytes ${seq} to ${seq + len - 1}`, end = flags.includes("F") ? "FIN" : "";
+  const numbers = [len ? bytes : "", end && !len ? `seq ${seq}` : "", acked];
+  const what = !len ? names.replace(/^ACK (?=FIN)/, "") : [carries || bytes, end].filter(Boolean).join(" + ");
+  return { what, numbers: numbers.filter(it => it && it !== what).join(", ") };
 }
 
 // A row's last column in a report: whether it is a retransmission, and which faults hit it.

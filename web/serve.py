@@ -10,11 +10,11 @@ It prints the page's address. The device of the page is
     UIPD [SITE]          `UIPD serve SITE 10.0.0.1` on a pseudo terminal, a fresh one for each page that is opened
     --line DEVICE RATE   at the other end of a serial port, as /dev/ttyUSB0 115200
     --board FIRMWARE     a board by qemu, at its serial port
-    -- COMMAND ARG ..    any program that speaks SLIP on standard input and output
+    -- COMMAND ARG ..    any program that speaks SLIP on standard input and output, a fresh one for each page that is opened
 
 SITE is an image (a file that ends in .img) or a folder of files. If it changes, the page loads it again and shows the same path.
 
-    --port N             serves the page at this port (8080; 0 takes a free one)
+    --port N             serves the page at this port, from 1 to 65535 (8080; 0 takes a free one)
     --open               opens the page in this machine's browser
     --page               only the page, even if crates/uipd is built
     --help               prints this text
@@ -22,7 +22,9 @@ SITE is an image (a file that ends in .img) or a folder of files. If it changes,
 The page carries bytes to UIPD over a WebSocket (RFC 6455). It fills the silence of the line with idle bytes, so that `pace` is a
 clock of half seconds. Only this machine is served, and only the page itself may use the WebSocket.
 """
+import argparse
 import base64
+import glob
 import hashlib
 import html
 import json
@@ -49,7 +51,9 @@ except ImportError:   # a system without terminals, as Windows
     browse = None
 
 TYPES = {".html": "text/html", ".js": "text/javascript", ".css": "text/css", ".wasm": "application/wasm", ".img": "application/octet-stream"}
-DOCUMENTS = ("README.md", "include/uip.h", "docs/SPECIFICATION.md", "web/README.md", "LICENSE")   # the page links to them
+TOP = os.path.join(HERE, "..")
+DOCUMENTS = ("LICENSE*", "*.md", "*/*.md", "*/*/README.md", "include/*.h", "docs/*.png")   # the page shows them
+DOCUMENT_TYPES = {".png": "image/png"}            # others are texts
 OURS = ("localhost", "127.0.0.1", "[::1]")
 ACCEPT = "258EAFA5-E914-47DA-95CA-C5AB0DC85B11"   # RFC 6455 section 1.3
 BINARY, CLOSE, PING, PONG = 2, 8, 9, 10
@@ -79,8 +83,8 @@ def names_in(folder):
 
 
 def documents():
-    """The files of the repository that are here, which the page links to."""
-    return [name for name in DOCUMENTS if os.path.isfile(os.path.join(HERE, "..", name))]
+    """The documents of the repository that are here."""
+    return sorted(os.path.relpath(path, TOP).replace(os.sep, "/") for form in DOCUMENTS for path in glob.glob(os.path.join(TOP, form)))
 
 
 def stamp_of(site):
@@ -310,23 +314,27 @@ class Handler(BaseHTTPRequestHandler):
         for name, value in (("Content-Type", kind), ("Content-Length", str(len(body))), ("Cache-Control", "no-store")):
             self.send_header(name, value)
         self.end_headers()
-        self.wfile.write(body)
+        if self.command != "HEAD":
+            self.wfile.write(body)
 
     def is_ours(self):
         """Requested by a name of this machine: no other site may point its own name here."""
         return self.headers.get("Host", "").rsplit(":", 1)[0] in OURS
 
+    def do_HEAD(self):
+        self.do_GET()
+
     def do_GET(self):
         path = self.path.split("?")[0]
         if not self.is_ours():
             self.answer(403, "text/plain", b"this machine alone is served\n")
-        elif path == "/line":
+        elif path == "/line" and self.command == "GET":
             self.upgrade()
         elif path == "/folder" or path.startswith("/folder/"):
             self.folder(urllib.parse.unquote(path[len("/folder/"):]))
         elif path[1:] in documents():
-            with open(os.path.join(HERE, "..", path[1:]), "rb") as file:
-                self.answer(200, "text/plain; charset=utf-8", file.read())
+            with open(os.path.join(TOP, path[1:]), "rb") as file:
+                self.answer(200, DOCUMENT_TYPES.get(os.path.splitext(path)[1], "text/plain; charset=utf-8"), file.read())
         else:
             self.file(path[1:] or "index.html")
 
@@ -386,33 +394,45 @@ class Server(ThreadingHTTPServer):
             super().handle_error(request, client_address)
 
 
+def port_number(text):
+    if not text.isdigit() or int(text) > 65535:
+        raise argparse.ArgumentTypeError(f"{text} is no port: a number from 0 to 65535")
+    return int(text)
+
+
+def parser():
+    """The form of the command line, before the word `--`."""
+    words = argparse.ArgumentParser(prog="serve.py", add_help=False, allow_abbrev=False,
+                                    usage="python3 web/serve.py [UIPD] [SITE] [OPTION ..] [-- COMMAND ARG ..]; --help explains each")
+    words.add_argument("plain", nargs="*")
+    words.add_argument("--line", nargs=2, metavar=("DEVICE", "RATE"))
+    words.add_argument("--board", metavar="FIRMWARE")
+    words.add_argument("--port", type=port_number, default=8080)
+    for name in ("--open", "--page", "--help", "-h"):
+        words.add_argument(name, action="store_true")
+    return words
+
+
 class Words:
     """What the command line asks for."""
 
     def __init__(self, words):
-        if "--help" in words or "-h" in words:
+        form, at = parser(), words.index("--") if "--" in words else len(words)
+        self.command, given = words[at + 1:], form.parse_intermixed_args(words[:at])
+        if given.help or given.h:
             sys.exit(print(__doc__))
-        self.command = words[words.index("--") + 1:] if "--" in words else []
-        words = words[:words.index("--")] if "--" in words else words
-        self.line = self.board = None
-        self.is_alone = self.is_opened = False
-        self.port, plain = 8080, []
-        while words:
-            word, words = words[0], words[1:]
-            if word == "--page":
-                self.is_alone = True
-            elif word == "--open":
-                self.is_opened = True
-            elif word == "--port" and words and words[0].isdigit():
-                self.port, words = int(words[0]), words[1:]
-            elif word == "--board" and words:
-                self.board, words = words[0], words[1:]
-            elif word == "--line" and len(words) > 1 and words[1].isdigit():
-                self.line, words = (words[0], int(words[1])), words[2:]
-            elif word.startswith("-") or len(plain) == 2:
-                fail(f"unknown word {word}; --help lists them")
-            else:
-                plain.append(word)
+        if len(given.plain) > 2:
+            form.error(f"unknown word {given.plain[2]}")
+        if at < len(words) and not self.command:
+            form.error("-- is followed by the command of a program")
+        if given.line and not given.line[1].isdigit():
+            form.error(f"{given.line[1]} is no rate of a port, in bits a second")
+        devices = (("UIPD or SITE", given.plain), ("--line", given.line), ("--board", given.board), ("--", self.command))
+        ways = [name for name, value in devices if value]
+        if len(ways) > 1:
+            form.error(f"{ways[0]} and {ways[1]} are two devices: the page has one")
+        plain, self.port, self.board, self.is_alone, self.is_opened = given.plain, given.port, given.board, given.page, given.open
+        self.line = (given.line[0], int(given.line[1])) if given.line else None
         is_site = len(plain) == 1 and (os.path.isdir(plain[0]) or plain[0].endswith(".img"))
         self.site = plain[0] if is_site else plain[1] if len(plain) > 1 else os.path.join(EXAMPLES, "site.img")
         self.inside = plain[0] if is_site else None
@@ -440,7 +460,7 @@ class Words:
             return Board(self.board)
         if self.command:
             if not shutil.which(self.command[0]):
-                fail(f"no command {self.command[0]} here")
+                fail(f"{self.command[0]} is not executable" if os.path.isfile(self.command[0]) else f"no command {self.command[0]} here")
             return Program(" ".join(self.command), self.command, False)
         self.has_to_exist(self.uipd, "no folder, image or program at {}; `rt run` in crates/uipd builds uipd")
         self.has_to_exist(self.site, "no image and no folder at {}")

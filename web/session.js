@@ -23,8 +23,10 @@ const sumOver = (sum, bytes) => bytes.reduce((one, byte) => Math.imul(one ^ byte
 export class Session {
   sequence = new Sequence();
   capture = new Capture();
-  sums = { datagrams: 0, hit: 0, retransmissions: 0, different: 0, noise: 0, retried: 0, complete: 0, wrong: 0, truncated: 0, bytes: 0 };
-  atOnce = AT_ONCE;
+  // `retransmissions` are the device's, `repeated` are this page's.
+  sums = { datagrams: 0, hit: 0, retransmissions: 0, repeated: 0, different: 0, noise: 0, retried: 0, complete: 0, wrong: 0, truncated: 0,
+    bytes: 0 };
+  #atOnce = AT_ONCE;
   #running = 0;
   #waiting = [];
   #sumsOfPages = new Map();   // by target, of the first copy
@@ -33,10 +35,11 @@ export class Session {
   #isClosed = false;
 
   // `line` is as in line.js; `leave` runs after its end. `show` receives each row, `notice` words for people and perhaps their
-  // kind, and `over` the error that ended the line, or null. `words` describes an error of the line.
+  // kind, and `over` the error that ended the line, or null. `words` describes an error of the line. If there is a `faultOf`, it receives
+  // each target with the text of its page and returns in words why it is wrong, or null; else a page is compared with its first copy.
   constructor(line, { name = "a line", mss, own, node, clock = new Clock(), seed = 1, show = () => {}, notice = () => {}, over = () => {},
-    words = error => error.message, leave = () => {} } = {}) {
-    Object.assign(this, { name, clock, show, notice, leave });
+    words = error => error.message, leave = () => {}, faultOf = null } = {}) {
+    Object.assign(this, { name, clock, show, notice, leave, faultOf });
     this.faults = new Faults(seed, clock);
     const waits = (connection, waited) => this.#reportWait(connection, waited);
     this.host = new Host(datagram => this.#pass(datagram, true, it => this.wire.send(it)), { mss, own, node, clock, waits });
@@ -54,16 +57,24 @@ export class Session {
     this.#stopFilling = rate > 0 ? fillSilence(this.wire, rate, this.clock) : () => {};
   }
 
+  // Requests under way at a time.
+  get atOnce() { return this.#atOnce; }
+
+  set atOnce(count) {
+    if (!(Number.isInteger(count) && count > 0)) throw new Error("at least one request is under way at a time");
+    this.#atOnce = count;
+  }
+
   #pass(datagram, isToNode, deliver) {
     const row = this.sequence.add(datagram, isToNode), time = performance.now();
-    this.capture.add(datagram, performance.timeOrigin + time);
     const { words, go } = this.faults.pass(datagram, isToNode, deliver);
+    this.capture.add(datagram, performance.timeOrigin + time, isToNode, words.join(", "));
     this.sums.datagrams++;
     this.sums.hit += words.length > 0;
-    this.sums.retransmissions += row.isAgain;
+    this.sums[isToNode ? "repeated" : "retransmissions"] += row.isAgain;
     if (row.bad) this.#reportNoise(row.bad);
     if (row.otherAt !== null) this.#reportDifferent(row);
-    this.show({ ...row, time: ((time - this.#start) / 1000).toFixed(3), fate: words });
+    this.show({ ...row, datagram, time: ((time - this.#start) / 1000).toFixed(3), fate: words });
     go();
   }
 
@@ -86,7 +97,8 @@ export class Session {
     this.notice(`no answer for ${seconds} s${why || ";"} sent again`, "wait");
   }
 
-  // Requests a page: at most `atOnce` in parallel, the others wait. `judged` receives its verdict: complete, wrong or truncated.
+  // Requests a page: at most `atOnce` in parallel, the others wait. `judged` receives its verdict, complete, wrong or truncated, and why it
+  // is wrong.
   async get(target, judged = () => {}) {
     if (this.#running < this.atOnce) this.#running++;
     else await new Promise(resolve => this.#waiting.push(resolve));
@@ -125,16 +137,18 @@ export class Session {
 
   // The same stream, judged at its end. If its reader cancels it, it is not counted.
   #counted(target, body, reply, judged) {
-    const reader = body.getReader();
+    const reader = body.getReader(), parts = [];
     let sum = SUM;
     return new ReadableStream({
       pull: async out => {
         const turn = await reader.read().catch(error => { this.#cut(judged); throw error; });
         if (turn.done) {
-          this.#judge(target, sum, reply, judged);
+          const fault = this.faultOf ? this.faultOf(target, await new Blob(parts).text()) : this.#otherThanFirst(target, sum);
+          this.#judge(target, fault, reply, judged);
           return out.close();
         }
         this.sums.bytes += turn.value.length;
+        if (this.faultOf) parts.push(turn.value);
         sum = sumOver(sum, turn.value);
         out.enqueue(turn.value);
       },
@@ -148,17 +162,22 @@ export class Session {
     judged("truncated");
   }
 
-  // A page that ended is complete, or wrong if its bytes differ from those of the first copy. The output of a script may change.
-  #judge(target, sum, reply, judged) {
+  // Why a page is wrong: its bytes differ from those of the first copy. The output of a script may change.
+  #otherThanFirst(target, sum) {
     const first = this.#sumsOfPages.get(target);
     if (first === undefined && !isScript(target)) {
       this.#sumsOfPages.set(target, sum);
       if (this.#sumsOfPages.size > REMEMBERED) this.#sumsOfPages.delete(this.#sumsOfPages.keys().next().value);
     }
-    reply.isWrong = first !== undefined && first !== sum;
+    return first !== undefined && first !== sum ? "its bytes differ from those of the first copy" : null;
+  }
+
+  // A page that ended is complete, or wrong.
+  #judge(target, fault, reply, judged) {
+    reply.isWrong = fault !== null;
     this.sums[reply.isWrong ? "wrong" : "complete"]++;
-    judged(reply.isWrong ? "wrong" : "complete");
-    if (reply.isWrong) this.notice(`wrong page: the bytes of ${target} differ from those of its first copy`, "wrong");
+    judged(reply.isWrong ? "wrong" : "complete", fault);
+    if (reply.isWrong) this.notice(`wrong page ${target}: ${fault}`, "wrong");
   }
 
   async whole(target) {
@@ -168,6 +187,7 @@ export class Session {
 
   // Fetches a page `count` times; returns how many copies were complete, wrong and truncated, and the time.
   async fetchMany(target, count, report = () => {}) {
+    if (!(Number.isInteger(count) && count > 0)) throw new Error("at least one page is fetched");
     const sums = { complete: 0, wrong: 0, truncated: 0, bytes: 0 }, start = performance.now();
     let left = count;
     const next = async () => {

@@ -1,5 +1,5 @@
 // A site's image from files, by docs/FORMATS.md, and what an image has.
-const MAGIC = "UIPSITE2", MOST_FILES = 1024;
+const MAGIC = "UIPSITE2", MOST_FILES = 1024, LONGEST_IMAGE = 1 << 24;
 // Content types that a node does not know by a name's end. tools/pack.py has the same table.
 const TYPES = {
   js: "text/javascript", mjs: "text/javascript", json: "application/json", map: "application/json", webmanifest: "application/manifest+json",
@@ -10,7 +10,7 @@ const TYPES = {
 // Those that it knows in small letters alone. A script's name has to end in .shtml.
 const KNOWN = { html: "text/html", txt: "text/plain", css: "text/css", png: "image/png", gif: "image/gif", jpg: "image/jpeg" };
 
-const VALUE = /%! +value(?:-json|-html)? +(0|[1-9]|1[0-5])(?=[ \r\n]|$)/g;   // docs/FORMATS.md, Scripts
+const VALUE = /%! +value(-json|-html)? +(0|[1-9]|1[0-5])(?=[ \r\n]|$)/g;   // docs/FORMATS.md, Scripts
 
 const ascii = text => Array.from(text, sign => sign.charCodeAt(0));
 
@@ -30,7 +30,9 @@ export function pack(files) {
     parts.push([name.length], ascii(name), [type.length], ascii(type));
     parts.push([length >>> 24, length >> 16 & 255, length >> 8 & 255, length & 255], bytes);
   }
-  const image = new Uint8Array(parts.reduce((sum, part) => sum + part.length, 0));
+  const length = parts.reduce((sum, part) => sum + part.length, 0);
+  if (length > LONGEST_IMAGE) throw new Error(`a site has 16 MiB at most, and this one has ${(length / 2 ** 20).toFixed(1)} MiB`);
+  const image = new Uint8Array(length);
   let at = 0;
   for (const part of parts) {
     image.set(part, at);
@@ -54,14 +56,15 @@ export function unpack(image) {
   return files;
 }
 
-// The numbers of the values that a site's scripts show.
+// The values that a site's scripts show: { number, isText }. A value that no script shows as it is, for JSON and HTML alone, is a text.
 export function valuesOf(files) {
-  const numbers = new Set();
+  const found = new Map();
   for (const { name, bytes } of files) {
     if (!name.endsWith(".shtml")) continue;
-    for (const [, number] of new TextDecoder().decode(bytes).matchAll(VALUE)) numbers.add(+number);
+    for (const [, form = "", number] of new TextDecoder().decode(bytes).matchAll(VALUE))
+      found.set(+number, (found.get(+number) ?? true) && form !== "");
   }
-  return [...numbers].sort((a, b) => a - b);
+  return [...found].map(([number, isText]) => ({ number, isText })).sort((a, b) => a.number - b.number);
 }
 
 // The functions of a script, each with the number of words that it takes.

@@ -1,10 +1,16 @@
-// The guided tour: three steps, each with an action and what it showed. It knows the page by the actions that it is given alone.
+// The guided tour: five steps, each with an action and what it showed. It knows the page by the actions that it is given alone.
 const STEPS = [
   {
-    title: "Load a page",
-    text: "The device runs in this page and answers at 10.0.0.1. Its start page is loaded below. "
-      + "Each arrow of the sequence diagram is one datagram.",
-    button: "Load its counters page",
+    title: "Open a connection",
+    text: "The device runs in this page, at 10.0.0.1. Each arrow of the diagram is one datagram. "
+      + "A connection begins with three: SYN, SYN ACK, and an acknowledgement that brings the request.",
+    button: "Load one page",
+  },
+  {
+    title: "Read a value, press a button",
+    text: "The water level is a sensor's value: the page shows what the firmware set. "
+      + "“Lamp on” is a link: the device counts its requests, and the firmware switches the lamp.",
+    button: "Set the level to 73, press Lamp on",
   },
   {
     title: "Lose 30 % of all datagrams",
@@ -13,37 +19,48 @@ const STEPS = [
     button: "Lose 30 %, load 20 pages",
   },
   {
-    title: "See what uIP's own rules do",
-    text: "uIP stores no sent data either, but its text may change before the retransmission. "
-      + "Here a meter reads 999 at first and 1000 later. uIP keeps the old length of three bytes: the page shows 100.",
-    button: "Same line, a server by uIP's rules",
+    title: "Read this capture",
+    text: "Now one datagram is lost: the first with the page. Find it in the diagram (×), and its retransmission (dashed). "
+      + "A click on a row shows its fields. “Wireshark” saves all of them.",
+    button: "Lose one datagram",
+  },
+  {
+    title: "999 and 1000",
+    text: "A meter goes from 999 to 1000 while its page is on the way, and half of its text is lost. uIP too generates text again, "
+      + "but from the new reading: its page has both numbers. The device here keeps to the record that it took.",
+    button: "Load the meter 5 times, here and by uIP's rules",
   },
 ];
 const LAST = {
   title: "Now break it yourself",
-  text: "Move the sliders, drop a folder with your own site onto this page, or save the line for Wireshark. "
-    + "The next device has a sensor and a lamp, as yours may have.",
-  button: "Start the device with a sensor",
+  text: "Move the sliders, drop a folder with your own site onto this page, save the line for Wireshark, or send somebody "
+    + "the link to this run.",
+  button: "Back to the water tank",
 };
 
 export class Tour {
   #at = 0;
   #isBusy = false;
 
-  // `box` is the element; `actions` has one for each step and one for the end. Each resolves to { kind, words } or nothing.
-  constructor(box, actions) {
-    Object.assign(this, { box, actions });
+  // `box` is the element; `actions` has one for each step and one for the end. Each resolves to { kind, words } or nothing. `moved` runs
+  // when another step is shown.
+  constructor(box, actions, moved = () => {}) {
+    Object.assign(this, { box, actions, moved });
     this.button = box.querySelector("[data-tour=go]");
     this.button.addEventListener("click", () => this.#go());
-    box.querySelector("[data-tour=close]").addEventListener("click", () => { box.hidden = true; });
+    box.querySelector("[data-tour=close]").addEventListener("click", () => { box.hidden = true; moved(); });
     for (const it of box.querySelectorAll("[data-step]"))
       it.addEventListener("click", () => { if (!this.#isBusy) this.#show(+it.dataset.step); });
   }
 
-  start() {
+  // Begins at a step, from 1 on.
+  start(step = 1) {
     this.box.hidden = false;
-    this.#show(0);
+    this.#show(step - 1);
   }
+
+  // The step that is shown, from 1 on, or 0.
+  get step() { return this.box.hidden ? 0 : this.#at + 1; }
 
   #show(at) {
     this.#at = at;
@@ -58,6 +75,7 @@ export class Tour {
       if (+it.dataset.step === at) it.setAttribute("aria-current", "step"); else it.removeAttribute("aria-current");
       it.classList.toggle("done", +it.dataset.step < at);
     });
+    this.moved();
   }
 
   async #go() {

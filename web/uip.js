@@ -2,6 +2,12 @@
 // It knows no document and no clock.
 const MAX_IN = 16384, MAX_OUT = 3002, SLOTS = 10, MAX_VALUE = 32, MAX_QUERY = 64, LONGEST_NAME = 64;
 const STATUSES = ["successful", "no device", "bad argument", "a device is open already", "bad image", "out of memory", "output is pending"];
+// Why an image is bad (docs/FORMATS.md, The image of a site).
+const FAULTS = {
+  long: "it has more than 16 MiB", magic: "it is no image of a site", cut: "it ends too early", many: "it has more than 1,024 files",
+  name: "a name of a file is not allowed", twice: "two files have one name", kind: "a content type is not allowed", rest: "bytes follow its last file",
+  include: "a script includes a file that is not there", page: "a page could become too long",
+};
 const STATES = ["CLOSED", "SYN-RCVD", "ESTABLISHED", "CLOSE-WAIT", "FIN-WAIT-1", "FIN-WAIT-2", "CLOSING", "TIME-WAIT", "LAST-ACK"];
 
 const ascii = text => Uint8Array.from(text, sign => sign.charCodeAt(0));
@@ -33,7 +39,7 @@ export class Device {
     uip_open(result, device, at, image.length, ownAt);
     if (this.#word(0) === 0) return;
     const why = String.fromCharCode(...this.#bytes().subarray(result + 8, result + 16)).replace(/\0.*/s, "");
-    throw new Refused(this.#word(0), why && `bad image: ${why} ${this.#word(1)}`);
+    throw new Refused(this.#word(0), why && `bad image: ${FAULTS[why] ?? "it is refused"} (${why} ${this.#word(1)})`);
   }
 
   // Feeds received serial bytes. Passes each text that the device sends to `send`.

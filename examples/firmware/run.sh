@@ -34,8 +34,14 @@ command -v python3 >/dev/null || skip "python3"
 mkdir -p "$out"
 python3 "$top/tools/pack.py" "$here/site" "$out/site.c" /state.shtml=application/json || fail "the site was not packed"
 strict="-std=c11 -pedantic -Wall -Wextra -Wconversion -Werror"
-for name in serial sleep rtos_serial datagrams ether ether_dma ether_loop rtos rtos_dma pages port port_dma port_cdc; do
+for name in serial sleep rtos_serial datagrams ether ether_dma ether_loop rtos rtos_dma pages port port_dma port_cdc lines; do
     "$cc" $strict -fsyntax-only -I"$top/include" -I"$out" "$here/$name.c" || fail "$name.c does not compile"
+done
+mkdir -p "$out/stubs"
+for name in FreeRTOS semphr task stm32; do echo '#include "'"$here"'/stubs.h"' > "$out/stubs/$name.h"; done
+for name in freertos stm32_ether; do
+    "$cc" -std=c11 -Wall -Wextra -Werror -Wno-pointer-to-int-cast -Wno-int-to-pointer-cast -fsyntax-only -I"$top/include" -I"$out/stubs" \
+        "$here/$name.c" || fail "$name.c does not compile"
 done
 "$cc" $strict -DRING=16 -I"$top/include" "$here/dma_test.c" "$here/port_dma.c" -o "$out/dma_test" && "$out/dma_test" ||
     fail "port_dma.c takes other bytes than the DMA wrote"

@@ -15,7 +15,7 @@ uip_device device = UIP_INIT;
 
 int main(void) {
     static const unsigned char own[4] = {10, 0, 0, 1};
-    static unsigned char bytes[42], out[64];      /* 42: at most one request a pass (uip.h, section 10) */
+    static unsigned char bytes[42], out[64];      /* 42: at most one request a pass (uip.h, section 9) */
     uip_opened opened = uip_open(&device, site_image, SITE_IMAGE_LEN, own);
     unsigned status = opened.status;
     if (status != UIP_OK) fail(status, opened.entry, opened.word);

@@ -1,4 +1,4 @@
-// Serves a serial line on standard input and output by the loop of support/step.c, as uip_serve does by its own:
+// Serves a serial line on standard input and output by the loop of support/step.c, as examples/serve.c does by its own:
 //     uip_step serve SITE ADDRESS            makes a tick each half second, until the input ends
 //     uip_step serve SITE ADDRESS SEED       makes no tick. The sizes of reads and how long a piece is sent are random, by SEED
 #include <fcntl.h>

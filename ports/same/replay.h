@@ -9,7 +9,7 @@
 
 // ---- the report
 
-static uint64_t calls, successful, bytes_in, bytes_out, of_op[OPS];
+static uint64_t calls, skipped, successful, bytes_in, bytes_out, of_op[OPS];
 
 static void print(const char *text) {
     long len = 0;
@@ -35,7 +35,7 @@ static void same(const char *what, uint64_t is, uint64_t was) {
 }
 
 static void report(void) {
-    print("same: "), print_number(calls), print(" calls ("), print_number(successful), print(" successful; ");
+    print("same: "), print_number(calls - skipped), print(" calls ("), print_number(successful), print(" successful; ");
     print_number(of_op[OPEN_ETHER] + of_op[INPUT_FRAME] + of_op[PERIODIC_FRAME]), print(" of the three calls for Ethernet), ");
     print_number(bytes_in), print(" bytes of input, "), print_number(bytes_out), print(" bytes compared; by kind:");
     for (unsigned op = OPEN; op < OPS; op++) print(" "), print_number(of_op[op]);
@@ -62,7 +62,7 @@ static int take(void *where, uint64_t len) {
 // ---- the heap: each block has a place of its own, with marks on both sides
 
 enum { BLOCKS = 64, PLACE = 1 << 16, MARGIN = 64, MARK = 0xa7 };
-static _Alignas(16) unsigned char places[BLOCKS][PLACE];
+static __attribute__((aligned(16))) unsigned char places[BLOCKS][PLACE];
 static struct { size_t len; uint64_t number; } blocks[BLOCKS];
 static uint64_t heap, allocated;
 static unsigned refuses;
@@ -105,17 +105,33 @@ void rattle_dealloc(void *block) {
 // ---- the calls
 
 static unsigned char in[MOST_INPUT];
-static _Alignas(4) unsigned char out[MOST_ROOM + COMPARED], was[MOST_ROOM], marks[COMPARED + 4];
+static __attribute__((aligned(4))) unsigned char out[MOST_ROOM + COMPARED], was[MOST_ROOM], marks[COMPARED + 4];
 
 static uip_result of_status(unsigned status) { return (uip_result){status, 0, 0, 0}; }
 
 // The three calls for an application of the program's own, by their names, as cases of `call`.
 static inline uip_result of_read(uip_received it) { return (uip_result){it.status, it.ready, it.port, it.len}; }
 
+// The record is of a little-endian machine.
 static inline uint64_t number_at(const unsigned char *at) {
-    uint64_t number;
-    __builtin_memcpy(&number, at, sizeof number);
+    uint64_t number = 0;
+    for (int k = 7; k >= 0; k--) number = number << 8 | at[k];
     return number;
+}
+
+static void order_record(record *r) {
+    uint64_t *words = (uint64_t *)r;
+    for (size_t k = 0; k < sizeof *r / 8; k++) words[k] = number_at((const unsigned char *)&words[k]);
+}
+
+// The numbers of 4 bytes in a struct of uip.h, in the order of the record.
+static inline void order_numbers(void *at, size_t len) {
+    unsigned char *b = at;
+    for (size_t k = 0; k < len; k += 4) {
+        uint32_t number;
+        __builtin_memcpy(&number, b + k, 4);
+        for (size_t byte = 0; byte < 4; byte++) b[k + byte] = (unsigned char)(number >> 8 * byte);
+    }
 }
 
 #define OWN_CASES(listen, read, write) \
@@ -123,7 +139,9 @@ static inline uint64_t number_at(const unsigned char *at) {
     case APP_READ: return of_read(read(d, number, out, room)); \
     case APP_WRITE: return write(d, number, (size_t)number_at(input), input + 16, len - 16, (unsigned)number_at(input + 8), out, room);
 
-// These two are of the including file. The input of a call goes to `input_of`. `call` makes a call, and sets `left` to the bytes that it left.
+// These are of the including file. The input of a call goes to `input_of`. `call` makes a call, and sets `left` to the bytes that it left, in
+// the order of the record. A call that is `skipped` is not in the library that is tried.
+static int is_skipped(const record *r);
 static unsigned char *input_of(const record *r);
 static uip_result call(const record *r, const unsigned char *input, const unsigned char **left);
 
@@ -140,7 +158,7 @@ static void compare(const record *r, uip_result result, const unsigned char *lef
     same("the number, or whether output is pending", result.pending, r->pending);
     same("the number of consumed bytes", result.consumed, r->consumed);
     same("the number of written bytes", result.written, r->written);
-    same("the calls of the heap", heap, r->heap);
+    if (!skipped) same("the calls of the heap", heap, r->heap);
     same_bytes("a byte", left, was, r->out_len);
     same_bytes("a byte after the room", out + r->room, marks + (r->room & 3), COMPARED);
 }
@@ -149,6 +167,7 @@ int main(void) {
     record r;
     __builtin_memset(marks, MARK, sizeof marks);
     while (take(&r, sizeof r)) {
+        order_record(&r);
         unsigned char *input = input_of(&r);
         const unsigned char *left = out;
         calls++;
@@ -158,6 +177,10 @@ int main(void) {
         __builtin_memset(out, (int)r.fill, r.room < COMPARED ? (size_t)r.room : COMPARED);
         __builtin_memset(out + r.room, MARK, COMPARED);
         refuses = (unsigned)r.refuses;
+        if (is_skipped(&r)) {
+            skipped++;
+            continue;
+        }
         uip_result result = call(&r, input, &left);
         compare(&r, result, left);
         of_op[r.op]++;

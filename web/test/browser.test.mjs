@@ -45,7 +45,7 @@ async function seesSite(tab) {
   const seen = await tab.run(`
     const { document } = frames[0], [image] = document.images, [sheet] = document.styleSheets;
     return [image.naturalWidth > 0, sheet.cssRules.length, frames[0].getComputedStyle(document.body).color]`);
-  assert.deepEqual(seen, [true, 5, "rgb(20, 44, 36)"]);
+  assert.deepEqual(seen, [true, 6, "rgb(20, 44, 36)"]);
   await tab.run(`frames[0].document.querySelector('a[href="/stats.shtml"]').click()`);
   await tab.until(shows("What it counts"));
   assert.match(await tab.run(`return frames[0].document.body.innerText`), /ESTABLISHED/);
@@ -106,7 +106,7 @@ inBrowser("a serial port is pinged, captured, closed and opened again", () => wi
   await click(tab, "ping");
   await tab.until(`document.getElementById("result").textContent.startsWith("echo reply after")`);
   const capture = await tab.run(`
-    return btoa(String.fromCharCode(...new Uint8Array(await node.session.capture.file().arrayBuffer())))`);
+    return btoa(String.fromCharCode(...new Uint8Array(await node.session.capture.plain().arrayBuffer())))`);
   if (!noProgram) {
     const line = execFileSync(UIPD, ["slip"], { input: Buffer.from(capture, "base64") });
     assert.match(dump(line), /icmp 10\.0\.0\.2 10\.0\.0\.1 8 0\n[^]* icmp 10\.0\.0\.1 10\.0\.0\.2 0 0\n/);
@@ -127,6 +127,7 @@ inBrowser("each fault of a port has its message, and the page goes on", () => wi
   await tab.run(`self.chooseNone = false; self.refuseOpen = true`);
   await click(tab, "open-port");
   await tab.until(hasNotice("another program has it"));
+  await tab.until(ends("not connected"));
   await tab.run(`self.refuseOpen = false`);
   await click(tab, "open-port");
   await tab.until(shows("Lowunbisa"));
@@ -259,12 +260,13 @@ inBrowser("a report of a replay is drawn", () => withBridge(startServe("--page")
   const { nodeId } = await tab.call("DOM.querySelector", { nodeId: root.nodeId, selector: "#report" });
   await tab.call("DOM.setFileInputFiles", { nodeId, files: [report] });
   await tab.until(`document.getElementById("drawing").open && document.getElementById("picture").naturalWidth > 0`);
-  assert.equal(await tab.run(`return document.getElementById("picture").alt`), `page.report: ${noProgram ? 4 : 9} datagrams between a client and the node`);
+  assert.equal(await tab.run(`return document.getElementById("picture").alt`), `page.report: ${noProgram ? 4 : 9} datagrams between this page and the device`);
   await tab.picture(join(PICTURES, "report.png"));
 }));
 
 inBrowser("the page is used by the keyboard, has labels, and fits 390 and 360 pixels", () => withBridge(startServeOfSite(), async tab => {
   await tab.until(shows("Lowunbisa"));
+  await tab.run(`for (const it of document.querySelectorAll("details:not(.menu)")) it.open = true`);
   const { nodes } = await tab.call("Accessibility.getFullAXTree");
   const fields = nodes.filter(it => ["button", "textbox", "slider", "checkbox", "combobox", "spinbutton"].includes(it.role?.value));
   assert.ok(fields.length > 20);
@@ -275,11 +277,12 @@ inBrowser("the page is used by the keyboard, has labels, and fits 390 and 360 pi
   await tab.until(shows("What it counts"));
   const reached = new Set();
   await tab.run(`document.querySelector(".menu").open = true; document.querySelector(".menu summary").focus()`);
-  for (let n = 0; n < 40; n++) {
+  for (let n = 0; n < 50; n++) {
     reached.add(await tab.run(`return document.activeElement.id || document.activeElement.className`));
     await tab.key("Tab");
   }
-  for (const id of ["fill", "apart", "close", "back", "address", "target", "loss", "speed", "no-faults", "ping", "many", "count", "draw", "save-capture", "diagram"])
+  for (const id of ["help", "fill", "apart", "close", "back", "address", "target", "draw", "save-capture", "save-plain", "diagram", "loss", "fast", "speed",
+    "seed", "copy-link", "no-faults", "count", "many", "ping"])
     assert.ok(reached.has(id), `${id} is not reached: ${[...reached]}`);
   for (const width of [390, 360]) {
     await tab.size(width, 740);

@@ -36,7 +36,7 @@ test("every file of the site, and pings", { skip }, () => withNode({}, async ses
 }));
 
 test("values, hits, counters and connections", { skip }, () => withNode({ site: STATE }, async (session, device) => {
-  assert.deepEqual(valuesOf(unpack(STATE)), [0, 1, 2, 3, 4, 5, 6]);
+  assert.deepEqual(valuesOf(unpack(STATE)).map(it => it.number), [0, 1, 2, 3, 4, 5, 6]);
   device.setValue(0, 'a "name"');
   device.setValue(1, "7");
   device.setValue(2, "50");

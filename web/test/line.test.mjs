@@ -7,6 +7,7 @@ import { attach, fillSilence } from "../line.js";
 import { openPort, portFault, segmentAt } from "../port.js";
 import { Faults } from "../faults.js";
 import { Capture } from "../capture.js";
+import { withSession } from "./node_process.mjs";
 
 // A port as Web Serial has it: an error ends `readable`, and another stream takes its place, or none after the last. Each
 // turn is what comes and the name of the error after it.
@@ -134,9 +135,49 @@ test("a datagram that is late comes after the next one, or in a while", async ()
 test("a capture keeps to its room: the oldest records go", async () => {
   const capture = new Capture(10000);
   for (let n = 0; n < 1000; n++) capture.add(new Uint8Array(84).fill(n), 1234567890123);
-  const bytes = Buffer.from(await capture.file().arrayBuffer());
+  const bytes = Buffer.from(await capture.plain().arrayBuffer());
   assert.ok(bytes.length <= 10024 && bytes.length > 5000);
   assert.equal((bytes.length - 24) / 100 + capture.dropped, 1000);
   assert.equal(bytes[bytes.length - 1], 999 & 0xff);
   assert.deepEqual([bytes.readUInt32BE(24), bytes.readUInt32BE(28)], [1234567890, 123000]);
 });
+
+// The blocks of a capture file (draft-ietf-opsawg-pcapng sections 3.1, 4.1 to 4.3): of each packet its bytes, time, direction and comment.
+function packetsOf(file) {
+  const packets = [];
+  assert.deepEqual([file.readUInt32BE(0), file.readUInt32BE(8), file.readUInt16BE(12)], [0x0a0d0d0a, 0x1a2b3c4d, 1]);
+  for (let at = 0; at < file.length;) {
+    const type = file.readUInt32BE(at), length = file.readUInt32BE(at + 4);
+    assert.equal(length % 4, 0);
+    assert.equal(file.readUInt32BE(at + length - 4), length);
+    if (type === 1) assert.equal(file.readUInt16BE(at + 8), 101);   // raw IP
+    if (type === 6) packets.push(packetOf(file.subarray(at + 8, at + length - 4)));
+    at += length;
+  }
+  return packets;
+}
+function packetOf(body) {
+  const size = body.readUInt32BE(12), options = {};
+  assert.deepEqual([body.readUInt32BE(0), body.readUInt32BE(16)], [0, size]);
+  for (let at = 20 + size + (-size & 3); body.readUInt16BE(at) !== 0;) {
+    const code = body.readUInt16BE(at), length = body.readUInt16BE(at + 2);
+    options[code] = body.subarray(at + 4, at + 4 + length);
+    at += 4 + length + (-length & 3);
+  }
+  const time = (body.readUInt32BE(4) * 2 ** 32 + body.readUInt32BE(8)) / 1000;
+  return { bytes: [...body.subarray(20, 20 + size)], time, isInbound: (options[2].readUInt32BE(0) & 3) === 1, comment: options[1]?.toString() ?? "" };
+}
+
+test("a capture for Wireshark has a comment for each datagram that a fault hit", async () => {
+  const capture = new Capture(), added = [[[1, 2, 3], 1764547200123.456, true, ""], [[4, 5, 6, 7], 1764547200124, false, "lost"], [[], 1764547200125, false, "corrupted, duplicated"]];
+  for (const [bytes, ...rest] of added) capture.add(Uint8Array.from(bytes), ...rest);
+  const packets = packetsOf(Buffer.from(await capture.file().arrayBuffer()));
+  assert.deepEqual(packets.map(it => [it.bytes, it.time.toFixed(3), it.isInbound, it.comment]), added.map(([bytes, time, isToNode, comment]) => [bytes, time.toFixed(3), !isToNode, comment]));
+});
+
+test("the capture of a line has each loss", () => withSession({ faults: { loss: 0.3 }, seed: 9, speed: 20 }, async session => {
+  await session.whole("/");
+  const packets = packetsOf(Buffer.from(await session.capture.file().arrayBuffer())), { datagrams, hit } = session.sums;
+  assert.deepEqual([packets.length, packets.filter(it => it.comment === "lost").length], [datagrams, hit]);
+  assert.ok(hit > 0);
+}));

@@ -9,10 +9,8 @@ import { get, all } from "../http.js";
 function played({ mss = 536, isOpened = true, connect = host => host.connect() } = {}) {
   const out = [], waits = [], timers = new Map();
   let time = 0, id = 0;
-  const clock = { now: () => time, later(wait, what) { timers.set(++id, { at: time + wait, what }); return id; } };
+  const clock = { now: () => time, later(wait, what) { timers.set(++id, { at: time + wait, what }); return id; }, cancel(timer) { timers.delete(timer); } };
   const host = new Host(it => out.push(read(it).segment), { clock, waits: (_, waited) => waits.push(waited) });
-  const clear = globalThis.clearTimeout;
-  globalThis.clearTimeout = timer => timers.delete(timer) || clear(timer);
   const connection = connect(host), first = out[0].seq;
   const sent = () => out.splice(0).map(it =>
     ({ flags: it.flags, seq: it.seq - first >>> 0, ack: it.ack - 5000 >>> 0, len: it.text.length, window: it.window }));

@@ -6,7 +6,7 @@ import { join } from "node:path";
 import { setFlagsFromString } from "node:v8";
 import { runInNewContext } from "node:vm";
 import { ACK, FIN, PSH, SYN, tcpDatagram } from "../wire.js";
-import { Sequence, flagsOf, readReport, rowText, verdictOf, wordsOf } from "../sequence.js";
+import { Sequence, flagsOf, labelOf, readReport, rowText, verdictOf, wordsOf } from "../sequence.js";
 import { drawSequence } from "../picture.js";
 import { SITE, UIPD, here, noProgram, startSession, top } from "./node_process.mjs";
 
@@ -85,7 +85,7 @@ test("a report of uipd is read, written back to the very line, and drawn", { ski
   assert.equal(rows.map(rowText).join("\n"), report.split("\nclient")[0]);
   const picture = drawSequence(rows, { title: "a <page>", unit });
   assert.equal(picture.match(/<path class="wire"/g).length, rows.length);
-  assert.match(picture, /<text [^>]*>AP 1 376 {2}retransmission<\/text>/);
+  assert.match(picture, /<text [^>]*>bytes 1 to 376 {2}retransmission<\/text>/);
   assert.match(picture, /4 ticks later/);
   assert.match(picture, /a &#60;page&#62;/);
   assert.throws(() => readReport("ticks 4 datagrams 9\n"), /no row of a sequence diagram/);
@@ -106,6 +106,31 @@ test("a diagram of the page is read back too", () => {
   assert.equal(wordsOf(rows[3]), "retransmission, identical");
   assert.deepEqual(rows.map(flagsOf), ["SYN", "ACK PSH", "echo", "ACK PSH"]);
   assert.match(drawSequence(rows), /class="from again other lost"/);
+});
+
+test("a row has words: the request, the status, the bytes, and what it acknowledges", () => {
+  const sequence = new Sequence(), labels = [];
+  const add = (isToNode, seq, ack, flags, text = "") => {
+    const ports = isToNode ? { fromPort: 7, toPort: 80 } : { fromPort: 80, toPort: 7 };
+    const segment = { ...ports, seq, ack, flags, window: 1, mss: 0, text: Buffer.from(text) };
+    const { what, numbers } = labelOf(sequence.add(tcpDatagram(isToNode ? OWN : NODE, isToNode ? NODE : OWN, 1, segment), isToNode));
+    labels.push([what, numbers].filter(Boolean).join("; "));
+  };
+  add(true, 100, 0, SYN);
+  add(false, 900, 101, SYN | ACK);
+  add(true, 101, 901, ACK | PSH, "GET /a?b HTTP/1.0\r\n\r\n");
+  add(false, 901, 122, ACK | PSH, "HTTP/1.0 200 OK\r\n\r\n");
+  add(true, 122, 920, ACK);
+  add(false, 920, 122, ACK | PSH | FIN, "end");
+  add(true, 122, 924, ACK | FIN);
+  add(false, 924, 123, ACK);
+  add(false, 924, 123, ACK | PSH, "HTTP/1.0 404 Not found\r\n");
+  assert.deepEqual(labels, ["SYN", "SYN ACK; ack 1", "GET /a?b; bytes 1 to 21, ack 1", "200 OK; bytes 1 to 19, ack 22", "ACK 20", "bytes 20 to 22 + FIN; ack 22",
+    "FIN; seq 22, ack 24", "ACK 23", "404 Not found; bytes 24 to 47, ack 23"]);
+  const row = { number: 1, time: "0", seq: 1, len: 9, isAgain: false, otherAt: null, fate: [] };   // of a report, which has no texts
+  assert.deepEqual(labelOf({ ...row, who: "n0", flags: "AP" }), { what: "bytes 1 to 9", numbers: "" });
+  assert.deepEqual(labelOf({ ...row, who: "c1", flags: "A", len: 0 }), { what: "ACK", numbers: "" });
+  assert.deepEqual(["echo", "reply"].map(flags => labelOf({ ...row, who: "p", flags }).what), ["ping", "reply to the ping"]);
 });
 
 test("a node by uIP's own rules is found: other bytes at one number", { timeout: 240000 }, async () => {

@@ -22,12 +22,12 @@ class SimulatedClock {
   now() { return this.#time; }
 
   later(wait, what) {
-    const event = { at: this.#time + wait, number: this.#count++, what, clock: this };
+    const event = { at: this.#time + wait, number: this.#count++, what };
     this.#events.push(event);
     return event;
   }
 
-  drop(event) { this.#events = this.#events.filter(it => it !== event); }
+  cancel(event) { this.#events = this.#events.filter(it => it !== event); }
 
   step() {
     const [next] = this.#events.sort((a, b) => a.at - b.at || a.number - b.number);
@@ -37,8 +37,6 @@ class SimulatedClock {
     next.what();
   }
 }
-const { clearTimeout } = globalThis;
-globalThis.clearTimeout = timer => { if (timer?.clock) timer.clock.drop(timer); else clearTimeout(timer); };
 
 async function pages(count, seed, stall) {
   const clock = new SimulatedClock(), { line, stop } = nodeInside({ code, image, own: [10, 0, 0, 1], clock });

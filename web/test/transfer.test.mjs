@@ -165,7 +165,7 @@ transfer("a capture is what uipd reads as one", { skip: noProgram }, async sessi
   faults.pass = (datagram, ...rest) => { seen.push(datagram); return pass(datagram, ...rest); };
   await session.whole("/");
   await host.ping();
-  const file = Buffer.from(await session.capture.file().arrayBuffer());
+  const file = Buffer.from(await session.capture.plain().arrayBuffer());
   assert.ok(execFileSync(UIPD, ["slip"], { input: file }).equals(Buffer.concat(seen.map(slipText))));
 });
 

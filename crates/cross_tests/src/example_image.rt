@@ -1,16 +1,16 @@
 // The image of the example site in examples/site, which examples/image.py writes and compares.
 pub const IMAGE: &[u8] = b"\
 UIPSITE1\x00\x06\x0b/index.html\x00\x00\x02\x0e<!DOCTYPE html>\n\
-<html>\n\
-<head><title>Lowunbisa</title><link rel=\"stylesheet\" href=\"/style.css\"></head>\n\
+<html lang=\"en\">\n\
+<head><meta name=\"viewport\" content=\"width=device-width\"><title>Lowunbisa</title><link rel=\"sty\
+lesheet\" href=\"/style.css\"></head>\n\
 <body>\n\
 <h1><img src=\"/logo.png\" alt=\"\"> Lowunbisa</h1>\n\
-<p>A web server in one packet's room, proved.</p>\n\
+<p>A web server, in the room of one packet, proved.</p>\n\
 <ul>\n\
 <li><a href=\"/stats.shtml\">What it counts</a></li>\n\
 <li><a href=\"/style.css\">The style of these pages</a></li>\n\
 <li><a href=\"/logo.png\">The picture</a></li>\n\
-<li><a href=\"/footer.html\">The line at the foot of a page</a></li>\n\
 <li><a href=\"/404.html\">The page for a name that no file has</a></li>\n\
 </ul>\n\
 </body>\n\
@@ -38,12 +38,13 @@ UIPSITE1\x00\x06\x0b/index.html\x00\x00\x02\x0e<!DOCTYPE html>\n\
 </body>\n\
 </html>\n\
 \x0c/footer.html\x00\x00\x00*<p class=\"foot\"><a href=\"/\">Start</a></p>\n\n\
-/style.css\x00\x00\x01)body { max-width: 40em; margin: 2em auto; font-family: sans-serif; color: #14\
-2c24; }\n\
-h1 img { vertical-align: middle; }\n\
+/style.css\x00\x00\x01)body { max-width: 38em; margin: 0 auto; padding: 1.5em; font: 1em/1.6 system-\
+ui, sans-serif; color: #142c24; }\n\
+a { color: #0b6e58; }\n\
+h1 img { height: 0.9em; }\n\
 table { border-collapse: collapse; }\n\
-td, th { border: 1px solid #b0c4bc; padding: 0.2em 0.6em; text-align: right; }\n\
-.foot { border-top: 1px solid #b0c4bc; padding-top: 0.5em; }\n\
+td, th { border: 1px solid #cdd8d4; padding: 0.2em 0.7em; }\n\
+.foot { border-top: 1px solid #cdd8d4; }\n\
 \x09/logo.png\x00\x00\x00\xf0\x89PNG\x0d\n\
 \x1a\n\
 \x00\x00\x00\x0dIHDR\x00\x00\x00 \x00\x00\x00 \x02\x03\x00\x00\x00\x0e\x14\x92g\x00\x00\x00\x0cPLTE\

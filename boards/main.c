@@ -1,0 +1,17 @@
+// A device on the serial port of a board, with the loop of support/step.c: it sleeps between the bytes. What it does with its pages is in a file
+// of its own, which defines work: lamp_pages.c, or the one that PAGES names.
+#include "step.h"
+#include "site.c"                              // tools/pack.py makes it
+#define UIP_HEAP_SIZE UIP_MEMORY(SITE_IMAGE_FILES)
+#include "heap.c"
+
+void board_start(void);
+
+uip_device device = UIP_INIT;
+
+int main(void) {
+    static const unsigned char own[4] = {10, 0, 0, 1};
+    uip_opened opened = uip_open(&device, site_image, SITE_IMAGE_LEN, own);
+    board_start();
+    return (int)(opened.status == UIP_OK ? serve() : opened.status);
+}

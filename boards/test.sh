@@ -1,0 +1,39 @@
+#!/bin/sh
+# Runs the firmware of each board under qemu, with Linux's TCP at the other end of its port: pings, every file, the rate of the ticks, a flood,
+# and two clients at once at 115,200 bits a second (check.py). A board of which this qemu has no model is only built.
+#
+#     sh boards/test.sh [BOARD ..]       BOARD-ether is that board on Ethernet
+#
+# Needs what the Makefile needs, qemu-system-arm or qemu-system-misc (riscv32), `ip` and /dev/net/tun. QEMU names another qemu, and WORDS has further
+# words for make.
+case "$1" in -h|--help) sed -n '2,8s/^# \{0,1\}//p' "$0"; exit 0;; esac
+here=$(cd "$(dirname "$0")" && pwd)
+wrong=0
+value() { sed -n "s/^$1=//p" "$here/$board/board.mk"; }
+fail() { echo "FAILED: $1"; wrong=1; }
+# shellcheck disable=SC2086
+make_it() { make -s -C "$here" BOARD="$board" $loop $WORDS "$@" 2>&1; }
+
+# try WORDS OF CHECK.PY [WORDS OF MAKE]: sets `found` to what was good.
+try() {
+    check=$1
+    shift
+    told=$(make_it run "$@" TRY="python3 $here/check.py $check") || { fail "$name: $(echo "$told" | grep -v '^ok' | tail -3)"; return 1; }
+    found="$found$(echo "$told" | sed -n 's/^ok */; /p' | tr -d '\n')"
+}
+
+# shellcheck disable=SC2046
+[ $# -gt 0 ] || set -- $(cd "$here" && for it in */board.mk */ether.c; do echo "$it"; done | sed 's|/board.mk||; s|/ether.c|-ether|' | sort)
+for name; do
+    case "$name" in *-ether) board=${name%-ether} loop=LOOP=ether;; *) board=$name loop='';; esac
+    [ -f "$here/$board/board.mk" ] || { fail "no board $board"; continue; }
+    machine=$(value MACHINE)
+    qemu=${QEMU:-qemu-system-$(value PROCESSOR)}
+    if [ -z "$machine" ] || ! "$qemu" -M help 2>/dev/null | grep -q "^${machine%%,*} "; then
+        if told=$(make_it); then echo "built: $name: $qemu has no model of it"; else fail "$name is not built: $told"; fi
+        continue
+    fi
+    found=''
+    try "" && { [ -n "$loop" ] || try --two BAUD=115200; } && echo "passed: $name: ${found#; }"
+done
+exit $wrong

@@ -1,0 +1,45 @@
+"""Prepares a kept module for the translation: the kit's clang optimises it for size."""
+import re
+import subprocess
+
+from .forms import ANY, ATTRIBUTES, META, NAME, STRUCT, VALUE, parts_of, require
+
+CLANG = ("--target=x86_64-unknown-linux-gnu", "-Os", "-mllvm", "-force-attribute=optsize", "-fno-vectorize", "-fno-slp-vectorize",
+         "-S", "-emit-llvm", "-x", "ir", "-", "-o", "-")
+LOAD = re.compile(rf"  ({NAME}) = load ptr, ptr (\S+), align (\d+)(.*)")
+STORE = re.compile(r"  store ptr (\S+), ptr (\S+), align (\d+)")
+
+
+def without_addresses(text):
+    """The module with no address in memory: each is stored and loaded as a number. So clang takes no eight bytes of data for an address, which
+    has four on a processor of 32 bits."""
+    out = []
+    for line in text.split("\n"):
+        if found := LOAD.fullmatch(line):
+            name = f"%in.{len(out)}"
+            out += [f"  {name} = load i64, ptr {found[2]}, align {found[3]}", f"  {found[1]} = inttoptr i64 {name} to ptr"]
+        elif found := STORE.fullmatch(line):
+            name = f"%out.{len(out)}"
+            out += [f"  {name} = ptrtoint ptr {found[1]} to i64", f"  store i64 {name}, ptr {found[2]}, align {found[3]}"]
+        else:
+            out.append(line)
+    return "\n".join(out)
+
+
+def with_switches(text):
+    """A switch stays a switch: no table of addresses is made of it, which would be relocated."""
+    return re.sub(r"^attributes #\d+ = \{ ", r'\g<0>"no-jump-tables"="true" ', text, flags=re.M)
+
+
+def without_calls(text, calls):
+    """The module without these exports."""
+    names = "|".join(calls)
+    text, count = re.subn(rf"^define ([^@]*)@({names})\(", r"define internal \1@\2(", text, flags=re.M)
+    require(count == len(calls), f"the exports {' '.join(calls)}")
+    return text
+
+
+def optimised(text, clang):
+    run = subprocess.run([clang, *CLANG], input=text, capture_output=True, text=True, check=False)
+    require(run.returncode == 0, f"clang: {run.stderr.strip()}")
+    return run.stdout
