@@ -30,7 +30,12 @@ fn a_reset_has_the_number_that_the_segment_named(rt: HostRuntime) {
     assert!(rt; guard.protect(Key::new(&SECRET)));
     assert!(rt; !guard.protect(Key::new(&SECRET)));
     assert!(rt; guarded_input(&mut guard, &mut node, &ARRIVES) == Some(40));
-    assert!(rt; node.packet()[24..28] == [161, 178, 195, 212]);
+    let sent = node.packet();
+    if sent.len() < 28 {
+        assert!(rt; false);
+        return;
+    }
+    assert!(rt; sent[24..28] == [161, 178, 195, 212]);
     assert!(rt; guarded_input(&mut guard, &mut node, &FOREIGN) == None);
     assert!(rt; guard.counts.dropped == 1);
     assert!(rt; guarded_periodic(&guard, &mut node, 0) == None);
