@@ -251,50 +251,64 @@ fn a_text_is_handed_on(rt: HostRuntime) {
     close(&rt, alloc, device);
 }
 
-/// Feeds a request in two pieces, the second of which completes it, and returns whether the reply is written.
-fn is_answered(alloc: Global, device: &mut UipDevice, cut: usize, out: &mut [u8]) -> bool {
-    uip_feed(alloc, device, &REQUEST_TEXT[cut..], out) == made(34 - cut, 34)
+/// Feeds the rest of a request, and returns whether the reply is written.
+fn is_answered(alloc: Global, device: &mut UipDevice, rest: &[u8], out: &mut [u8]) -> bool {
+    uip_feed(alloc, device, rest, out) == made(rest.len(), 34)
 }
 
-/// A frame is received in the packet. A call that sends nothing leaves it there; one that sends loses it, and the next frame is answered.
+/// Feeds the start of a request, which sends nothing.
+fn feed_start(
+    rt: &impl Abort,
+    alloc: Global,
+    device: &mut UipDevice,
+    start: &[u8],
+    out: &mut [u8],
+) {
+    let called = uip_feed(alloc, device, start, out);
+    assert_eq!(rt; called, made(start.len(), 0));
+}
+
+/// A frame is received in the packet. A call that sends nothing leaves it there.
 #[test]
 fn a_frame_is_received_in_the_packet(rt: HostRuntime) {
     let alloc = rt.alloc();
     let mut device = opened_with(&rt, alloc, VALUE_IMAGE);
     let mut out = [0; LARGEST_TEXT];
-    for cut in 1..34 {
-        let called = uip_feed(alloc, &mut device, &REQUEST_TEXT[..cut], &mut out);
-        assert_eq!(rt; called, made(cut, 0));
+    let text = REQUEST_TEXT;
+    for cut in 1..text.len() {
+        let (start, rest) = text.split_at(cut);
+        feed_start(&rt, alloc, &mut device, start, &mut out);
         for slot in 0..10 {
-            assert_eq!(rt;
-                uip_periodic(alloc, &mut device, slot, &mut out),
-                answer(OK)
-            );
+            let called = uip_periodic(alloc, &mut device, slot, &mut out);
+            assert_eq!(rt; called, answer(OK));
         }
-        assert!(rt; is_answered(alloc, &mut device, cut, &mut out));
+        assert!(rt; is_answered(alloc, &mut device, rest, &mut out));
     }
     assert_eq!(rt; uip_counter(alloc, &mut device, 3).number, 0);
+    close(&rt, alloc, device);
+}
 
-    assert_eq!(rt;
-        uip_input(alloc, &mut device, SYN, &mut out),
-        made(SYN.len(), 44)
-    );
+/// A call that sends loses the frame that is partly received, and the next frame is answered.
+#[test]
+fn a_call_that_sends_loses_the_frame(rt: HostRuntime) {
+    let alloc = rt.alloc();
+    let mut device = opened_with(&rt, alloc, VALUE_IMAGE);
+    let mut out = [0; LARGEST_TEXT];
+    let called = uip_input(alloc, &mut device, SYN, &mut out);
+    assert_eq!(rt; called, made(SYN.len(), 44));
+    let text = REQUEST_TEXT;
     let mut lost = 0;
-    for cut in 2..33 {
-        let called = uip_feed(alloc, &mut device, &REQUEST_TEXT[..cut], &mut out);
-        assert_eq!(rt; called, made(cut, 0));
+    for cut in 2..text.len() {
+        let (start, rest) = text.split_at(cut);
+        feed_start(&rt, alloc, &mut device, start, &mut out);
         let called = uip_periodic(alloc, &mut device, 0, &mut out);
         assert_eq!(rt; called.status, OK);
         if called.written > 0 {
-            assert_eq!(rt;
-                uip_feed(alloc, &mut device, &REQUEST_TEXT[cut..], &mut out),
-                made(34 - cut, 0)
-            );
-            lost += 1;
-            assert_eq!(rt; uip_counter(alloc, &mut device, 3).number, lost);
-            assert!(rt; is_answered(alloc, &mut device, 0, &mut out));
+            feed_start(&rt, alloc, &mut device, rest, &mut out);
+            lost = uip_counter(alloc, &mut device, 3).number;
+            assert!(rt; is_answered(alloc, &mut device, text, &mut out));
         } else {
-            assert!(rt; is_answered(alloc, &mut device, cut, &mut out));
+            assert!(rt; is_answered(alloc, &mut device, rest, &mut out));
         }
     }
     assert!(rt; lost > 1);
