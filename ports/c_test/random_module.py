@@ -155,9 +155,9 @@ class Maker:
 
     def pointer(self):
         """An address goes through memory."""
-        keep, out = self.r.choice(["%keep", "%area"]), self.new()
-        self.emit(f"store ptr {self.r.choice(['%p', '%q', '%area'])}, ptr {keep}, align 8")
-        self.emit(f"{out} = load ptr, ptr {keep}, align 8")
+        out = self.new()
+        self.emit(f"store ptr {self.r.choice(['%p', '%q', '%area'])}, ptr %keep, align 8")
+        self.emit(f"{out} = load ptr, ptr %keep, align 8")
         self.made(1, f"icmp eq ptr {out}, %area")
         self.made(8, f"load i8, ptr {out}, align 1")
 
