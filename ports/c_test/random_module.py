@@ -89,7 +89,7 @@ class Maker:
         r, base, out = self.r, self.r.choice(["%p", "%area"]), self.new()
         if r.random() < 0.5:
             align = r.choice([1, 2, 4, 8])
-            at = r.randrange(0, (120 - size) // align) * align
+            at = r.randrange(0, max(1, (r.choice([16, 16, 120]) - size) // align)) * align    # often where others are too
             self.emit(f"{out} = getelementptr {r.choice(['inbounds nuw ', ''])}i8, ptr {base}, i64 {at}")
             if r.random() < 0.3:
                 more, step = self.new(), -align if at >= align and r.random() < 0.5 else align
