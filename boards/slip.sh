@@ -75,7 +75,7 @@ END
 boot() {
     line=$out/line.$1
     rm -f "$line"
-    timeout "${LIMIT:-300}" $x86 -accel kvm -accel tcg -m 256 -display none -no-reboot -nic none -kernel "$(ls "$out"/kernel/boot/vmlinuz-*)" -initrd "$out/initrd.gz" \
+    timeout "${LIMIT:-300}" $x86 -accel tcg -m 256 -display none -no-reboot -nic none -kernel "$(ls "$out"/kernel/boot/vmlinuz-*)" -initrd "$out/initrd.gz" \
         -append "console=ttyS0 panic=-1 quiet mtu=$1" -serial "file:$out/told.$1" -chardev "socket,id=line,path=$line,server=on,wait=off" \
         -serial chardev:line -monitor none &
     pc=$!
