@@ -3,7 +3,7 @@
 
     python3 examples/browse.py .. -- python3 boards/check.py [FOLDER] [--two]
 
-FOLDER is the site (examples/site). The flood is 60 echo requests of 1,400 bytes at once: more than any ring holds, in both directions. With
+FOLDER is the site (examples/site). The flood is 30 echo requests of 1,400 bytes at once: more than any ring holds, in both directions. With
 --two it tries two clients at once instead, on a line with a rate (browse.py --baud): the node must have counted no damaged datagram. The
 ticks and the count are read from /stats.shtml. The status is 0 if all is as it should be, else 1.
 """
@@ -22,7 +22,7 @@ sys.path.insert(0, EXAMPLES)
 import fetch  # noqa: E402
 
 NODE = fetch.SERVER[0]
-FLOOD, FLOOD_LEN, FIRST_OF_FLOOD = 60, 1400, 1000
+FLOOD, FLOOD_LEN, FIRST_OF_FLOOD = 30, 1400, 1000
 ECHO_REPLY, ECHO = 0, 8
 DAMAGED = (3, 4, 6, 8, 14, 17, 18)    # the counters of uip.h that grow if a byte of a datagram was lost
 TICKS_FOR = 5                         # seconds
@@ -40,8 +40,8 @@ def echo(number, length):
     return head[:2] + struct.pack(">H", checksum(head + data)) + head[4:] + data
 
 
-def is_answered(link, number, length, patience=120):
-    """Whether an echo request is answered within these seconds."""
+def is_answered(link, number, length, patience=40):
+    """Whether an echo request is answered, before no reply of any kind has come for these seconds."""
     link.sendto(echo(number, length), (NODE, 0))
     end = time.monotonic() + patience
     while (left := end - time.monotonic()) > 0:
@@ -50,6 +50,7 @@ def is_answered(link, number, length, patience=120):
             packet = link.recv(2048)
         except TimeoutError:
             break
+        end = time.monotonic() + patience
         if packet[20] == ECHO_REPLY and struct.unpack_from(">H", packet, 26)[0] == number:
             return True
     return False

@@ -57,10 +57,10 @@ ping -c 5 -W 20 10.0.0.1 | grep 'packet loss'
 ping -c 2 -W 20 -s $((mtu - 28)) 10.0.0.1 | grep 'packet loss'
 for name in /site/*; do
     file=${name#/site}
-    wget -q -T 60 -O /tmp/file "http://10.0.0.1$file" || { echo "not fetched: $file"; bad=1; continue; }
+    printf 'GET %s HTTP/1.0\r\n\r\n' "$file" | nc -w 20 10.0.0.1 80 >/tmp/reply
     case "$name" in
-    *.shtml) [ -s /tmp/file ] || { echo "empty: $file"; bad=1; };;
-    *) cmp /tmp/file "$name" || bad=1;;
+    *.shtml) grep -q '</html>' /tmp/reply || { echo "not whole: $file"; bad=1; };;
+    *) tail -c "$(wc -c <"$name")" /tmp/reply | cmp - "$name" && grep -q '200 OK' /tmp/reply || { echo "not fetched: $file"; bad=1; };;
     esac
 done
 echo "files: $(ls /site | wc -l), errors of the interface: $(cat /sys/class/net/sl0/statistics/rx_errors)"
