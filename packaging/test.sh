@@ -70,7 +70,7 @@ END
 }
 by_cmake() {
     major=${version%%.*}
-    for wanted in "$version" "$major" "${version%.*}" "$version EXACT"; do finds "$wanted" || { echo "$wanted is refused"; return 1; }; done
+    for asked in "$version" "$major" "${version%.*}" "$version EXACT"; do finds "$asked" || { echo "$asked is refused"; return 1; }; done
     cmake --build "$room/cmake/out" && answers "$room/cmake/out/serve" serve - 10.0.0.1 || return 1
     for other in $((major + 1)) "$major.99" $((major - 1)).0; do ! finds "$other" || { echo "$other is found"; return 1; }; done
 }
@@ -79,7 +79,9 @@ calls() {
     for pair in uip_c:uip.h uip_app_c:uip_app.h uip_both_c:uip_both.h; do
         nm "$room/root/usr/lib/lib${pair%:*}.a" | sed -n 's/.* T \(uip_.*\)/\1/p' | sort >"$room/has"
         echo "${pair%:*}: $(wc -l <"$room/has") calls"
-        for call in $(cat "$room/has"); do grep -q "\b$call(" "$room/root/usr/include/${pair#*:}" || { echo "$call is not in ${pair#*:}"; return 1; }; done
+        for call in $(cat "$room/has"); do
+            grep -q "\b$call(" "$room/root/usr/include/${pair#*:}" "$room/root/usr/include/uip.h" || { echo "$call is not in ${pair#*:}"; return 1; }
+        done
     done
     nm "$room/root/usr/lib/libuip_app_c.a" | grep -q ' T uip_app_open' && nm "$room/root/usr/lib/libuip_both_c.a" | grep -q ' T uip_both_open'
 }
