@@ -1,11 +1,11 @@
-// An entry for libFuzzer, over the C file: a device on a serial line, on Ethernet or with datagrams, in turn by the first byte of the input.
+// An entry for libFuzzer, over the C file: a device on a serial line, with datagrams or on Ethernet, by the first byte of the input.
 //
 //     clang -g -O1 -fsanitize=fuzzer,address,undefined fuzz/libfuzzer.c dist/uip.c -o out/libfuzzer
 //     out/libfuzzer -max_len=2048 -len_control=10 out/corpus
 //
-// The rest of the input is a row of pieces: two bytes with a length, and that number of bytes. A piece without bytes is a tick. Else, if the
-// length is odd, its bytes are fed or received as they are; if it is even, they are a datagram for this node, whose version, lengths and
-// checksums are set right first, so that most of them reach TCP.
+// The rest of the input is a row of pieces: two bytes with a length, and that number of bytes. A piece without bytes is a tick. Else, if
+// the length is odd, its bytes are fed or received as they are; if it is even, they are a datagram for this node, whose version, lengths
+// and checksums are set right first, so that most of them reach TCP.
 #include <stdint.h>
 #include <stdlib.h>
 #include <string.h>

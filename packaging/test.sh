@@ -48,7 +48,8 @@ installs() { make install DESTDIR="$room/root" PREFIX=/usr CC="$cc"; }
 example() { sed 's|"../dist/|"|' examples/serve.c >"$room/serve.c"; }
 by_pkg_config() {
     export PKG_CONFIG_PATH="$room/root/usr/lib/pkgconfig"
-    [ "$(pkg-config --modversion uip_c)" = "$version" ] && pkg-config --exists "uip_c >= $version" && ! pkg-config --exists "uip_c > $version" || return 1
+    [ "$(pkg-config --modversion uip_c)" = "$version" ] && pkg-config --exists "uip_c >= $version" || return 1
+    ! pkg-config --exists "uip_c > $version" || return 1
     example
     # shellcheck disable=SC2046
     "$cc" -O2 "$room/serve.c" $(pkg-config --cflags --libs uip_c) -o "$room/by_pkg_config" && answers "$room/by_pkg_config" serve - 10.0.0.1
