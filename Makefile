@@ -10,7 +10,7 @@ SERVE     = out/uip
 ARCHIVES  = out/libuip_c.a out/libuip_app_c.a out/libuip_both_c.a
 PROGRAM   = crates/uipd/out/uipd
 LIBRARIES = $(foreach name,uip_c uip_app_c uip_both_c,crates/$(name)/out/lib$(name).a)
-STACK     = dist/uip.c dist/uip.h dist/heap.c
+STACK     = dist/uip.c dist/uip.h
 
 help:
 	@echo "Without the Rattle kit, with a C compiler and Python 3:"
@@ -20,7 +20,7 @@ help:
 	@echo "  make install [PREFIX=/usr/local] [DESTDIR=ROOT]   the C library with its headers and manual pages"
 	@echo "  make deb, arduino, platformio, reference          packages of it, and its reference as HTML, into out/"
 	@echo "With the kit (its command rt on the path):"
-	@echo "  make test                            the whole gate, from nothing some 80 minutes on four processors"
+	@echo "  make test                            the whole gate, from nothing one and a half to two hours on four processors"
 	@echo "  make build                           proves and builds uipd and the libraries; an hour"
 	@echo "  make release                         the archive of a release"
 
@@ -68,8 +68,8 @@ arduino platformio reference:
 # The last line is the verdict.
 test:
 	@if command -v rt >/dev/null; then \
-		echo "The gate: proves 54 crates, tries each edit that must be refused, runs all tests, and then the tests of dev/tests.sh."; \
-		echo "From nothing it takes some 80 minutes on four processors; later only what changed is proved again."; \
+		echo "The gate: proves each crate, tries each edit that must be refused, runs all tests, and then what needs no proof."; \
+		echo "From nothing it takes one and a half to two hours on four processors; later only what changed is proved again."; \
 		sh .ci/run; status=$$?; \
 		if [ $$status = 0 ]; then echo "make test: the gate passed"; else echo "make test: the gate FAILED with status $$status"; fi; exit $$status; \
 	else \

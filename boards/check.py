@@ -3,7 +3,7 @@
 
     python3 examples/browse.py .. -- python3 boards/check.py [FOLDER] [--two]
 
-FOLDER is the site (examples/site). The flood is 40 echo requests of 1,400 bytes at once: more than any ring holds, in both directions. With
+FOLDER is the site (examples/site). The flood is 30 echo requests of 1,400 bytes at once: more than any ring holds, in both directions. With
 --two it tries two clients at once instead, on a line with a rate (browse.py --baud): the node must have counted no damaged datagram. The
 ticks and the count are read from /stats.shtml. The status is 0 if all is as it should be, else 1.
 """
@@ -22,7 +22,7 @@ sys.path.insert(0, EXAMPLES)
 import fetch  # noqa: E402
 
 NODE = fetch.SERVER[0]
-FLOOD, FLOOD_LEN = 40, 1400
+FLOOD, FLOOD_LEN, FIRST_OF_FLOOD = 30, 1400, 1000
 ECHO_REPLY, ECHO = 0, 8
 DAMAGED = (3, 4, 6, 8, 14, 17, 18)    # the counters of uip.h that grow if a byte of a datagram was lost
 TICKS_FOR = 5                         # seconds
@@ -40,25 +40,26 @@ def echo(number, length):
     return head[:2] + struct.pack(">H", checksum(head + data)) + head[4:] + data
 
 
-def replies(link, seconds, most):
-    """How many echo replies arrive, until there are so many or none has come for these seconds."""
-    count = 0
-    link.settimeout(seconds)
-    try:
-        while count < most:
-            count += link.recv(2048)[20] == ECHO_REPLY
-    except TimeoutError:
-        pass
-    return count
+def is_answered(link, number, length, patience=40):
+    """Whether an echo request is answered, before no reply of any kind has come for these seconds."""
+    link.sendto(echo(number, length), (NODE, 0))
+    end = time.monotonic() + patience
+    while (left := end - time.monotonic()) > 0:
+        link.settimeout(left)
+        try:
+            packet = link.recv(2048)
+        except TimeoutError:
+            break
+        end = time.monotonic() + patience
+        if packet[20] == ECHO_REPLY and struct.unpack_from(">H", packet, 26)[0] == number:
+            return True
+    return False
 
 
 def pings(link, count=10):
     """How many of some echo requests, one after another, are answered. It ends at the first that is not."""
     good = 0
-    while good < count:
-        link.sendto(echo(good, 56 + 120 * good), (NODE, 0))
-        if not replies(link, 20, 1):
-            break
+    while good < count and is_answered(link, good, 56 + 120 * good):
         good += 1
     return good
 
@@ -102,11 +103,10 @@ def try_alone(trial, folder, link):
         trial.see(seconds < ticks <= 2 * seconds + 3, f"{ticks} ticks in {seconds:.1f} seconds")    # fewer if this machine is busy
     for number in range(FLOOD):
         with contextlib.suppress(BlockingIOError):    # what this machine has no room for is not sent
-            link.sendto(echo(number, FLOOD_LEN), socket.MSG_DONTWAIT, (NODE, 0))
-    flooded = replies(link, 5, FLOOD)
+            link.sendto(echo(FIRST_OF_FLOOD + number, FLOOD_LEN), socket.MSG_DONTWAIT, (NODE, 0))
     answered = pings(link)
     good, count = files(folder) if answered == 10 else (0, "all")
-    trial.see(answered == 10 and good == count, f"after a flood of {FLOOD} pings ({flooded} replies) {answered} of 10 pings, {good} of {count} pages")
+    trial.see(answered == 10 and good == count, f"after a flood of {FLOOD} pings {answered} of 10 pings, {good} of {count} pages")
 
 
 def try_two(trial, folder):

@@ -1,12 +1,13 @@
 #!/bin/sh
 # Runs the firmware of each board under qemu, with Linux's TCP at the other end of its port: pings, every file, the rate of the ticks, a flood,
-# and two clients at once at 115,200 bits a second (check.py). A board of which this qemu has no model is only built.
+# and two clients at once at 115,200 bits a second (check.py). A board of which this qemu has no model is only built. Without words it also tries
+# the demo of the micro:bit, and that the linker refuses a firmware that does not fit.
 #
 #     sh boards/test.sh [BOARD ..]       BOARD-ether is that board on Ethernet
 #
 # Needs what the Makefile needs, qemu-system-arm or qemu-system-misc (riscv32), `ip` and /dev/net/tun. QEMU names another qemu, and WORDS has further
 # words for make.
-case "$1" in -h|--help) sed -n '2,8s/^# \{0,1\}//p' "$0"; exit 0;; esac
+case "$1" in -h|--help) sed -n '2,9s/^# \{0,1\}//p' "$0"; exit 0;; esac
 here=$(cd "$(dirname "$0")" && pwd)
 wrong=0
 value() { sed -n "s/^$1=//p" "$here/$board/board.mk"; }
@@ -22,6 +23,8 @@ try() {
     found="$found$(echo "$told" | sed -n 's/^ok */; /p' | tr -d '\n')"
 }
 
+all=''
+[ $# -gt 0 ] || all=1
 # shellcheck disable=SC2046
 [ $# -gt 0 ] || set -- $(cd "$here" && for it in */board.mk */ether.c; do echo "$it"; done | sed 's|/board.mk||; s|/ether.c|-ether|' | sort)
 for name; do
@@ -36,4 +39,21 @@ for name; do
     found=''
     try "" && { [ -n "$loop" ] || try --two BAUD=115200; } && echo "passed: $name: ${found#; }"
 done
+# The linker refuses what a small part has no room for.
+small() {
+    if make -s -C "$here" BOARD=stm32vldiscovery RING=2048 "out=$here/out/small" >/dev/null 2>&1; then fail "the linker took more memory than there is"
+    else echo "passed: the linker refuses a ring of 2,048 bytes in 8 kB"; fi
+}
+
+# The demo of the micro:bit: its buttons are pressed, its page and its matrix are looked at.
+demo() {
+    sockets=$(mktemp -d)
+    told=$(make -s -C "$here" BOARD=microbit DEMO=1 run TRY="python3 $here/microbit/try_demo.py $sockets/qtest $sockets/monitor" \
+        MODEL="-qtest unix:$sockets/qtest,server=on,wait=off -qtest-log /dev/null -monitor unix:$sockets/monitor,server=on,wait=off" 2>&1)
+    result=$?
+    rm -r "$sockets"
+    if [ $result = 0 ]; then echo "passed: the demo of the micro:bit"; else fail "the demo of the micro:bit: $(echo "$told" | grep -v '^ok' | tail -3)"; fi
+}
+
+[ -z "$all" ] || { small; demo; }
 exit $wrong

@@ -4,8 +4,9 @@
 #
 #     sh dev/tests.sh [WORD ..]      all, or those whose name has one of the words
 #
+# PATIENCE=4 waits four times as long for each, for a busy machine.
 # A line reports each: passed, FAILED with the end of its output, or skipped with what this machine lacks. The status is 0 if none failed.
-case "$1" in -h|--help) sed -n '2,8s/^# \{0,1\}//p' "$0"; exit 0;; esac
+case "$1" in -h|--help) sed -n '2,9s/^# \{0,1\}//p' "$0"; exit 0;; esac
 cd "$(dirname "$0")/.." || exit 1
 log=$(mktemp) || exit 1
 trap 'rm -f "$log"' EXIT
@@ -29,7 +30,7 @@ is_asked() {
 }
 # try SECONDS WHAT PROGRAMS COMMAND ..: runs a test that needs these programs, for at most these seconds.
 try() {
-    limit=$1 what=$2 needs=$3; shift 3
+    limit=$(($1 * ${PATIENCE:-1})) what=$2 needs=$3; shift 3
     is_asked "$what" || return 0
     # shellcheck disable=SC2086
     has "$what" $needs || return 0
@@ -57,6 +58,7 @@ try 150 "examples/browse.py with a small node" python3 python3 examples/test_bro
 try 300 "the page: its client, with the device inside" node \
     env INSIDE=1 node --test --test-force-exit --test-concurrency=1 web/test/wire.test.mjs web/test/sequence.test.mjs web/test/parts.test.mjs \
     web/test/inside.test.mjs
+try 200 "docs/UIPD.md: each command, if uipd is built" python3 python3 examples/test_uipd.py
 try 120 "the documents against the sources" python3 python3 dev.py docs
 try 60 "dev.py finds what is planted" python3 python3 dev/test.py
 echo "tests without the kit: $passed passed, $failed failed, $skipped skipped in $(($(date +%s) - begun)) s"

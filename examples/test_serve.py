@@ -112,13 +112,13 @@ def recorded(program, room):
         return
     for line, site, more in lines + own:
         if has_uipd:
-            wanted = written(words(UIPD, *more, site=site), line)
+            expected = written(words(UIPD, *more, site=site), line)
         else:
-            to = os.path.join(room, "wanted")
+            to = os.path.join(room, "expected")
             subprocess.run(["node", "--input-type=module", "-e", BY_WASM, site, line, to, *more[1:]], cwd=TOP, check=True)
             with open(to, "rb") as file:
-                wanted = file.read()
-        see(written(words(program, *more, site=site), line) == wanted, f"other bytes for {os.path.basename(line)} {' '.join(more)}")
+                expected = file.read()
+        see(written(words(program, *more, site=site), line) == expected, f"other bytes for {os.path.basename(line)} {' '.join(more)}")
     print(f"recorded lines: compared with {'uipd' if has_uipd else 'web/node.wasm'}")
 
 

@@ -33,9 +33,9 @@ def commands(text):
     return found
 
 
-def fits(seen, wanted):
-    """Whether lines are those that are wanted; `..` is any number of lines."""
-    pattern = "".join(r"(?:.*\n)*" if line == ".." else re.escape(line) + r"\n" for line in wanted)
+def fits(seen, expected):
+    """Whether lines are the expected ones; `..` is any number of lines."""
+    pattern = "".join(r"(?:.*\n)*" if line == ".." else re.escape(line) + r"\n" for line in expected)
     return re.fullmatch(pattern, "".join(line.rstrip() + "\n" for line in seen)) is not None
 
 
@@ -50,14 +50,14 @@ def main():
     with tempfile.TemporaryDirectory() as room:
         os.symlink(os.path.abspath(PROGRAM), os.path.join(room, "uipd"))
         environment = {**os.environ, "PATH": f"{room}:{os.environ['PATH']}"}
-        for command, wanted in found:
+        for command, expected in found:
             if "browse.py" in command and not has_tun:
                 skipped += 1
                 continue
             if "browse.py" in command:
                 command = command.replace("browse.py", f"browse.py {PROGRAM}")
             done = subprocess.run(["sh", "-c", command], cwd=TOP, env=environment, capture_output=True, text=True, timeout=120, check=False)
-            if done.returncode or not fits(done.stdout.splitlines(), wanted):
+            if done.returncode or not fits(done.stdout.splitlines(), expected):
                 wrong += 1
                 print(f"WRONG: {command}\n{done.stdout}{done.stderr}(status {done.returncode})")
     print(f"docs/UIPD.md: {len(found) - wrong - skipped} commands print what it has, {wrong} do not, {skipped} skipped")

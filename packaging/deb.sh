@@ -33,8 +33,13 @@ find "$root/usr/share/man" -type f -exec gzip -9 -n {} +
     printf '\nLicense: Apache-2.0\n On Debian systems the text is in /usr/share/common-licenses/Apache-2.0.\n\nLicense: Expat\n'
     sed '1,/^Copyright/d; s/^$/./; s/^/ /' LICENSE-MIT | sed '/./,$!d'
 } >"$doc/copyright"
-printf '%s (%s) unstable; urgency=medium\n\n  * The version %s: see CHANGELOG.md of the sources.\n\n -- The Lowunbisa authors <authors@lowunbisa.invalid>  %s\n' \
-    "$name" "$version" "$version" "$(LC_ALL=C date -u -R -d "@$SOURCE_DATE_EPOCH")" | gzip -9 -n >"$doc/changelog.gz"
+gzip -9 -n >"$doc/changelog.gz" <<END
+$name ($version) unstable; urgency=medium
+
+  * The version $version: see CHANGELOG.md of the sources.
+
+ -- The Lowunbisa authors <authors@lowunbisa.invalid>  $(LC_ALL=C date -u -R -d "@$SOURCE_DATE_EPOCH")
+END
 cat >"$root/DEBIAN/control" <<END
 Package: $name
 Version: $version

@@ -17,19 +17,22 @@ put() {
 filled() {
     install -d "$to/$2" || fail "no folder $to/$2"
     # shellcheck disable=SC2016
-    sed "s|@VERSION@|$version|; s|@MAJOR@|${version%%.*}|"'; s|@LIBDIR@|${prefix}/lib|' "packaging/$1" >"$to/$2/$3" || fail "not written: $3"
+    sed "s|@VERSION@|$version|; s|@MAJOR@|${version%%.*}|"'; s|@LIBDIR@|${prefix}/lib|' "packaging/$1" >"$to/$2/$3" ||
+        fail "not written: $3"
     chmod 644 "$to/$2/$3"
 }
 
 put 644 lib out/libuip_c.a out/libuip_app_c.a out/libuip_both_c.a
 put 644 include dist/uip.h dist/uip_app.h dist/uip_both.h
-put 644 share/lowunbisa dist/uip.c dist/heap.c support/step.c support/step.h support/ticks.h support/text.h support/token.h support/outcome.h
+put 644 share/lowunbisa dist/uip.c dist/heap.c support/step.c support/step.h support/ticks.h support/text.h support/token.h \
+    support/outcome.h
 filled uip_c.pc.in lib/pkgconfig uip_c.pc
 put 644 lib/cmake/uip_c packaging/uip_c-config.cmake
 filled uip_c-config-version.cmake.in lib/cmake/uip_c uip_c-config-version.cmake
 install -d "$to/bin" && install -m 755 tools/pack.py "$to/bin/uip-pack" || fail "not installed: uip-pack"
 filled uip-pack.1.in share/man/man1 uip-pack.1
-install -d "$to/share/man/man3" && python3 packaging/header.py man "$to/share/man/man3" "$version" include/uip.h >/dev/null || fail "no manual pages"
+install -d "$to/share/man/man3" &&
+    python3 packaging/header.py man "$to/share/man/man3" "$version" include/uip.h >/dev/null || fail "no manual pages"
 if [ -x crates/uipd/out/uipd ]; then
     put 755 bin crates/uipd/out/uipd
     put 644 share/man/man1 docs/uipd.1

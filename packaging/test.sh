@@ -48,7 +48,8 @@ installs() { make install DESTDIR="$room/root" PREFIX=/usr CC="$cc"; }
 example() { sed 's|"../dist/|"|' examples/serve.c >"$room/serve.c"; }
 by_pkg_config() {
     export PKG_CONFIG_PATH="$room/root/usr/lib/pkgconfig"
-    [ "$(pkg-config --modversion uip_c)" = "$version" ] && pkg-config --exists "uip_c >= $version" && ! pkg-config --exists "uip_c > $version" || return 1
+    [ "$(pkg-config --modversion uip_c)" = "$version" ] && pkg-config --exists "uip_c >= $version" || return 1
+    ! pkg-config --exists "uip_c > $version" || return 1
     example
     # shellcheck disable=SC2046
     "$cc" -O2 "$room/serve.c" $(pkg-config --cflags --libs uip_c) -o "$room/by_pkg_config" && answers "$room/by_pkg_config" serve - 10.0.0.1
@@ -70,7 +71,7 @@ END
 }
 by_cmake() {
     major=${version%%.*}
-    for wanted in "$version" "$major" "${version%.*}" "$version EXACT"; do finds "$wanted" || { echo "$wanted is refused"; return 1; }; done
+    for asked in "$version" "$major" "${version%.*}" "$version EXACT"; do finds "$asked" || { echo "$asked is refused"; return 1; }; done
     cmake --build "$room/cmake/out" && answers "$room/cmake/out/serve" serve - 10.0.0.1 || return 1
     for other in $((major + 1)) "$major.99" $((major - 1)).0; do ! finds "$other" || { echo "$other is found"; return 1; }; done
 }
@@ -79,7 +80,9 @@ calls() {
     for pair in uip_c:uip.h uip_app_c:uip_app.h uip_both_c:uip_both.h; do
         nm "$room/root/usr/lib/lib${pair%:*}.a" | sed -n 's/.* T \(uip_.*\)/\1/p' | sort >"$room/has"
         echo "${pair%:*}: $(wc -l <"$room/has") calls"
-        for call in $(cat "$room/has"); do grep -q "\b$call(" "$room/root/usr/include/${pair#*:}" || { echo "$call is not in ${pair#*:}"; return 1; }; done
+        for call in $(cat "$room/has"); do
+            grep -q "\b$call(" "$room/root/usr/include/${pair#*:}" "$room/root/usr/include/uip.h" || { echo "$call is not in ${pair#*:}"; return 1; }
+        done
     done
     nm "$room/root/usr/lib/libuip_app_c.a" | grep -q ' T uip_app_open' && nm "$room/root/usr/lib/libuip_both_c.a" | grep -q ' T uip_both_open'
 }
@@ -141,8 +144,8 @@ END
 
 reference() { sh packaging/reference.sh "$room/reference" && grep -q 'uip_set_value' "$room"/reference/html/group__section*.html; }
 fuzzes() {
-    clang -g -O1 -fsanitize=fuzzer,address,undefined fuzz/libfuzzer.c dist/uip.c -o "$room/libfuzzer" || return 1
-    (cd "$room" && ./libfuzzer -max_len=4096 -max_total_time="${FUZZ_SECONDS:-10}" -print_final_stats=1)
+    clang -O1 -fsanitize=fuzzer,address fuzz/libfuzzer.c dist/uip.c -o "$room/libfuzzer" || return 1
+    (cd "$room" && ./libfuzzer -max_len=2048 -len_control=10 -max_total_time="${FUZZ_SECONDS:-10}" -print_final_stats=1)
 }
 # The program of README compiles, and links with the C file.
 readme() {

@@ -52,10 +52,11 @@ compare() {
 warnings() {
     words="-pedantic -Wall -Wextra -Wconversion -Werror -O2 -I$top/dist"
     for set in "" -DUIP_NO_ETHERNET -DUIP_APP -DUIP_BOTH; do
-        for compiler in "gcc -std=c99" "gcc -m32 -std=c99" "clang -std=c99" "g++ -std=c++11 -x c++" "clang++ -std=c++11 -x c++" "tcc -Wall -Werror -I$top/dist"; do
+        for compiler in \
+            "gcc -std=c99" "i686-linux-gnu-gcc -std=c99" "clang -std=c99" "g++ -std=c++11 -x c++" "clang++ -std=c++11 -x c++" \
+            "tcc -Wall -Werror -I$top/dist"; do
             command -v "${compiler%% *}" >/dev/null || continue
             case "$compiler" in tcc*) more=;; *) more=$words;; esac
-            case "$compiler" in *-m32*) echo | gcc -m32 -x c -include stddef.h -c - -o /dev/null 2>/dev/null || continue;; esac
             $compiler $more $set -c "$top/dist/uip.c" -o "$out/warnings.o" || fail "$compiler $set: a warning"
             echo "no warning: $compiler $set"
         done

@@ -8,7 +8,7 @@ const make = (tag, properties = {}, ...children) => {
 // The anchor of a heading, as code hosts make it.
 const anchorOf = text => text.toLowerCase().replace(/[^\w\- ]/g, "").replaceAll(" ", "-");
 
-// Code, a picture, a link, an address, strong words, emphasis, and a sign that stands for itself.
+// Code, a picture, a link, an address, strong words, emphasis, and an escaped sign.
 const INLINE = new RegExp([/`+([^`]+)`+/, /!\[([^\]]*)\]\(([^)]+)\)/, /\[((?:[^[\]]|\[[^\]]*\]|`[^`]*`)*)\]\(([^)\s]+)\)/, /<(https?:[^>]+)>/,
   /\*\*(.+?)\*\*/, /\*([^*]+)\*/, /\\([\\`*_[\]<>|])/].map(it => it.source).join("|"), "s");
 

@@ -328,7 +328,7 @@ class Handler(BaseHTTPRequestHandler):
         path = self.path.split("?")[0]
         if not self.is_ours():
             self.answer(403, "text/plain", b"this machine alone is served\n")
-        elif path == "/line" and self.command == "GET":
+        elif path == "/line":
             self.upgrade()
         elif path == "/folder" or path.startswith("/folder/"):
             self.folder(urllib.parse.unquote(path[len("/folder/"):]))
@@ -374,7 +374,7 @@ class Handler(BaseHTTPRequestHandler):
     def upgrade(self):
         """The handshake (RFC 6455 section 4.2), with our own page alone."""
         key = self.headers.get("Sec-WebSocket-Key")
-        if not self.node or not key or self.headers.get("Origin") != f"http://{self.headers['Host']}":
+        if self.command != "GET" or not self.node or not key or self.headers.get("Origin") != f"http://{self.headers['Host']}":
             return self.answer(403, "text/plain", b"this is for the page of this server\n")
         self.send_response(101)
         accept = base64.b64encode(hashlib.sha1((key + ACCEPT).encode()).digest()).decode()

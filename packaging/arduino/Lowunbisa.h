@@ -15,7 +15,7 @@ public:
     bool begin(Stream &line, const unsigned char *image, size_t len, const unsigned char address[4]);
     // Takes what has arrived, at most one request, and makes the ticks. Call it in loop(), often. It waits only while it sends.
     void poll();
-    // Sets a value that a page shows: `%! value-html 3`. number: 0 to 15; text: up to 32 bytes. false: it is not so, and the old value stays.
+    // Sets a value that a page shows: `%! value-html 3`. number: 0 to 15; text: up to 32 bytes. false: neither, and the old one stays.
     bool set(size_t number, const char *text);
     // Whether a file was requested since the last such call for it. Of up to 8 files.
     bool isRequested(const char *file);

@@ -89,7 +89,7 @@ class Maker:
         r, base, out = self.r, self.r.choice(["%p", "%area"]), self.new()
         if r.random() < 0.5:
             align = r.choice([1, 2, 4, 8])
-            at = r.randrange(0, (120 - size) // align) * align
+            at = r.randrange(0, max(1, (r.choice([16, 16, 120]) - size) // align)) * align    # often where others are too
             self.emit(f"{out} = getelementptr {r.choice(['inbounds nuw ', ''])}i8, ptr {base}, i64 {at}")
             if r.random() < 0.3:
                 more, step = self.new(), -align if at >= align and r.random() < 0.5 else align
@@ -155,9 +155,9 @@ class Maker:
 
     def pointer(self):
         """An address goes through memory."""
-        keep, out = self.r.choice(["%keep", "%area"]), self.new()
-        self.emit(f"store ptr {self.r.choice(['%p', '%q', '%area'])}, ptr {keep}, align 8")
-        self.emit(f"{out} = load ptr, ptr {keep}, align 8")
+        out = self.new()
+        self.emit(f"store ptr {self.r.choice(['%p', '%q', '%area'])}, ptr %keep, align 8")
+        self.emit(f"{out} = load ptr, ptr %keep, align 8")
         self.made(1, f"icmp eq ptr {out}, %area")
         self.made(8, f"load i8, ptr {out}, align 1")
 

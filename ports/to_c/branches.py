@@ -80,11 +80,12 @@ class Branches(Arithmetic):
                 self.line(f"{free[0][0]} = {free[0][2].text};")
                 todo.remove(free[0])
                 continue
-            local, kind, text = todo[0]    # all wait for each other
+            first = next(it for it in todo if it[2].reads)    # all wait for each other
+            local, kind, text = first
             saved = self.local("%saved")
             self.at_top(kind, saved)
             self.line(f"{saved} = {text.text};")
-            todo[0] = (local, kind, Text(saved, True))
+            todo[todo.index(first)] = (local, kind, Text(saved, True))
 
     def jump(self, at, to, follow, loop, leave):
         self.set_phis(at, to)

@@ -179,6 +179,7 @@ class Module:
         for it in parameters:    # clang may pass eight bytes of data as an address: it must not
             require(it["name"] is None or re.fullmatch(r"%(a\d+|\w)", it["name"]), f"a parameter that clang has made: {it[0]}")
         function = Function(found, [it["kind"] for it in parameters], [it["name"] for it in parameters])
+        function.forgets = {it["name"] for it in parameters if " captures(none)" in it[0]}    # what it keeps nowhere
         if found["word"] == "declare":
             self.imports[function.name] = function
             return None

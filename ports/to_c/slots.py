@@ -41,47 +41,103 @@ def plain(slots, function):
 
 
 class Sharing:
-    """Which slots share memory. A slot is in use between its marks, `lifetime.start` and `lifetime.end`; one without marks always is. Two share
-    only if neither begins while the other may be in use."""
+    """Which slots share memory: two do only if at no place both are in use. A slot is in use where it may have been accessed before and may be
+    accessed later; its marks, `lifetime.start` and `lifetime.end`, end both. A slot whose address is kept elsewhere may be accessed at any
+    later place."""
 
-    def __init__(self, slots, shape):
-        self.slots, self.shape = slots, shape
-        marked = {name for block in shape.blocks.values() for it in block.body if is_lifetime(it) for _, name in it.arguments}
-        self.shared = sorted(name for name, slot in slots.items() if name in marked and slot.length >= LEAST_SHARED)
-        self.conflicts = collections.defaultdict(set)
-        self.find_conflicts()
+    def __init__(self, slots, shape, functions):
+        self.slots, self.shape, self.functions = slots, shape, functions
+        self.names = [name for name, slot in slots.items() if slot.length >= LEAST_SHARED]
+        self.bit = {name: 1 << at for at, name in enumerate(self.names)}
+        self.derived, self.kept = dict(self.bit), 0
+        self.derive()
+        self.steps = {label: [self.step(it) for it in block.body] for label, block in shape.blocks.items()}
+        self.masks = self.in_use()
 
-    def find_conflicts(self):
-        at_end, changed = {label: frozenset() for label in self.shape.order}, True
+    def derive(self):
+        """The slots to which each address may belong."""
+        changed = True
         while changed:
             changed = False
             for label in self.shape.order:
-                used = set().union(*(at_end[before] for before in self.shape.before[label]))
-                self.follow(label, used)
-                if used != at_end[label]:
-                    at_end[label] = frozenset(used)
-                    changed = True
+                for it in self.shape.blocks[label].body:
+                    if it.result and it.form in ("offset", "phi", "select", "freeze"):
+                        mask = self.of(it.operands())
+                        if mask & ~self.derived.get(it.result, 0):
+                            self.derived[it.result] = self.derived.get(it.result, 0) | mask
+                            changed = True
 
-    def follow(self, label, used):
-        """Changes what may be in use by the marks of a block."""
-        for it in self.shape.blocks[label].body:
-            if not is_lifetime(it):
-                continue
-            name = it.arguments[-1][1]
-            if it.callee.startswith("@llvm.lifetime.end"):
-                used.discard(name)
-                continue
-            for other in used - {name}:
-                self.conflicts[name].add(other)
-                self.conflicts[other].add(name)
-            used.add(name)
+    def of(self, names):
+        mask = 0
+        for name in names:
+            mask |= self.derived.get(name, 0)
+        return mask
+
+    def step(self, it):
+        """What an instruction does to slots: begins, ends or accesses them."""
+        if is_lifetime(it):
+            mask = self.of([it.arguments[-1][1]])
+            return ("begin" if it.callee.startswith("@llvm.lifetime.start") else "end"), mask
+        if it.form in ("number", "leave", "address") or it.form == "store":
+            self.kept |= self.of([it.value] if it.value else [])
+        elif it.form == "call" and not it.callee.startswith("@llvm."):
+            self.kept |= self.of([value for index, (_, value) in enumerate(it.arguments) if self.keeps(it.callee, index)])
+        elif it.form in ("insert", "compare"):
+            self.kept |= self.of(it.operands()) if it.form == "insert" else 0
+        return "access", self.of(it.operands())
+
+    def keeps(self, callee, index):
+        function = self.functions.get(callee)
+        return function is None or function.names[index] not in function.forgets
+
+    def in_use(self):
+        """The sets of slots that are in use at the same time."""
+        order, after = self.shape.order, {label: block.end.targets() for label, block in self.shape.blocks.items()}
+        before = self.flow(order, self.shape.before, lambda label: self.steps[label], "end", 0)
+        later = self.flow(order[::-1], after, lambda label: self.steps[label][::-1], "begin", self.kept)
+        masks = set()
+        for label in order:
+            had, used = self.joined(before, self.shape.before[label]), []
+            for how, mask in self.steps[label]:
+                had = had & ~mask if how == "end" else had | mask if how == "access" else had
+                used.append(had | mask)
+            will = self.joined(later, after[label]) | self.kept
+            for (how, mask), so_far in zip(self.steps[label][::-1], used[::-1]):
+                masks.add(so_far & (will | mask))
+                will = will & ~mask if how == "begin" else will | mask if how == "access" else will & ~mask
+        return masks
+
+    @staticmethod
+    def joined(masks, labels):
+        joined = 0
+        for label in labels:
+            joined |= masks.get(label, 0)
+        return joined
+
+    def flow(self, order, sources, steps, ends, always):
+        """What holds at the end of each block, in one direction."""
+        out, changed = {}, True
+        while changed:
+            changed = False
+            for label in order:
+                mask = self.joined(out, sources[label]) | always
+                for how, slots in steps(label):
+                    mask = mask | slots if how == "access" else mask & ~slots if how == ends else mask
+                if mask != out.get(label):
+                    out[label], changed = mask, True
+        return out
 
     def groups(self):
         """The groups of slots that share memory, each with its largest slot first."""
+        conflicts = collections.defaultdict(int)
+        for mask in self.masks:
+            for name, bit in self.bit.items():
+                if mask & bit:
+                    conflicts[name] |= mask & ~bit
         groups = []
-        for name in sorted(self.shared, key=lambda it: (-self.slots[it].length, list(self.slots).index(it))):
+        for name in sorted(self.names, key=lambda it: (-self.slots[it].length, self.names.index(it))):
             for group in groups:
-                if not self.conflicts[name] & set(group):
+                if not any(conflicts[name] & self.bit[other] for other in group):
                     group.append(name)
                     break
             else:

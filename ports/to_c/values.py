@@ -25,7 +25,7 @@ class Values:
         self.count_uses()
         self.slots = slots_of(function, self.shape.first)
         self.promoted = plain(self.slots, function)
-        self.shares = {name: group for group in Sharing(self.slots, self.shape).groups() for name in group}
+        self.shares = {name: group for group in Sharing(self.slots, self.shape, facts.module.functions).groups() for name in group}
         for name in function.names:
             self.values[name] = Text(self.local(name), True, is_size=name in self.sized)
         self.phis = {label: [it for it in block.body if it.form == "phi"] for label, block in self.shape.blocks.items()}

@@ -297,7 +297,7 @@ inEach("the state is in the address: faults, seed, device and path; a link opens
 inEach("faults, their reset, the load test and the counts", { hash: SITE_HASH }, async tab => {
   await tab.until(COMPLETE);
   await set(tab, { loss: 20, duplication: 10, reordering: 10, corruption: 10, delay: 20, speed: 20, count: 20, "at-once": 4 });
-  const shown = await tab.run(`return [...document.querySelectorAll("#faults output")].map(it => it.innerText)`);
+  const shown = await tab.run(`return [...document.querySelectorAll("#faults output")].map(it => it.textContent)`);
   assert.deepEqual(shown, ["20 %", "10 %", "10 %", "10 %", "20 ms", "× 20"]);
   assert.deepEqual(await tab.run(`return [...document.querySelectorAll("#faults [type=range]")].map(it => it.getAttribute("aria-valuetext"))`), shown);
   assert.deepEqual(await tab.run(`const { loss, duplication, reordering, corruption, delay } = node.session.faults; return [loss, duplication, reordering, corruption, delay]`), [0.2, 0.1, 0.1, 0.1, 20]);

@@ -1,0 +1,11 @@
+NAME=Stellaris LM3S811 Evaluation Board: Cortex-M3 of 50 MHz, 8 kB of memory
+CORE=cortex-m3
+FLASH_AT=0x00000000
+FLASH_LEN=64K
+RAM_AT=0x20000000
+RAM_LEN=8K
+RING=64
+LOOP=waits
+STACK=2336
+PROCESSOR=arm
+MACHINE=lm3s811evb
