@@ -1,5 +1,5 @@
 -- A cooperating peer of a node has its page, whatever other peers do and the link loses, repeats or reorders: the run.
-use Rattle.node_laws.proofs.Prelude.{All, All-cons, All-head, All-nil, option_map_or, ◌≡◌, ℕ, zero, suc, ◌+◌, ◌<◌, ◌≤◌, ◌==◌, Bool, true, false, not, ◌&&◌, ◌||◌, ◌⊎◌, inl, inr, List, [], ◌∷◌, ◌++◌, length, set, drop, refl, sym, ap, ◌∙◌, subst, arith, Option, Some, None, is_some, slice_get, eqb, ltb, length-append, if◌then◌else◌, eq-eqb, All-tail, wrap, Addr, SYN, PlainSegment, has_syn, has_fin, has_rst, has_ack, AppState, AppSpec, IsPrefixOf, Pages, IsPaged, SynRcvd, Now, Sockets, Connection, closed, is_live, same_sockets, rows_from, row_of, is_plain_syn, occupies_sequence_space, segment_of, bare_ack, fin_of, is_acked, reset_for_no_connection, reset_of, snd_una, syn_ack, text_segment, Outcome, leaves, Step, asked, accepted, first_mss, on_segment, on_tick, Event, Periodic, called_by, AbstractNode, NodeStep, snapshot, initial_node, step, serving, IsEvent, and_true, both_ways, choose, eqb-eq, ltb-zero, only_some, wrap_wrap, append_nothing, get_set_same, is_served, served, free, on_segment_fits, on_tick_fits, node_snapshot, steady_of, AnswersPolled, Asker, Arrives, HasAcknowledged, IsWithoutReset, Moves, asked_moves, segment_moves, tick_moves, ReceivesStale, acknowledges_new, awaits_ack, expected_next, fresh, is_stale, retransmission_limit, retransmissions, sent_at, sent_next, with_fresh, text_received, bare_acks, receives_all, SendsSyn, SendsNext, calls_of, HasItsPage, Exchange, TraceEntry, exchange, exchanges_onto, exchanges_with}
+use Rattle.node_laws.proofs.Prelude.{All, All-cons, All-head, All-nil, option_map_or, ◌≡◌, ℕ, zero, suc, ◌+◌, ◌<◌, ◌≤◌, ◌==◌, Bool, true, false, not, ◌&&◌, ◌||◌, ◌⊎◌, inl, inr, List, [], ◌∷◌, ◌++◌, length, set, drop, refl, sym, ap, ◌∙◌, subst, arith, Option, Some, None, is_some, slice_get, eqb, ltb, length-append, if◌then◌else◌, eq-eqb, All-tail, wrap, Addr, SYN, PlainSegment, has_syn, has_fin, has_rst, has_ack, AppState, AppSpec, IsPrefixOf, Pages, SynRcvd, Now, Sockets, Connection, closed, is_live, same_sockets, rows_from, row_of, is_plain_syn, occupies_sequence_space, segment_of, bare_ack, fin_of, is_acked, reset_for_no_connection, reset_of, snd_una, syn_ack, text_segment, Outcome, leaves, Step, asked, accepted, first_mss, on_segment, on_tick, Event, Periodic, called_by, AbstractNode, NodeStep, snapshot, initial_node, step, serving, IsEvent, and_true, both_ways, choose, eqb-eq, ltb-zero, only_some, wrap_wrap, append_nothing, get_set_same, is_served, served, free, on_segment_fits, on_tick_fits, node_snapshot, Asker, Arrives, HasAcknowledged, IsWithoutReset, Moves, asked_moves, segment_moves, tick_moves, ReceivesStale, acknowledges_new, awaits_ack, expected_next, fresh, in_handshake, is_stale, retransmission_limit, retransmissions, sent_at, sent_next, with_fresh, text_received, bare_acks, receives_all, SendsSyn, SendsNext, calls_of, HasItsPage, Exchange, TraceEntry, exchange, exchanges_onto, exchanges_with}
 use Rattle.node_laws.proofs.GoodNodes.{Good, good_on}
 use Rattle.node_laws.proofs.HonestConnections.{conn_at, Counts, AtSyn, Stage, Snapshots, both_no, stage_quiet, answered, called, stage_serves, stage_stays, runs_out, keeps_in_time, discards, stage_at, syn_out, syn_stays}
 use Rattle.node_laws.proofs.HonestConnections.Stage.{at_syn}
@@ -8,6 +8,7 @@ use Rattle.node_laws.proofs.HonestConnections.Discards.{with_ack, silently}
 use Rattle.node_laws.proofs.HonestSessions.{has_of, nothing_more, has_on}
 use Rattle.node_laws.proofs.Lines.{comes, quiet, met}
 use Rattle.node_laws.proofs.Lines.OfMedium.{passes_by, evicted, unanswered, refused, born, delivers_text, ticks}
+use Rattle.node_laws.proofs.Paging.{Answering, Paging}
 use Rattle.node_laws.proofs.Replying.{answer_no_syn, reset_ends, tick_reset_ends}
 use Rattle.node_laws.proofs.Slots.{Acted, acts}
 use Rattle.node_laws.proofs.Slots.Acts.{is_called, is_met, is_apart, makes_room}
@@ -182,9 +183,9 @@ stays_sent pages a x incarnation h = record {
   unreset = h.unreset;
 }
 
-module _ (m : AppSpec) (pages : Pages) (lawful : IsPaged m pages) (serves_port : ℕ → Bool) (p : Sockets) (a : Asker) (room : 0 < a.mss) (fine : ℕ → AppState → Bool) (left : AppState → ℕ) (texts patience : ℕ) (answering : AnswersPolled m a.request a.mss fine left texts patience) where
+module _ (m : AppSpec) (pages : Pages) (here : AppState → Bool) (serves_port : ℕ → Bool) (p : Sockets) (lawful : Paging m pages p.own_port.0 here) (a : Asker) (room : 0 < a.mss) (fine : ℕ → AppState → Bool) (left : AppState → ℕ) (texts patience : ℕ) (answering : Answering m p.own_port.0 here a.request a.mss fine left texts patience) where
   abbrev At : ℕ → List Exchange → Connection → Type 0
-  At polls incarnation c = Stage m pages lawful p a room fine left texts patience answering polls incarnation c
+  At polls incarnation c = Stage m pages here p lawful a room fine left texts patience answering polls incarnation c
 
   -- the connection with the peer is in a slot, and this number of calls is still allowed
   record Living (n : AbstractNode) (incarnation kept : List Exchange) (rest : List TraceEntry) : Type 0 where
@@ -241,9 +242,9 @@ module _ (m : AppSpec) (pages : Pages) (lawful : IsPaged m pages) (serves_port :
     abbrev After : Exchange → Type 0
     After z = Representing r.node (z ∷ incarnation) rest
 
-    snapshots : (i : ℕ) (c : Connection) (o : Outcome) → slice_get n.connections i ≡ Some c → Rattle.uip_node.proofs.Fits.FitOut o → Snapshots m pages lawful p a room fine left texts patience answering (snapshot n event i) o
+    snapshots : (i : ℕ) (c : Connection) (o : Outcome) → slice_get n.connections i ≡ Some c → Rattle.uip_node.proofs.Fits.FitOut o → Snapshots m pages here p lawful a room fine left texts patience answering (snapshot n event i) o
     snapshots i c o there f = record {
-      is = node_snapshot m (steady_of m pages lawful) n event i good.fit o.connection f.conn;
+      is = node_snapshot m lawful.steady n event i good.fit o.connection f.conn;
       rows = λ z l. rows_some 0 n.connections i c z there l;
       fit = f;
     }
@@ -253,7 +254,7 @@ module _ (m : AppSpec) (pages : Pages) (lawful : IsPaged m pages) (serves_port :
 
     -- a connection that continues has sent no RST
     live_stage : (polls : ℕ) (kept : List Exchange) (c : Connection) → At polls kept c → is_live c.state ≡ true
-    live_stage polls kept c h = (and_true (is_live c.state) (same_sockets c.sockets p) (stage_serves m pages lawful p a room fine left texts patience answering polls kept c h)).0
+    live_stage polls kept c h = (and_true (is_live c.state) (same_sockets c.sockets p) (stage_serves m pages here p lawful a room fine left texts patience answering polls kept c h)).0
 
     one_more : (z : Exchange) → IsWithoutReset z → All IsWithoutReset incarnation → All IsWithoutReset (z ∷ incarnation)
     one_more z h all = All-cons IsWithoutReset z incarnation h all
@@ -271,12 +272,12 @@ module _ (m : AppSpec) (pages : Pages) (lawful : IsPaged m pages) (serves_port :
           let keeps : 0 < v.c.len → (u : PlainSegment) → segment_of m o.connection o.step ≡ Some u → has_rst u.flags ≡ false =
           λ some. elim q [
             | kept_on none ↦ (λ u z. none u (ap (λ w. w.output) g.exchanged ∙ z))
-            | tries_left more ↦ keeps_in_time m pages lawful p a room fine left texts patience answering v.polls at n.numbers kept v.c more some v.stage
+            | tries_left more ↦ keeps_in_time m pages here p lawful a room fine left texts patience answering v.polls at n.numbers kept v.c more some v.stage
           ] in
           let calls : calls_of v.i (turn ∷ rest) ≡ calls_of v.i rest + 1 = calls_one v.i turn rest e in
           let may : (v.c.state ≡ SynRcvd → ⊥) → (text_received kept ≡ a.request → ⊥) → v.polls < patience = λ s z. elim v.can_wait [ inl w ↦ absurd (z w) | inr w ↦ omega (arith, w, calls) ] in
-          let h = called m pages lawful p a room fine left texts patience answering v.polls v.few at n.numbers kept v.c may (good.fit.conns v.i v.c v.there).snapshots
-          (snapshots v.i v.c (on_tick m v.c n.numbers) v.there (on_tick_fits m (steady_of m pages lawful) v.c n.numbers (good.fit.conns v.i v.c v.there) good.fit.numbers)) keeps v.stage in
+          let h = called m pages here p lawful a room fine left texts patience answering v.polls v.few at n.numbers kept v.c may (good.fit.conns v.i v.c v.there).snapshots
+          (snapshots v.i v.c (on_tick m v.c n.numbers) v.there (on_tick_fits m lawful.steady v.c n.numbers (good.fit.conns v.i v.c v.there) good.fit.numbers)) keeps v.stage in
           let clean : is_live o.connection.state ≡ true → All IsWithoutReset (sent ∷ incarnation) =
           λ l. one_more sent record {
             received = λ s z. absurd (cc);
@@ -321,8 +322,8 @@ module _ (m : AppSpec) (pages : Pages) (lawful : IsPaged m pages) (serves_port :
           let acked : Bool = not (has_rst s.flags) && is_acked v.c s in
           let confirmed : Confirmed (sent ∷ incarnation) o.connection = confirmed_on acked sent incarnation v.c o.connection (asked_moves m acked v.c at (on_segment m v.c n.numbers s) (segment_moves m v.c n.numbers s)) (acks_by v.c s (segment_of m o.connection o.step)) v.confirmed in
           let now_kept : fresh a (sent ∷ incarnation) ≡ sent ∷ kept = ap (λ k. with_fresh a sent k) is_kept ∙ keeps_fresh a sent kept sent_next in
-          let k = answered m pages lawful p a room fine left texts patience answering v.polls v.few at n.numbers s kept v.c next same
-          (snapshots v.i v.c (on_segment m v.c n.numbers s) v.there (on_segment_fits m (steady_of m pages lawful) v.c n.numbers s (good.fit.conns v.i v.c v.there) good.fit.numbers)) v.stage in
+          let k = answered m pages here p lawful a room fine left texts patience answering v.polls v.few at n.numbers s kept v.c next same
+          (snapshots v.i v.c (on_segment m v.c n.numbers s) v.there (on_segment_fits m lawful.steady v.c n.numbers s (good.fit.conns v.i v.c v.there) good.fit.numbers)) v.stage in
           subst After (sym g.exchanged) (elim k [
             | goes_on_so stage ↦ incarnations (sent ∷ kept) now_kept record {
               i = v.i;
@@ -373,7 +374,7 @@ module _ (m : AppSpec) (pages : Pages) (lawful : IsPaged m pages) (serves_port :
           let stale : is_stale a kept s ≡ true = subst (λ (t : PlainSegment). is_stale a kept t ≡ true) same h.stale in
           let window : occupies_sequence_space s ≡ false → a.mss ≤ s.window = subst (λ (t : PlainSegment). occupies_sequence_space t ≡ false → a.mss ≤ t.window) same h.window in
           let P : Outcome → Type 0 = λ o. r.node.connections ≡ set n.connections v.i (asked m at o).connection → Representing r.node (met (Some s) (segment_of m (asked m at o).connection (asked m at o).step) ∷ incarnation) rest in
-          let done : P (on_segment m v.c n.numbers s) = elim (discards m pages lawful p a room fine left texts patience answering v.polls n.numbers s kept v.c unreset stale window v.stage) [
+          let done : P (on_segment m v.c n.numbers s) = elim (discards m pages here p lawful a room fine left texts patience answering v.polls n.numbers s kept v.c unreset stale window v.stage) [
             | with_ack e ↦ subst P (sym e) (λ table. stays v s (Some (bare_ack v.c)) unreset (λ t z. (let w : bare_ack v.c ≡ t = only_some (λ (u : PlainSegment). bare_ack v.c ≡ u) (bare_ack v.c) t z refl in sym w)) stale (stepped v.i v.c v.c v.there table))
             | silently e ↦ subst P (sym e) (λ table. stays v s None unreset (λ t z. absurd (cc)) stale (stepped v.i v.c v.c v.there table))
           ] in
@@ -390,7 +391,7 @@ module _ (m : AppSpec) (pages : Pages) (lawful : IsPaged m pages) (serves_port :
             polls = v.polls;
             few = v.few;
             can_wait = elim v.can_wait [ inl w ↦ inl (append_nothing (text_received kept) ∙ w) | inr w ↦ inr (omega (arith, w, more)) ];
-            stage = stage_quiet m pages lawful p a room fine left texts patience answering v.polls kept v.c v.stage;
+            stage = stage_quiet m pages here p lawful a room fine left texts patience answering v.polls kept v.c v.stage;
             same = more_has quiet kept v.same;
             clean = one_more quiet record { received = λ s z. absurd (cc); output = λ s z. absurd (cc) } v.clean;
             confirmed = still_confirmed quiet incarnation v.c v.confirmed;
@@ -398,7 +399,7 @@ module _ (m : AppSpec) (pages : Pages) (lawful : IsPaged m pages) (serves_port :
 
       at_living : (v : Living n incarnation kept (turn ∷ rest)) → Goes a x kept → Representing r.node (x ∷ incarnation) rest
       at_living v h =
-          elim (acts m serves_port n p v.i v.c good.single v.there (stage_serves m pages lawful p a room fine left texts patience answering v.polls kept v.c v.stage) event) [
+          elim (acts m serves_port n p v.i v.c good.single v.there (stage_serves m pages here p lawful a room fine left texts patience answering v.polls kept v.c v.stage) event) [
             | is_called e g ↦ elim h [
               | waits_for none q ↦ at_call v e g q
               | brings_next s ↦ absurd (let z : None ≡ Some s.segment = sym (ap (λ z. z.received) g.exchanged) ∙ s.received in cc)
@@ -410,7 +411,7 @@ module _ (m : AppSpec) (pages : Pages) (lawful : IsPaged m pages) (serves_port :
               | brings_stale k ↦ at_stale v s g k
             ]
             | is_apart far e there ↦ at_other v there e
-            | makes_room e rested none ↦ absurd (let z = stage_stays m pages lawful p a room fine left texts patience answering v.polls kept v.c v.stage in cc)
+            | makes_room e rested none ↦ absurd (let z = stage_stays m pages here p lawful a room fine left texts patience answering v.polls kept v.c v.stage in cc)
           ]
 
     abbrev AfterOpening : Exchange → Type 0
@@ -426,13 +427,13 @@ module _ (m : AppSpec) (pages : Pages) (lawful : IsPaged m pages) (serves_port :
           let keeps : 0 < v.c.len → (u : PlainSegment) → segment_of m o.connection o.step ≡ Some u → has_rst u.flags ≡ false =
           λ some. elim q [
             | kept_on none ↦ (λ u z. none u (ap (λ w. w.output) g.exchanged ∙ z))
-            | tries_left more ↦ keeps_in_time m pages lawful p a room fine left texts patience answering 0 at n.numbers kept v.c more some v.stage
+            | tries_left more ↦ keeps_in_time m pages here p lawful a room fine left texts patience answering 0 at n.numbers kept v.c more some v.stage
           ] in
           let may : (v.c.state ≡ SynRcvd → ⊥) → (text_received kept ≡ a.request → ⊥) → 0 < patience = λ s z. absurd (s v.is_syn) in
-          let out = syn_out m pages lawful p a room fine left texts patience answering 0 kept v.c v.is_syn v.stage in
-          let still : o.connection.state ≡ SynRcvd = syn_stays m pages lawful p a room fine left texts patience answering 0 at n.numbers kept v.c v.is_syn (keeps out.0) v.stage in
-          let h = called m pages lawful p a room fine left texts patience answering 0 (omega arith) at n.numbers kept v.c may (good.fit.conns v.i v.c v.there).snapshots
-          (snapshots v.i v.c (on_tick m v.c n.numbers) v.there (on_tick_fits m (steady_of m pages lawful) v.c n.numbers (good.fit.conns v.i v.c v.there) good.fit.numbers)) keeps v.stage in
+          let out = syn_out m pages here p lawful a room fine left texts patience answering 0 kept v.c v.is_syn v.stage in
+          let still : o.connection.state ≡ SynRcvd = syn_stays m pages here p lawful a room fine left texts patience answering 0 at n.numbers kept v.c v.is_syn (keeps out.0) v.stage in
+          let h = called m pages here p lawful a room fine left texts patience answering 0 (omega arith) at n.numbers kept v.c may (good.fit.conns v.i v.c v.there).snapshots
+          (snapshots v.i v.c (on_tick m v.c n.numbers) v.there (on_tick_fits m lawful.steady v.c n.numbers (good.fit.conns v.i v.c v.there) good.fit.numbers)) keeps v.stage in
           let clean : is_live o.connection.state ≡ true → All IsWithoutReset (sent ∷ incarnation) =
           λ l. one_more sent record {
             received = λ s z. absurd (cc);
@@ -446,7 +447,7 @@ module _ (m : AppSpec) (pages : Pages) (lawful : IsPaged m pages) (serves_port :
               i = v.i;
               c = o.connection;
               there = stepped v.i v.c o.connection v.there g.table;
-              stage = stage_at m pages lawful p a room fine left texts patience answering h.now 0 (sent ∷ kept) o.connection still stage;
+              stage = stage_at m pages here p lawful a room fine left texts patience answering h.now 0 (sent ∷ kept) o.connection still stage;
               is_syn = still;
               same = more_has sent kept v.same;
               clean = clean (live_stage h.now (sent ∷ kept) o.connection stage);
@@ -485,7 +486,7 @@ module _ (m : AppSpec) (pages : Pages) (lawful : IsPaged m pages) (serves_port :
           let stale : is_stale a kept s ≡ true = subst (λ (t : PlainSegment). is_stale a kept t ≡ true) same h.stale in
           let window : occupies_sequence_space s ≡ false → a.mss ≤ s.window = subst (λ (t : PlainSegment). occupies_sequence_space t ≡ false → a.mss ≤ t.window) same h.window in
           let P : Outcome → Type 0 = λ o. r.node.connections ≡ set n.connections v.i (asked m at o).connection → Opening r.node (met (Some s) (segment_of m (asked m at o).connection (asked m at o).step) ∷ incarnation) in
-          let done : P (on_segment m v.c n.numbers s) = elim (discards m pages lawful p a room fine left texts patience answering 0 n.numbers s kept v.c unreset stale window v.stage) [
+          let done : P (on_segment m v.c n.numbers s) = elim (discards m pages here p lawful a room fine left texts patience answering 0 n.numbers s kept v.c unreset stale window v.stage) [
             | with_ack e ↦ subst P (sym e) (λ table. open_still v s (Some (bare_ack v.c)) unreset (λ t z. (let w : bare_ack v.c ≡ t = only_some (λ (u : PlainSegment). bare_ack v.c ≡ u) (bare_ack v.c) t z refl in sym w)) stale (stepped v.i v.c v.c v.there table))
             | silently e ↦ subst P (sym e) (λ table. open_still v s None unreset (λ t z. absurd (cc)) stale (stepped v.i v.c v.c v.there table))
           ] in
@@ -499,7 +500,7 @@ module _ (m : AppSpec) (pages : Pages) (lawful : IsPaged m pages) (serves_port :
             c = v.c;
             there = there;
             is_syn = v.is_syn;
-            stage = stage_quiet m pages lawful p a room fine left texts patience answering 0 kept v.c v.stage;
+            stage = stage_quiet m pages here p lawful a room fine left texts patience answering 0 kept v.c v.stage;
             same = more_has quiet kept v.same;
             clean = one_more quiet record { received = λ s z. absurd (cc); output = λ s z. absurd (cc) } v.clean;
             confirmed = still_confirmed quiet incarnation v.c v.confirmed;
@@ -507,7 +508,7 @@ module _ (m : AppSpec) (pages : Pages) (lawful : IsPaged m pages) (serves_port :
 
       open_on_kept : (v : Opened n incarnation kept) → Goes a x kept → (SendsNext a x kept → ⊥) → Opening r.node (x ∷ incarnation)
       open_on_kept v h far =
-          elim (acts m serves_port n p v.i v.c good.single v.there (stage_serves m pages lawful p a room fine left texts patience answering 0 kept v.c v.stage) event) [
+          elim (acts m serves_port n p v.i v.c good.single v.there (stage_serves m pages here p lawful a room fine left texts patience answering 0 kept v.c v.stage) event) [
             | is_called e g ↦ elim h [
               | waits_for none q ↦ open_call v e g q
               | brings_next s ↦ absurd (far s)
@@ -519,21 +520,21 @@ module _ (m : AppSpec) (pages : Pages) (lawful : IsPaged m pages) (serves_port :
               | brings_stale k ↦ open_stale v s g k
             ]
             | is_apart away e there ↦ open_other v there e
-            | makes_room e rested none ↦ absurd (let z = stage_stays m pages lawful p a room fine left texts patience answering 0 kept v.c v.stage in cc)
+            | makes_room e rested none ↦ absurd (let z = stage_stays m pages here p lawful a room fine left texts patience answering 0 kept v.c v.stage in cc)
           ]
 
-    -- no next segment is received while the limit is that of a SYN
-    not_next : (kept : List Exchange) → awaits_ack kept ≡ true → retransmission_limit (with_fresh a x kept) ≡ 5 → SendsNext a x kept → ⊥
+    -- no next segment is received in the handshake
+    not_next : (kept : List Exchange) → awaits_ack kept ≡ true → in_handshake (with_fresh a x kept) ≡ true → SendsNext a x kept → ⊥
     not_next [] w l s = absurd (cc)
     not_next (z ∷ zs) w l s =
-        let more : retransmission_limit (with_fresh a x (z ∷ zs)) ≡ 8 =
-        ap (λ k. retransmission_limit k) (keeps_fresh a x (z ∷ zs) s) ∙ ap (λ (k : Option PlainSegment). if is_some k then 8 else retransmission_limit (z ∷ zs)) s.received in
-        omega (arith, l, more)
+        let ends : in_handshake (with_fresh a x (z ∷ zs)) ≡ false =
+        ap (λ k. in_handshake k) (keeps_fresh a x (z ∷ zs) s) ∙ ap (λ (k : Option PlainSegment). if is_some k then false else in_handshake (z ∷ zs)) s.received in
+        absurd (let both : false ≡ true = sym ends ∙ l in cc)
 
-    opening_on : Goes a x (fresh a incarnation) → retransmission_limit (fresh a (x ∷ incarnation)) ≡ 5 → Opening n incarnation → Opening r.node (x ∷ incarnation)
+    opening_on : Goes a x (fresh a incarnation) → in_handshake (fresh a (x ∷ incarnation)) ≡ true → Opening n incarnation → Opening r.node (x ∷ incarnation)
     opening_on h limit s = elim s [
       | opened kept e v ↦ open_on_kept kept e v (subst (λ k. Goes a x k) e h)
-          (not_next kept (syn_out m pages lawful p a room fine left texts patience answering 0 kept v.c v.is_syn v.stage).1 (ap (λ k. retransmission_limit (with_fresh a x k)) (sym e) ∙ limit))
+          (not_next kept (syn_out m pages here p lawful a room fine left texts patience answering 0 kept v.c v.is_syn v.stage).1 (ap (λ k. in_handshake (with_fresh a x k)) (sym e) ∙ limit))
       | arrived reported ↦ arrived (stays_sent pages a x incarnation reported)
     ]
 
@@ -545,17 +546,17 @@ module _ (m : AppSpec) (pages : Pages) (lawful : IsPaged m pages) (serves_port :
 
   -- ---- the opening
 
-  counts_by : (iss seq : ℕ) → seq ≡ wrap (iss + 0) → seq ≡ wrap a.iss → Counts m pages lawful p a room fine left texts patience answering iss
+  counts_by : (iss seq : ℕ) → seq ≡ wrap (iss + 0) → seq ≡ wrap a.iss → Counts m pages here p lawful a room fine left texts patience answering iss
   counts_by iss seq e f n =
       ap (λ k. wrap (k + n)) (let z : iss ≡ iss + 0 = omega arith in z) ∙ sym (wrap_wrap (iss + 0) n) ∙ ap (λ k. wrap (k + n)) (sym e ∙ f) ∙ wrap_wrap a.iss n
 
   opened_as : (iss : ℕ) (s : PlainSegment) → s.seq ≡ a.irs → first_mss s.mss ≡ a.mss
-      → accepted iss p s ≡ conn_at m pages lawful p a room fine left texts patience answering SynRcvd 0 iss 0 1 0 (accepted iss p s).part
+      → accepted iss p s ≡ conn_at m pages here p lawful a room fine left texts patience answering SynRcvd 0 iss 0 1 0 (accepted iss p s).part
   opened_as iss s e f =
       ap (λ k. record (accepted iss p s) { irs = k }) e
       ∙ ap (λ k. record (accepted iss p s) { irs = a.irs; initial_mss = k; mss = k }) f
 
-  at_opening : (iss : ℕ) (s : PlainSegment) → is_plain_syn s ≡ true → s.text ≡ [] → AtSyn m pages lawful p a room fine left texts patience answering (met (Some s) (Some (syn_ack (accepted iss p s))) ∷ [])
+  at_opening : (iss : ℕ) (s : PlainSegment) → is_plain_syn s ≡ true → s.text ≡ [] → AtSyn m pages here p lawful a room fine left texts patience answering (met (Some s) (Some (syn_ack (accepted iss p s))) ∷ [])
   at_opening iss s plain none = record {
     received = none;
     none = (let flags : s.flags ≡ SYN = eqb-eq s.flags SYN plain in
@@ -581,7 +582,7 @@ module _ (m : AppSpec) (pages : Pages) (lawful : IsPaged m pages) (serves_port :
         let syn : o.syn ≡ s = cc in
         let answer : Some o.answer ≡ Some (syn_ack (accepted iss p s)) = sym o.output ∙ ap (λ z. z.output) e in
         let answers : o.answer ≡ syn_ack (accepted iss p s) = cc in
-        let k : Counts m pages lawful p a room fine left texts patience answering iss = counts_by iss o.answer.seq (ap (λ t. t.seq) answers) o.seq in
+        let k : Counts m pages here p lawful a room fine left texts patience answering iss = counts_by iss o.answer.seq (ap (λ t. t.seq) answers) o.seq in
         let as_it_is = f ∙ opened_as iss s (ap (λ t. t.seq) (sym syn) ∙ o.number) (ap (λ t. first_mss t.mss) (sym syn) ∙ o.mss) in
         let first : Exchange = met (Some s) (Some (syn_ack (accepted iss p s))) in
         elim (is_served p s_node.connections) [
@@ -605,7 +606,7 @@ module _ (m : AppSpec) (pages : Pages) (lawful : IsPaged m pages) (serves_port :
     opens o =
         let x : Exchange = first_exchange in
         let silent : x.output ≡ None → Opening s_node (x ∷ []) = λ e. absurd (let z : Some o.answer ≡ None = sym o.output ∙ e in cc) in
-        elim ((comes m serves_port (steady_of m pages lawful) n event is good.single good.fit).each p) [
+        elim ((comes m serves_port lawful.steady n event is good.single good.fit).each p) [
           | passes_by e f ↦ silent (ap (λ z. z.output) e)
           | evicted e f ↦ silent (ap (λ z. z.output) e)
           | unanswered s l e f ↦ silent (ap (λ z. z.output) e)
@@ -651,7 +652,7 @@ module _ (m : AppSpec) (pages : Pages) (lawful : IsPaged m pages) (serves_port :
     run_later : (es : List LineStep) (n : AbstractNode) (y : Exchange) (older : List Exchange) → OfLine es → Good n → GoesOn a (exchanges_onto p (trace_over m serves_port es n) (y ∷ older)) → text_received (fresh a (y ∷ older)) ≡ a.request →
         Representing n (y ∷ older) [] → Reaches (exchanges_onto p (trace_over m serves_port es n) (y ∷ older))
     run_later [] n y older l g h w s few = elim s [
-      | incarnations kept e v ↦ absurd (runs_out m pages lawful p a room fine left texts patience answering v.polls kept v.c (ap (λ k. text_received k) (sym e) ∙ w) (subst (λ k. texts < bare_acks k) e few) v.stage)
+      | incarnations kept e v ↦ absurd (runs_out m pages here p lawful a room fine left texts patience answering v.polls kept v.c (ap (λ k. text_received k) (sym e) ∙ w) (subst (λ k. texts < bare_acks k) e few) v.stage)
       | over reported ↦ reported
     ]
     run_later (Changes change ∷ es) n y older l g h w s few = run_later es (changed change n) y older (All-tail (IsStep own) (Changes change) es l) (changed_good own change es n l g) h w (represents_still change n (y ∷ older) [] s) few
@@ -659,7 +660,7 @@ module _ (m : AppSpec) (pages : Pages) (lawful : IsPaged m pages) (serves_port :
         let x : Exchange = exchange p e (step m serves_port n e).sent in
         let here = goes_before a p (trace_over m serves_port es (step m serves_port n e).node) x (y ∷ older) h in
         let turn : TraceEntry = record { event = e; sent = (step m serves_port n e).sent } in
-        run_later es (step m serves_port n e).node x (y ∷ older) (All-tail (IsStep own) (OfNode e) es l) (good_on m (steady_of m pages lawful) serves_port n e (event_first own e es l) g) h (still_whole x y older w here.0)
+        run_later es (step m serves_port n e).node x (y ∷ older) (All-tail (IsStep own) (OfNode e) es l) (good_on m lawful.steady serves_port n e (event_first own e es l) g) h (still_whole x y older w here.0)
         (represents_on n e g y older [] here.0 (whole_represents n (y ∷ older) [] (turn ∷ []) w s)) few
 
     -- while it asks
@@ -678,7 +679,7 @@ module _ (m : AppSpec) (pages : Pages) (lawful : IsPaged m pages) (serves_port :
         let goes = subst (λ z. GoesOn a (exchanges_onto p (asking ++ later) (z ∷ y ∷ older))) same h in
         let here = goes_before a p (asking ++ later) x (y ∷ older) goes in
         subst (λ z. Reaches (exchanges_onto p (asking ++ later) (z ∷ y ∷ older))) (sym same)
-        (run_asking asking later es (step m serves_port n e).node x (y ∷ older) tail (All-tail (IsStep own) (OfNode e) es l) (good_on m (steady_of m pages lawful) serves_port n e (event_first own e es l) g) goes
+        (run_asking asking later es (step m serves_port n e).node x (y ∷ older) tail (All-tail (IsStep own) (OfNode e) es l) (good_on m lawful.steady serves_port n e (event_first own e es l) g) goes
         (subst (λ z. text_received (fresh a (exchanges_onto p asking (z ∷ y ∷ older))) ≡ a.request) same w)
         (represents_on n e g y older asking here.0 (subst (λ z. Representing n (y ∷ older) (z ∷ asking)) (sym head) s)))
 
@@ -689,26 +690,26 @@ module _ (m : AppSpec) (pages : Pages) (lawful : IsPaged m pages) (serves_port :
       | arrived reported ↦ arrived reported
     ]
 
-    -- the limit of a SYN held before
-    limit_before : (x y : Exchange) (older : List Exchange) → retransmission_limit (fresh a (x ∷ y ∷ older)) ≡ 5 → retransmission_limit (fresh a (y ∷ older)) ≡ 5
+    -- the handshake went on before
+    limit_before : (x y : Exchange) (older : List Exchange) → in_handshake (fresh a (x ∷ y ∷ older)) ≡ true → in_handshake (fresh a (y ∷ older)) ≡ true
     limit_before x y older h = by_kept (fresh a (y ∷ older)) h
       where
-        by_kept : (kept : List Exchange) → retransmission_limit (with_fresh a x kept) ≡ 5 → retransmission_limit kept ≡ 5
+        by_kept : (kept : List Exchange) → in_handshake (with_fresh a x kept) ≡ true → in_handshake kept ≡ true
         by_kept [] l = refl
         by_kept (z ∷ zs) l = both_ways (option_map_or (is_stale a (z ∷ zs)) x.received false)
-            (λ e. ap (λ b. retransmission_limit (if b then z ∷ zs else x ∷ z ∷ zs)) (sym e) ∙ l)
-            (λ e. (let k : retransmission_limit (x ∷ z ∷ zs) ≡ 5 = ap (λ b. retransmission_limit (if b then z ∷ zs else x ∷ z ∷ zs)) (sym e) ∙ l in
+            (λ e. ap (λ b. in_handshake (if b then z ∷ zs else x ∷ z ∷ zs)) (sym e) ∙ l)
+            (λ e. (let k : in_handshake (x ∷ z ∷ zs) ≡ true = ap (λ b. in_handshake (if b then z ∷ zs else x ∷ z ∷ zs)) (sym e) ∙ l in
             both_ways (is_some x.received)
-            (λ f. absurd (let w : 8 ≡ 5 = ap (λ b. if b then 8 else retransmission_limit (z ∷ zs)) (sym f) ∙ k in omega (arith, w)))
-            (λ f. ap (λ b. if b then 8 else retransmission_limit (z ∷ zs)) (sym f) ∙ k)))
+            (λ f. absurd (let w : false ≡ true = ap (λ b. if b then false else in_handshake (z ∷ zs)) (sym f) ∙ k in cc))
+            (λ f. ap (λ b. if b then false else in_handshake (z ∷ zs)) (sym f) ∙ k)))
 
-    limit_here : (turns : List TraceEntry) (y : Exchange) (older : List Exchange) → retransmission_limit (fresh a (exchanges_onto p turns (y ∷ older))) ≡ 5 → retransmission_limit (fresh a (y ∷ older)) ≡ 5
+    limit_here : (turns : List TraceEntry) (y : Exchange) (older : List Exchange) → in_handshake (fresh a (exchanges_onto p turns (y ∷ older))) ≡ true → in_handshake (fresh a (y ∷ older)) ≡ true
     limit_here [] y older h = h
     limit_here (t ∷ turns) y older h = limit_before (exchange p t.event t.sent) y older (limit_here turns (exchange p t.event t.sent) (y ∷ older) h)
 
     -- while the SYN-ACK awaits its acknowledgement
     run_opening : (opening asking later : List TraceEntry) (es : List LineStep) (n : AbstractNode) (y : Exchange) (older : List Exchange) → trace_over m serves_port es n ≡ opening ++ (asking ++ later) → OfLine es → Good n → GoesOn a (exchanges_onto p (opening ++ (asking ++ later)) (y ∷ older)) →
-        retransmission_limit (fresh a (exchanges_onto p opening (y ∷ older))) ≡ 5 → text_received (fresh a (exchanges_onto p (opening ++ asking) (y ∷ older))) ≡ a.request → ((slot : ℕ) → calls_of slot asking ≤ patience) → Opening n (y ∷ older) →
+        in_handshake (fresh a (exchanges_onto p opening (y ∷ older))) ≡ true → text_received (fresh a (exchanges_onto p (opening ++ asking) (y ∷ older))) ≡ a.request → ((slot : ℕ) → calls_of slot asking ≤ patience) → Opening n (y ∷ older) →
         Reaches (exchanges_onto p (opening ++ (asking ++ later)) (y ∷ older))
     run_opening [] asking later es n y older q l g h limit w prompt s = run_asking asking later es n y older q l g h w (asking_from n (y ∷ older) asking prompt s)
     run_opening (t ∷ opening) asking later [] n y older q l g h limit w prompt s = absurd (cc)
@@ -722,9 +723,9 @@ module _ (m : AppSpec) (pages : Pages) (lawful : IsPaged m pages) (serves_port :
         let same : exchange p t.event t.sent ≡ x = ap (λ z. exchange p z.event z.sent) (sym head) in
         let goes = subst (λ z. GoesOn a (exchanges_onto p (opening ++ (asking ++ later)) (z ∷ y ∷ older))) same h in
         let here = goes_before a p (opening ++ (asking ++ later)) x (y ∷ older) goes in
-        let limit_now = subst (λ z. retransmission_limit (fresh a (exchanges_onto p opening (z ∷ y ∷ older))) ≡ 5) same limit in
+        let limit_now = subst (λ z. in_handshake (fresh a (exchanges_onto p opening (z ∷ y ∷ older))) ≡ true) same limit in
         subst (λ z. Reaches (exchanges_onto p (opening ++ (asking ++ later)) (z ∷ y ∷ older))) (sym same)
-        (run_opening opening asking later es (step m serves_port n e).node x (y ∷ older) tail (All-tail (IsStep own) (OfNode e) es l) (good_on m (steady_of m pages lawful) serves_port n e (event_first own e es l) g) goes limit_now
+        (run_opening opening asking later es (step m serves_port n e).node x (y ∷ older) tail (All-tail (IsStep own) (OfNode e) es l) (good_on m lawful.steady serves_port n e (event_first own e es l) g) goes limit_now
         (subst (λ z. text_received (fresh a (exchanges_onto p (opening ++ asking) (z ∷ y ∷ older))) ≡ a.request) same w) prompt
         (opening_on n e g y older [] here.0 (limit_here opening x (y ∷ older) limit_now) s))
 
@@ -732,17 +733,17 @@ module _ (m : AppSpec) (pages : Pages) (lawful : IsPaged m pages) (serves_port :
     from_opening : (e : Event) (es : List LineStep) (n : AbstractNode) (opening asking later : List TraceEntry) → OfLine (OfNode e ∷ es) → Good n →
         trace_over m serves_port es (step m serves_port n e).node ≡ opening ++ (asking ++ later) →
         (let x : Exchange = exchange p e (step m serves_port n e).sent in
-        GoesOn a (exchanges_onto p (opening ++ (asking ++ later)) (x ∷ [])) → retransmission_limit (fresh a (exchanges_onto p opening (x ∷ []))) ≡ 5 → text_received (fresh a (exchanges_onto p (opening ++ asking) (x ∷ []))) ≡ a.request → ((slot : ℕ) → calls_of slot asking ≤ patience) →
+        GoesOn a (exchanges_onto p (opening ++ (asking ++ later)) (x ∷ [])) → in_handshake (fresh a (exchanges_onto p opening (x ∷ []))) ≡ true → text_received (fresh a (exchanges_onto p (opening ++ asking) (x ∷ []))) ≡ a.request → ((slot : ℕ) → calls_of slot asking ≤ patience) →
         Reaches (exchanges_onto p (opening ++ (asking ++ later)) (x ∷ [])))
     from_opening e es n opening asking later l g tail h limit w prompt =
         let x : Exchange = exchange p e (step m serves_port n e).sent in
         let is : IsEvent e = event_first own e es l in
-        run_opening opening asking later es (step m serves_port n e).node x [] tail (All-tail (IsStep own) (OfNode e) es l) (good_on m (steady_of m pages lawful) serves_port n e is g) h limit w prompt
+        run_opening opening asking later es (step m serves_port n e).node x [] tail (All-tail (IsStep own) (OfNode e) es l) (good_on m lawful.steady serves_port n e is g) h limit w prompt
         (opens n e is g (goes_before a p (opening ++ (asking ++ later)) x [] h))
 
     -- one that begins with its first entry
     first_turn : (t : TraceEntry) (opening asking later incarnation : List TraceEntry) (e : Event) (es : List LineStep) (n : AbstractNode) → OfLine (OfNode e ∷ es) → Good n → trace_over m serves_port (OfNode e ∷ es) n ≡ incarnation → incarnation ≡ t ∷ (opening ++ (asking ++ later)) → GoesOn a (exchanges_with p incarnation) →
-        retransmission_limit (fresh a (exchanges_with p (t ∷ opening))) ≡ 5 → text_received (fresh a (exchanges_with p (t ∷ (opening ++ asking)))) ≡ a.request → ((slot : ℕ) → calls_of slot asking ≤ patience) → Reaches (exchanges_with p incarnation)
+        in_handshake (fresh a (exchanges_with p (t ∷ opening))) ≡ true → text_received (fresh a (exchanges_with p (t ∷ (opening ++ asking)))) ≡ a.request → ((slot : ℕ) → calls_of slot asking ≤ patience) → Reaches (exchanges_with p incarnation)
     first_turn t opening asking later incarnation e es n l g q j h limit w prompt =
         let turn : TraceEntry = record { event = e; sent = (step m serves_port n e).sent } in
         let both : turn ∷ trace_over m serves_port es (step m serves_port n e).node ≡ t ∷ (opening ++ (asking ++ later)) = q ∙ j in
@@ -753,12 +754,12 @@ module _ (m : AppSpec) (pages : Pages) (lawful : IsPaged m pages) (serves_port :
         let goes : GoesOn a (exchanges_onto p (opening ++ (asking ++ later)) (x ∷ [])) = subst (λ z. GoesOn a (exchanges_onto p (opening ++ (asking ++ later)) (z ∷ []))) same (subst (λ ts. GoesOn a (exchanges_with p ts)) j h) in
         subst (λ ts. Reaches (exchanges_with p ts)) (sym j)
         (subst (λ z. Reaches (exchanges_onto p (opening ++ (asking ++ later)) (z ∷ []))) (sym same)
-        (from_opening e es n opening asking later l g tail goes (subst (λ z. retransmission_limit (fresh a (exchanges_onto p opening (z ∷ []))) ≡ 5) same limit)
+        (from_opening e es n opening asking later l g tail goes (subst (λ z. in_handshake (fresh a (exchanges_onto p opening (z ∷ []))) ≡ true) same limit)
         (subst (λ z. text_received (fresh a (exchanges_onto p (opening ++ asking) (z ∷ []))) ≡ a.request) same w) prompt))
 
     -- the turns from the opening on
     from_start : (opening asking later incarnation : List TraceEntry) (es : List LineStep) (n : AbstractNode) → OfLine es → Good n → trace_over m serves_port es n ≡ incarnation → incarnation ≡ opening ++ (asking ++ later) → GoesOn a (exchanges_with p incarnation) →
-        retransmission_limit (fresh a (exchanges_with p opening)) ≡ 5 → text_received (fresh a (exchanges_with p (opening ++ asking))) ≡ a.request → ((slot : ℕ) → calls_of slot asking ≤ patience) → Reaches (exchanges_with p incarnation)
+        in_handshake (fresh a (exchanges_with p opening)) ≡ true → text_received (fresh a (exchanges_with p (opening ++ asking))) ≡ a.request → ((slot : ℕ) → calls_of slot asking ≤ patience) → Reaches (exchanges_with p incarnation)
     from_start opening asking later incarnation [] n l g q j h limit w prompt = absurd (subst (λ ts. GoesOn a (exchanges_with p ts)) (sym q) h)
     from_start opening asking later incarnation (Changes change ∷ es) n l g q j h limit w prompt = from_start opening asking later incarnation es (changed change n) (All-tail (IsStep own) (Changes change) es l) (changed_good own change es n l g) q j h limit w prompt
     from_start (t ∷ opening) asking later incarnation (OfNode e ∷ es) n l g q j h limit w prompt = first_turn t opening asking later incarnation e es n l g q j h limit w prompt
@@ -773,10 +774,10 @@ module _ (m : AppSpec) (pages : Pages) (lawful : IsPaged m pages) (serves_port :
 
     -- the turns before
     pub from_before : (before opening asking later incarnation : List TraceEntry) (es : List LineStep) (n : AbstractNode) → OfLine es → Good n → trace_over m serves_port es n ≡ before ++ incarnation → incarnation ≡ opening ++ (asking ++ later) → GoesOn a (exchanges_with p incarnation) →
-        retransmission_limit (fresh a (exchanges_with p opening)) ≡ 5 → text_received (fresh a (exchanges_with p (opening ++ asking))) ≡ a.request → ((slot : ℕ) → calls_of slot asking ≤ patience) → Reaches (exchanges_with p incarnation)
+        in_handshake (fresh a (exchanges_with p opening)) ≡ true → text_received (fresh a (exchanges_with p (opening ++ asking))) ≡ a.request → ((slot : ℕ) → calls_of slot asking ≤ patience) → Reaches (exchanges_with p incarnation)
     from_before [] opening asking later incarnation es n l g q j h limit w prompt = from_start opening asking later incarnation es n l g q j h limit w prompt
     from_before (t ∷ before) opening asking later incarnation [] n l g q j h limit w prompt = absurd (cc)
     from_before (t ∷ before) opening asking later incarnation (Changes change ∷ es) n l g q j h limit w prompt = from_before (t ∷ before) opening asking later incarnation es (changed change n) (All-tail (IsStep own) (Changes change) es l) (changed_good own change es n l g) q j h limit w prompt
     from_before (t ∷ before) opening asking later incarnation (OfNode e ∷ es) n l g q j h limit w prompt =
         let tail : trace_over m serves_port es (step m serves_port n e).node ≡ before ++ incarnation = cc in
-        from_before before opening asking later incarnation es (step m serves_port n e).node (All-tail (IsStep own) (OfNode e) es l) (good_on m (steady_of m pages lawful) serves_port n e (event_first own e es l) g) tail j h limit w prompt
+        from_before before opening asking later incarnation es (step m serves_port n e).node (All-tail (IsStep own) (OfNode e) es l) (good_on m lawful.steady serves_port n e (event_first own e es l) g) tail j h limit w prompt

@@ -1,8 +1,9 @@
 -- The connection with an honest peer: at each segment of its peer it sends what the application has next.
-use Rattle.node_laws.proofs.Prelude.{All, option_map_or, ◌≡◌, ℕ, suc, ◌+◌, ◌<◌, ◌≤◌, ◌==◌, min, Bool, true, false, if◌then◌else◌, not, ◌&&◌, ◌||◌, ◌⊎◌, inl, inr, List, [], ◌∷◌, ◌++◌, length, take, drop, refl, sym, ap, ◌∙◌, subst, arith, Option, Some, None, is_some, eqb, ltb, length-append, eq-eqb, take-append-le, take_all, length-take-le, common_steps, take-add, wrap, PlainSegment, has_syn, has_fin, has_rst, has_ack, beat_at, Beat, AppState, After, AppSpec, IsPrefixOf, Pages, IsPaged, IsU32, IsNow, IsSnapshot, MayWant, Now, Reset, State, SynRcvd, Established, FinWait1, Want, Nothing, Send, Close, Abort, Sockets, Connection, is_live, serves, snd_una, rcv_nxt, occupies_sequence_space, segment_of, bare_ack, fin_of, reset_of, syn_ack, text_segment, Outcome, leaves, closes, idles, does_as_wanted, ask, asked, reported_end, peer_closes, is_out_of_order, is_acked, has_text, delivers_text, with_window, stays_established, in_established, by_state, on_segment, Step, choose, both_ways, only_some, ltb-yes, cut_length, wrap_wrap, prefix_length, append_nothing, zero_or_more, same_place, is_time_wait, same_self, FitOut, prepared_snapshots, steady_of, receives_is, prepare_is, Exchange, AnswersPolled, GoesOnBy, Asker, text_received, awaits_ack, is_bare_ack, bare_acks, SendsNext, HasItsPage, acknowledges_new, expected_next, is_stale, ltb-zero, not-true, retransmissions, retransmission_limit, sent_next}
+use Rattle.node_laws.proofs.Prelude.{All, option_map_or, ◌≡◌, ℕ, suc, ◌+◌, ◌<◌, ◌≤◌, ◌==◌, min, Bool, true, false, if◌then◌else◌, not, ◌&&◌, ◌||◌, ◌⊎◌, inl, inr, List, [], ◌∷◌, ◌++◌, length, take, drop, refl, sym, ap, ◌∙◌, subst, arith, Option, Some, None, is_some, eqb, ltb, length-append, eq-eqb, take-append-le, take_all, length-take-le, common_steps, take-add, wrap, PlainSegment, has_syn, has_fin, has_rst, has_ack, beat_at, Beat, AppState, After, AppSpec, IsPrefixOf, Pages, IsU32, IsNow, IsSnapshot, MayWant, Now, Reset, State, SynRcvd, Established, FinWait1, Want, Nothing, Send, Close, Abort, Sockets, Connection, is_live, serves, snd_una, rcv_nxt, occupies_sequence_space, segment_of, bare_ack, fin_of, reset_of, syn_ack, text_segment, Outcome, leaves, closes, idles, does_as_wanted, ask, asked, reported_end, peer_closes, is_out_of_order, is_acked, has_text, delivers_text, with_window, stays_established, in_established, by_state, on_segment, Step, choose, both_ways, only_some, ltb-yes, cut_length, wrap_wrap, prefix_length, append_nothing, zero_or_more, same_place, is_time_wait, same_self, FitOut, prepared_snapshots, Exchange, GoesOnBy, Asker, text_received, awaits_ack, is_bare_ack, bare_acks, SendsNext, HasItsPage, acknowledges_new, expected_next, is_stale, ltb-zero, not-true, retransmissions, retransmission_limit, sent_next}
 use Rattle.tcp_machine.specs.OnTick.{by_beat, limit_of, on_tick, polls as polled_by, ticks_established}
 use Rattle.node_laws.proofs.HonestSessions.{has_of, has_on, lets_go, nothing_more, takes_at}
 use Rattle.node_laws.proofs.Lines.{quiet, met}
+use Rattle.node_laws.proofs.Paging.{Answering, Paging, receives_is}
 use Rattle.node_laws.proofs.StepTable.{nil_of}
 use Rattle.node_laws.proofs.Waiting.{Timed, timed_again, timed_first, timed_quiet, timed_waits, goes_on_in_time, limit_low}
 
@@ -41,7 +42,7 @@ module _ (m : AppSpec) where
       ap (λ b. if b then leaves (closes c) (reported_end m Reset c.state c.part numbers) Step.Drop else (if is_out_of_order c s then leaves c numbers Step.Ack else by_state m c.state (is_acked c s) c numbers s)) r
       ∙ ap (λ b. if b then leaves c numbers Step.Ack else by_state m c.state (is_acked c s) c numbers s) in_order
 
-module _ (m : AppSpec) (pages : Pages) (lawful : IsPaged m pages) (p : Sockets) (a : Asker) (room : 0 < a.mss) (fine : ℕ → AppState → Bool) (left : AppState → ℕ) (texts patience : ℕ) (answering : AnswersPolled m a.request a.mss fine left texts patience) where
+module _ (m : AppSpec) (pages : Pages) (here : AppState → Bool) (p : Sockets) (lawful : Paging m pages p.own_port.0 here) (a : Asker) (room : 0 < a.mss) (fine : ℕ → AppState → Bool) (left : AppState → ℕ) (texts patience : ℕ) (answering : Answering m p.own_port.0 here a.request a.mss fine left texts patience) where
   -- the connection at some point of its life
   abbrev pub conn_at : State → ℕ → ℕ → ℕ → ℕ → ℕ → AppState → Connection
   conn_at state taken iss acked len age part = record {
@@ -73,6 +74,7 @@ module _ (m : AppSpec) (pages : Pages) (lawful : IsPaged m pages) (p : Sockets) 
 
   -- this much was accepted, acknowledged and sent
   pub record Interactive (incarnation : List Exchange) (part : AppState) (taken acked len : ℕ) : Type 0 where
+    pub at_port : here part ≡ true
     pub input : part.input ≡ text_received incarnation
     pub is_taken : taken ≡ length (text_received incarnation)
     pub asked : IsPrefixOf (text_received incarnation) a.request
@@ -115,6 +117,7 @@ module _ (m : AppSpec) (pages : Pages) (lawful : IsPaged m pages) (p : Sockets) 
   session_kept_still incarnation output part taken acked len same h =
       let e : text_received (met None output ∷ incarnation) ≡ text_received incarnation = append_nothing (text_received incarnation) in
       record {
+        at_port = h.at_port;
         input = h.input ∙ sym e;
         is_taken = h.is_taken ∙ ap length (sym e);
         asked = subst (λ t. IsPrefixOf t a.request) (sym e) h.asked;
@@ -141,6 +144,7 @@ module _ (m : AppSpec) (pages : Pages) (lawful : IsPaged m pages) (p : Sockets) 
 
   -- before it is asked, with what came
   pub record Ready (received : Option PlainSegment) (older : List Exchange) (part : AppState) (taken acked most : ℕ) : Type 0 where
+    pub at_port : here part ≡ true
     pub input : part.input ≡ text_received older ++ brought received
     pub is_taken : taken ≡ length (text_received older ++ brought received)
     pub asked : IsPrefixOf (text_received older ++ brought received) a.request
@@ -152,11 +156,12 @@ module _ (m : AppSpec) (pages : Pages) (lawful : IsPaged m pages) (p : Sockets) 
   prepared_ready : (received : Option PlainSegment) (older : List Exchange) (part : AppState) (taken acked most : ℕ) (numbers : List ℕ) (now : Now) → Ready received older part taken acked most → Ready received older (m.prepare numbers part now) taken acked most
   prepared_ready received older part taken acked most numbers now h =
       let q : AppState = m.prepare numbers part now in
-      let is = prepare_is m pages lawful numbers part now in
+      let is = lawful.prepare numbers part now h.at_port in
       let grows : IsPrefixOf (page part) (page q) =
       subst (λ k. IsPrefixOf (page part) (pages.page q.input k)) (sym is.snapshots)
       (subst (λ t. IsPrefixOf (page part) (pages.page t (part.snapshots ++ is.more))) (append_nothing part.input ∙ sym is.input) (lawful.grows part.input [] part.snapshots is.more)) in
       record {
+        at_port = is.at_port;
         input = is.input ∙ h.input;
         is_taken = h.is_taken;
         asked = h.asked;
@@ -200,11 +205,12 @@ module _ (m : AppSpec) (pages : Pages) (lawful : IsPaged m pages) (p : Sockets) 
       Interactive (met received (Some (text_segment m (conn_at Established taken iss acked len 0 q))) ∷ older) q taken acked len
   sends_text received older q taken iss acked most len k h within =
       let t : PlainSegment = text_segment m (conn_at Established taken iss acked len 0 q) in
-      let output : t.text ≡ take len (drop q.acked (page q)) = ap (λ l. take len (drop q.acked l)) (lawful.output q) in
+      let output : t.text ≡ take len (drop q.acked (page q)) = ap (λ l. take len (drop q.acked l)) (lawful.output q h.at_port) in
       let size : length t.text ≡ len = ap length output ∙ cut_length (page q) q.acked len within in
       let own : length (has_of a.iss older) ≡ q.acked = ap length h.has ∙ length-take-le q.acked (page q) h.fits in
       let at : t.seq ≡ wrap (a.iss + 1 + length (has_of a.iss older)) = k acked ∙ ap wrap (let i = h.is_acked in omega (arith, i, own)) in
       record {
+        at_port = h.at_port;
         input = h.input;
         is_taken = h.is_taken;
         asked = h.asked;
@@ -215,10 +221,10 @@ module _ (m : AppSpec) (pages : Pages) (lawful : IsPaged m pages) (p : Sockets) 
       }
 
   -- text that is outstanding occupies sequence space
-  text_placed : (taken iss acked len age : ℕ) (q : AppState) → 0 < len → q.acked + len ≤ length (page q) → occupies_sequence_space (text_segment m (conn_at Established taken iss acked len age q)) ≡ true
-  text_placed taken iss acked len age q some within =
+  text_placed : (taken iss acked len age : ℕ) (q : AppState) → here q ≡ true → 0 < len → q.acked + len ≤ length (page q) → occupies_sequence_space (text_segment m (conn_at Established taken iss acked len age q)) ≡ true
+  text_placed taken iss acked len age q h some within =
       let t : PlainSegment = text_segment m (conn_at Established taken iss acked len age q) in
-      let output : t.text ≡ take len (drop q.acked (page q)) = ap (λ l. take len (drop q.acked l)) (lawful.output q) in
+      let output : t.text ≡ take len (drop q.acked (page q)) = ap (λ l. take len (drop q.acked l)) (lawful.output q h) in
       let size : length t.text ≡ len = ap length output ∙ cut_length (page q) q.acked len within in
       ap (λ b. b || (has_syn t.flags || has_fin t.flags)) (ltb-yes (length t.text) (omega (arith, size, some)))
 
@@ -226,6 +232,7 @@ module _ (m : AppSpec) (pages : Pages) (lawful : IsPaged m pages) (p : Sockets) 
   outputs_none : (received : Option PlainSegment) (output : Option PlainSegment) (older : List Exchange) (q : AppState) (taken acked most : ℕ) → Ready received older q taken acked most →
       has_of a.iss (met received output ∷ older) ≡ has_of a.iss older → Interactive (met received output ∷ older) q taken acked 0
   outputs_none received output older q taken acked most h e = record {
+    at_port = h.at_port;
     input = h.input;
     is_taken = h.is_taken;
     asked = h.asked;
@@ -246,7 +253,7 @@ module _ (m : AppSpec) (pages : Pages) (lawful : IsPaged m pages) (p : Sockets) 
       let within : q.acked + len ≤ length (page q) = (let l = may.1 in omega (arith, l)) in
       let t : PlainSegment = text_segment m (conn_at Established taken iss acked len 0 q) in
       goes_on_so (reported taken iss acked len 0 most q k refl (sends_text received older q taken iss acked most len k h within) record { some = some; next = g } h.bound
-      (timed_first received t older (text_placed taken iss acked len 0 q some within)))
+      (timed_first received t older (text_placed taken iss acked len 0 q h.at_port some within)))
   by_want polls received older fresh numbers taken iss acked age most q Nothing k h snapshots may g rested =
       let d : Connection = conn_at Established taken iss acked 0 age q in
       let P : Outcome → Type 0 = λ o. Next polls (met received (segment_of m o.connection o.step) ∷ older) o.connection in
@@ -264,23 +271,25 @@ module _ (m : AppSpec) (pages : Pages) (lawful : IsPaged m pages) (p : Sockets) 
   at_most_more polls q few most Nothing h g = (g.0, omega (arith, h, g.1), g.2)
 
   -- what an application requests whose state is as it should be
-  wants_so : (polls : ℕ) → polls ≤ patience → (numbers : List ℕ) (now : Now) (part : AppState) (rest : List ℕ) (most : ℕ) → All IsU32 numbers → IsNow now → 0 < length now.rows → fine polls part ≡ true → left part ≤ most → part.input ++ rest ≡ a.request →
+  wants_so : (polls : ℕ) → polls ≤ patience → (numbers : List ℕ) (now : Now) (part : AppState) (rest : List ℕ) (most : ℕ) → All IsU32 numbers → IsNow now → 0 < length now.rows → here part ≡ true → fine polls part ≡ true → left part ≤ most → part.input ++ rest ≡ a.request →
       GoesOnBy m a.request a.mss (fine polls) left (m.prepare numbers part now) most (m.want numbers (m.prepare numbers part now))
-  wants_so polls l numbers now part rest most words is rows good few joined =
-      at_most_more polls (m.prepare numbers part now) (left part) most (m.want numbers (m.prepare numbers part now)) few ((answering.answers polls l).goes_on numbers part now rest good joined words is rows)
+  wants_so polls l numbers now part rest most words is rows at good few joined =
+      at_most_more polls (m.prepare numbers part now) (left part) most (m.want numbers (m.prepare numbers part now)) few (answering.goes_on polls l numbers part now rest at good joined words is rows)
 
   asks : (polls : ℕ) → polls ≤ patience → (received : Option PlainSegment) (older : List Exchange) (fresh : Bool) (numbers : List ℕ) (now : Now) (taken iss acked age most : ℕ) (part : AppState) → All IsU32 numbers → IsNow now → 0 < length now.rows →
       Counts iss → Ready received older part taken acked most → fine polls part ≡ true → left part ≤ most → All IsSnapshot part.snapshots → not (is_some received) && awaits_ack older ≡ false →
       (let o : Outcome = ask m now fresh (conn_at Established taken iss acked 0 age part) numbers in Next polls (met received (segment_of m o.connection o.step) ∷ older) o.connection)
   asks polls l received older fresh numbers now taken iss acked age most part words is rows k h good few snapshots rested =
       let q : AppState = m.prepare numbers part now in
-      by_want polls received older fresh numbers taken iss acked age most q (m.want numbers q) k (prepared_ready received older part taken acked most numbers now h) (prepared_snapshots m (steady_of m pages lawful) numbers part now words is snapshots) (lawful.wants numbers q)
-      (wants_so polls l numbers now part h.asked.rest most words is rows good few (ap (λ t. t ++ h.asked.rest) h.input ∙ h.asked.joined)) rested
+      let ready : Ready received older q taken acked most = prepared_ready received older part taken acked most numbers now h in
+      by_want polls received older fresh numbers taken iss acked age most q (m.want numbers q) k ready (prepared_snapshots m lawful.steady numbers part now words is snapshots) (lawful.wants numbers q ready.at_port)
+      (wants_so polls l numbers now part h.asked.rest most words is rows h.at_port good few (ap (λ t. t ++ h.asked.rest) h.input ∙ h.asked.joined)) rested
 
   -- ---- a segment of the peer is received
 
   -- the state before the delivery, with what was acknowledged
   pub record Acked (older : List Exchange) (part : AppState) (taken acked : ℕ) : Type 0 where
+    pub at_port : here part ≡ true
     pub input : part.input ≡ text_received older
     pub is_taken : taken ≡ length (text_received older)
     pub is_acked : acked ≡ 1 + part.acked
@@ -291,11 +300,12 @@ module _ (m : AppSpec) (pages : Pages) (lawful : IsPaged m pages) (p : Sockets) 
       Ready (Some s) older (delivers_text m numbers part s.text).part (taken + length s.text) acked most
   received_ready s older numbers part taken acked most prefix h bound =
       let q : AppState = (delivers_text m numbers part s.text).part in
-      let is = receives_is m pages lawful numbers part s.text in
+      let is = receives_is m pages p.own_port.0 here lawful numbers part s.text h.at_port in
       let grows : IsPrefixOf (page part) (page q) =
       subst (λ k. IsPrefixOf (page part) (pages.page q.input k)) (append_nothing part.snapshots ∙ sym is.snapshots)
       (subst (λ t. IsPrefixOf (page part) (pages.page t (part.snapshots ++ []))) (sym is.input) (lawful.grows part.input s.text part.snapshots [])) in
       record {
+        at_port = is.at_port;
         input = is.input ∙ ap (λ t. t ++ s.text) h.input;
         is_taken = ap (λ n. n + length s.text) h.is_taken ∙ sym (length-append (text_received older) s.text);
         asked = prefix;
@@ -305,11 +315,11 @@ module _ (m : AppSpec) (pages : Pages) (lawful : IsPaged m pages) (p : Sockets) 
         bound = bound;
       }
 
-  received_fine : (polls : ℕ) → polls ≤ patience → (numbers : List ℕ) (part : AppState) (text rest : List ℕ) (most : ℕ) → fine polls part ≡ true → left part ≤ most → (part.input ++ text) ++ rest ≡ a.request →
+  received_fine : (polls : ℕ) → polls ≤ patience → (numbers : List ℕ) (part : AppState) (text rest : List ℕ) (most : ℕ) → here part ≡ true → fine polls part ≡ true → left part ≤ most → (part.input ++ text) ++ rest ≡ a.request →
       (fine polls (delivers_text m numbers part text).part ≡ true) × (left (delivers_text m numbers part text).part ≤ most)
-  received_fine polls l numbers part [] rest most good few joined = (good, few)
-  received_fine polls l numbers part (y ∷ ys) rest most good few joined =
-      let more = (answering.answers polls l).delivers_text numbers part (y ∷ ys) rest good joined in (more.0, omega (arith, more.1, few))
+  received_fine polls l numbers part [] rest most at good few joined = (good, few)
+  received_fine polls l numbers part (y ∷ ys) rest most at good few joined =
+      let more = answering.delivers_text polls l numbers part (y ∷ ys) rest at good joined in (more.0, omega (arith, more.1, few))
 
   -- what the environment of a step gives
   pub record Snapshots (at : Connection → Now) (o : Outcome) : Type 0 where
@@ -330,7 +340,7 @@ module _ (m : AppSpec) (pages : Pages) (lawful : IsPaged m pages) (p : Sockets) 
   asked_after polls l at s older o next taken iss acked age most part k prefix b bound good few e snapshots =
       let delivered : After = delivers_text m next part s.text in
       let d : Connection = conn_at Established (taken + length s.text) iss acked 0 age delivered.part in
-      let f = received_fine polls l next part s.text prefix.rest most good few (ap (λ t. (t ++ s.text) ++ prefix.rest) b.input ∙ prefix.joined) in
+      let f = received_fine polls l next part s.text prefix.rest most b.at_port good few (ap (λ t. (t ++ s.text) ++ prefix.rest) b.input ∙ prefix.joined) in
       let z : Outcome = leaves d delivered.numbers (Step.Ask (has_text s)) in
       let given : Snapshots at z = subst (λ (y : Outcome). Snapshots at y) e snapshots in
       subst (λ (y : Outcome). (let r : Outcome = asked m at y in Next polls (met (Some s) (segment_of m r.connection r.step) ∷ older) r.connection)) (sym e)
@@ -416,27 +426,31 @@ module _ (m : AppSpec) (pages : Pages) (lawful : IsPaged m pages) (p : Sockets) 
     | at_syn iss age part k e syn y ↦
         (let d : Connection = conn_at SynRcvd 0 iss 0 1 age part in
         let start : After = m.connected numbers p.own_port.0 in
-        let begins = (answering.answers polls l).starts numbers p.own_port.0 in
+        let begins = answering.starts polls l numbers in
+        let opens = lawful.connected numbers in
         subst (λ (z : Connection). Answered polls at z numbers s older) (sym e)
         (asked_after polls l at s older (on_segment m d numbers s) start.numbers 0 iss (0 + 1) 0 texts start.part k prefix
         record {
-          input = lawful.connected_input numbers p.own_port.0 ∙ sym syn.received;
+          at_port = opens.at_port;
+          input = opens.input ∙ sym syn.received;
           is_taken = ap length (sym syn.received);
-          is_acked = ap (λ n. 1 + n) (sym (lawful.connected_acked numbers p.own_port.0));
-          fits = (let z = lawful.connected_acked numbers p.own_port.0 in omega (arith, z));
-          has = syn.has ∙ ap (λ n. take n (page start.part)) (sym (lawful.connected_acked numbers p.own_port.0));
+          is_acked = ap (λ n. 1 + n) (sym opens.acked);
+          fits = (let z = opens.acked in omega (arith, z));
+          has = syn.has ∙ ap (λ n. take n (page start.part)) (sym opens.acked);
         }
         (bare_more s older texts (let z = syn.none in omega (arith, z))) begins.0 begins.1 (first_row numbers iss age part s older k syn h same) (subst (λ (z : Connection). Snapshots at (on_segment m z numbers s)) e snapshots)))
     | reported taken iss acked len age most part k e t w b early ↦
         (let d : Connection = conn_at Established taken iss acked len age part in
         let reported_it : After = m.acked numbers part len in
+        let moves = lawful.acked numbers part len t.at_port in
         let fewer : ℕ = left reported_it.part in
-        let page_same : page reported_it.part ≡ page part = ap (λ z. pages.page z reported_it.part.snapshots) (lawful.acked_input numbers part len) ∙ ap (λ z. pages.page part.input z) (lawful.acked_snapshots numbers part len) in
-        let moved : reported_it.part.acked ≡ part.acked + len = lawful.acked_moves numbers part len in
+        let page_same : page reported_it.part ≡ page part = ap (λ z. pages.page z reported_it.part.snapshots) moves.input ∙ ap (λ z. pages.page part.input z) moves.snapshots in
+        let moved : reported_it.part.acked ≡ part.acked + len = moves.acked in
         subst (λ (z : Connection). Answered polls at z numbers s older) (sym e)
         (asked_after polls l at s older (on_segment m d numbers s) reported_it.numbers taken iss (acked + len) 0 fewer reported_it.part k prefix
         record {
-          input = lawful.acked_input numbers part len ∙ t.input;
+          at_port = moves.at_port;
+          input = moves.input ∙ t.input;
           is_taken = t.is_taken;
           is_acked = (let z = t.is_acked in omega (arith, z, moved));
           fits = (let z = t.fits in let y = ap length page_same in omega (arith, z, moved, y));
@@ -449,6 +463,7 @@ module _ (m : AppSpec) (pages : Pages) (lawful : IsPaged m pages) (p : Sockets) 
         subst (λ (z : Connection). Answered polls at z numbers s older) (sym e)
         (asked_after polls l at s older (on_segment m d numbers s) numbers taken iss acked age most part k prefix
         record {
+          at_port = t.at_port;
           input = t.input;
           is_taken = t.is_taken;
           is_acked = t.is_acked;
@@ -506,7 +521,7 @@ module _ (m : AppSpec) (pages : Pages) (lawful : IsPaged m pages) (p : Sockets) 
       let c : Connection = conn_at Established taken iss acked len age part in let r : Outcome = asked m at (by_beat m b c numbers) in
       ((u : PlainSegment) → segment_of m r.connection r.step ≡ Some u → has_rst u.flags ≡ false) → Stage polls (met None (segment_of m r.connection r.step) ∷ older) r.connection
   text_beat polls at Beat.Wait taken iss acked len age most part numbers older k snapshots t w bound y q h = reported taken iss acked len (age + 1) most part k refl (session_kept_quiet older part taken acked len t) w bound (timed_waits 8 older age (inr refl) y q)
-  text_beat polls at Beat.Again taken iss acked len age most part numbers older k snapshots t w bound y q h = reported taken iss acked len (age + 1) most part k refl (text_again older taken iss acked len (age + 1) part k snapshots w.some t) w bound (timed_again 8 (text_segment m (conn_at Established taken iss acked len (age + 1) part)) older age (inr refl) (text_placed taken iss acked len (age + 1) part w.some t.fits) y)
+  text_beat polls at Beat.Again taken iss acked len age most part numbers older k snapshots t w bound y q h = reported taken iss acked len (age + 1) most part k refl (text_again older taken iss acked len (age + 1) part k snapshots w.some t) w bound (timed_again 8 (text_segment m (conn_at Established taken iss acked len (age + 1) part)) older age (inr refl) (text_placed taken iss acked len (age + 1) part t.at_port w.some t.fits) y)
   text_beat polls at Beat.GiveUp taken iss acked len age most part numbers older k snapshots t w bound y q h = absurd (let c : Connection = conn_at Established taken iss acked len age part in let z = h (reset_of (closes c)) refl in cc)
 
   -- what a call leaves: the polls so far
@@ -524,17 +539,19 @@ module _ (m : AppSpec) (pages : Pages) (lawful : IsPaged m pages) (p : Sockets) 
   polled_waits polls at older numbers taken iss acked age most part l k t n r b snapshots =
       let delivered : After = m.polled numbers part in
       let d : Connection = conn_at Established taken iss acked 0 age delivered.part in
-      let alike = lawful.polled_same numbers part in
-      let f = answering.waits polls numbers part l r.good in
+      let alike = lawful.polled numbers part t.at_port in
+      let still : delivered.part.acked ≡ part.acked = alike.acked ∙ (let z : part.acked + 0 ≡ part.acked = omega arith in z) in
+      let f = answering.waits polls numbers part l t.at_port r.good in
       let same : page delivered.part ≡ page part = ap (λ z. pages.page z delivered.part.snapshots) alike.input ∙ ap (λ z. pages.page part.input z) alike.snapshots in
       let none : text_received older ++ [] ≡ text_received older = append_nothing (text_received older) in
       let ready : Ready None older delivered.part taken acked most = record {
+        at_port = alike.at_port;
         input = alike.input ∙ t.input ∙ sym none;
         is_taken = t.is_taken ∙ ap length (sym none);
         asked = subst (λ z. IsPrefixOf z a.request) (sym none) t.asked;
-        is_acked = t.is_acked ∙ ap (λ j. 1 + j) (sym alike.acked);
-        fits = (let z = t.fits in let y = ap length same in let x = alike.acked in omega (arith, z, y, x));
-        has = t.has ∙ ap (λ j. take j (page part)) (let x = alike.acked in let z : part.acked + 0 ≡ delivered.part.acked = omega (arith, x) in z) ∙ ap (λ z. take delivered.part.acked z) (sym same);
+        is_acked = t.is_acked ∙ ap (λ j. 1 + j) (sym still);
+        fits = (let z = t.fits in let y = ap length same in omega (arith, z, y, still));
+        has = t.has ∙ ap (λ j. take j (page part)) (let z : part.acked + 0 ≡ delivered.part.acked = omega (arith, still) in z) ∙ ap (λ z. take delivered.part.acked z) (sym same);
         bound = b;
       } in
       record {

@@ -21,6 +21,7 @@ pub mod Slots
 pub mod GoodNodes
 pub mod HonestSessions
 pub mod Waiting
+pub mod Paging
 pub mod HonestConnections
 pub mod Arriving
 pub mod HonestPeers

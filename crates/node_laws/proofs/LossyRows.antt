@@ -1,5 +1,6 @@
 -- A peer on a link that loses and repeats, computed from the definitions alone: a lost SYN-ACK, and a lost text.
-use Rattle.node_laws.proofs.Prelude.{◌≡◌, ◌+◌, ℕ, false, inl, inr, List, [], ◌∷◌, map, is_some, length, refl, arith, Some, None, PlainSegment, has_rst, SYN, PSH, ACK, hello, idles, peer_closes, stays_established, in_established, fin_acked, fin_waits, on_segment, rests_on, ticks_established, Periodic, happened, opens_in, for_no_connection, only_some, Asker, IsLossy, fresh, retransmissions, text_received, bare_acks, receives_all, Exchange}
+use Rattle.node_laws.proofs.Prelude.{◌≡◌, ◌+◌, ℕ, false, List, [], ◌∷◌, map, is_some, length, refl, arith, Some, None, PlainSegment, has_rst, SYN, PSH, ACK, hello, idles, peer_closes, stays_established, in_established, fin_acked, fin_waits, on_segment, rests_on, ticks_established, Periodic, happened, opens_in, for_no_connection, only_some, Asker, IsLossy, fresh, retransmissions, text_received, bare_acks, receives_all, Exchange}
+use Rattle.node_laws.specs.LossyPeers.IsOverLoss.{receives_next, receives_nothing, receives_stale}
 use Rattle.node_laws.proofs.Rows.{says, session_over, reported}
 
 abbrev segment : ℕ → ℕ → List ℕ → PlainSegment
@@ -46,33 +47,33 @@ has_page = refl
 is_lossy : IsLossy asker lossy
 unfolding idles peer_closes stays_established in_established fin_acked fin_waits on_segment rests_on ticks_established happened opens_in for_no_connection
 is_lossy = (
-  inr (inl record { segment = segment 1002 7 []; received = refl; syn = refl; fin = refl; rst = refl; acks = refl; seq = refl; part = record { rest = []; joined = refl }; ack = refl; window = omega arith; some = λ e. refl }),
+  receives_next (record { segment = segment 1002 7 []; received = refl; syn = refl; fin = refl; rst = refl; acks = refl; seq = refl; part = record { rest = []; joined = refl }; ack = refl; window = omega arith; some = λ e. refl }),
   (
-    inl (refl, omega arith),
+    receives_nothing refl (omega arith),
     (
-      inl (refl, omega arith),
+      receives_nothing refl (omega arith),
       (
-        inr (inr record { segment = segment 1002 1 []; received = refl; rst = refl; stale = refl; window = λ e. omega arith }),
+        receives_stale (record { segment = segment 1002 1 []; received = refl; rst = refl; stale = refl; window = λ e. omega arith }),
         (
-          inr (inr record { segment = segment 1001 1 (120 ∷ []); received = refl; rst = refl; stale = refl; window = λ e. omega arith }),
+          receives_stale (record { segment = segment 1001 1 (120 ∷ []); received = refl; rst = refl; stale = refl; window = λ e. omega arith }),
           (
-            inl (refl, omega arith),
+            receives_nothing refl (omega arith),
             (
-              inl (refl, omega arith),
+              receives_nothing refl (omega arith),
               (
-                inr (inl record { segment = segment 1001 1 (120 ∷ []); received = refl; syn = refl; fin = refl; rst = refl; acks = refl; seq = refl; part = record { rest = []; joined = refl }; ack = refl; window = omega arith; some = λ e. absurd (cc) }),
+                receives_next (record { segment = segment 1001 1 (120 ∷ []); received = refl; syn = refl; fin = refl; rst = refl; acks = refl; seq = refl; part = record { rest = []; joined = refl }; ack = refl; window = omega arith; some = λ e. absurd (cc) }),
                 (
-                  inr (inl record { segment = segment 1001 1 []; received = refl; syn = refl; fin = refl; rst = refl; acks = refl; seq = refl; part = record { rest = 120 ∷ []; joined = refl }; ack = refl; window = omega arith; some = λ e. refl }),
+                  receives_next (record { segment = segment 1001 1 []; received = refl; syn = refl; fin = refl; rst = refl; acks = refl; seq = refl; part = record { rest = 120 ∷ []; joined = refl }; ack = refl; window = omega arith; some = λ e. refl }),
                   (
-                    inl (refl, omega arith),
+                    receives_nothing refl (omega arith),
                     (
-                      inl (refl, omega arith),
+                      receives_nothing refl (omega arith),
                       (
-                        inl (refl, omega arith),
+                        receives_nothing refl (omega arith),
                         (
-                          inl (refl, omega arith),
+                          receives_nothing refl (omega arith),
                           (
-                            inr (inr record { segment = syn; received = refl; rst = refl; stale = refl; window = λ e. omega arith }),
+                            receives_stale (record { segment = syn; received = refl; rst = refl; stale = refl; window = λ e. omega arith }),
                             record { syn = syn; received = refl; number = refl; mss = refl; text = refl; answer = record { seq = 0; ack = 1001; flags = SYN + ACK; window = 1460; mss = Some 1460; text = [] }; output = refl; answers = refl; seq = refl },
                           ),
                         ),

@@ -1,5 +1,5 @@
 -- The age of what awaits an acknowledgement, by the retransmissions that the exchanges show.
-use Rattle.node_laws.proofs.Prelude.{option_map_or, ◌≡◌, ℕ, zero, suc, ◌+◌, ◌<◌, ◌≤◌, Bool, true, false, if◌then◌else◌, ◌&&◌, ◌⊎◌, inl, inr, List, [], ◌∷◌, refl, sym, ap, ◌∙◌, subst, arith, Option, Some, None, is_some, take, eqb, eq-eqb, cases_lt, list_any, PlainSegment, ages, beat_at, give_up_age, Beat, occupies_sequence_space, choose, eqb-eq, both_ways, Exchange, awaits_ack, retransmissions, retransmission_limit}
+use Rattle.node_laws.proofs.Prelude.{option_map_or, ◌≡◌, ℕ, zero, suc, ◌+◌, ◌<◌, ◌≤◌, Bool, true, false, if◌then◌else◌, ◌&&◌, ◌⊎◌, inl, inr, List, [], ◌∷◌, refl, sym, ap, ◌∙◌, subst, arith, Option, Some, None, is_some, take, eqb, eq-eqb, cases_lt, list_any, PlainSegment, ages, beat_at, give_up_age, Beat, occupies_sequence_space, choose, eqb-eq, both_ways, Exchange, awaits_ack, in_handshake, retransmissions, retransmission_limit}
 use Rattle.node_laws.proofs.Lines.{quiet, met}
 
 -- Something awaits an acknowledgement. Before the last retransmission its age is below that of the next one.
@@ -136,6 +136,4 @@ timed_syn syn answer o = record { awaits = o; early = λ l. omega arith }
 -- ---- the limit
 
 pub limit_low : (incarnation : List Exchange) → retransmission_limit incarnation ≤ 8
-limit_low [] = omega arith
-limit_low (x ∷ []) = omega arith
-limit_low (x ∷ y ∷ older) = choose (λ n. n ≤ 8) (is_some x.received) 8 (retransmission_limit (y ∷ older)) (λ e. omega arith) (λ e. limit_low (y ∷ older))
+limit_low incarnation = choose (λ n. n ≤ 8) (in_handshake incarnation) 5 8 (λ e. omega arith) (λ e. omega arith)

@@ -1,8 +1,8 @@
--- A cooperating peer on a link that loses, repeats and reorders datagrams (RFC 793, section 1.5, "Reliability"; section 3.9). It asks, and
--- acknowledges each segment of the node at some time before the node gives up. Any other copies and old segments of it may arrive. It has
--- its whole page and a FIN after a stated number of acknowledgements that are new, and the connection is not reset.
+-- A cooperating peer over a link that loses, repeats and reorders datagrams (RFC 793, section 1.5, "Reliability"). It sends a request, and
+-- acknowledges each segment of the node before the node gives up. Copies and old segments of it may arrive between. Its whole page and a FIN
+-- arrive after a stated number of new acknowledgements, and the connection is not reset before.
 use Rattle.std.specs.Option.{option_map_or}
-use Rattle.std.specs.Prelude.{◌≡◌, ◌+◌, ◌<◌, ◌≤◌, ◌==◌, ◌&&◌, ◌⊎◌, [], All, Bool, false, List, not, true, ℕ}
+use Rattle.std.specs.Prelude.{◌≡◌, ◌+◌, ◌<◌, ◌≤◌, ◌==◌, ◌&&◌, [], All, Bool, false, List, not, true, ℕ}
 use Rattle.std.specs.Prelude.{◌∷◌, ◌++◌, length, drop, Some, None, is_some, if◌then◌else◌}
 use Rattle.uip_wire.specs.Prelude.{wrap}
 use Rattle.uip_wire.specs.declared.addr.Addr.{Addr}
@@ -16,20 +16,20 @@ use Rattle.node_laws.specs.Traces.{Exchange, TraceEntry, exchanges_with, receive
 use Rattle.node_laws.specs.Turns.{trace_of}
 use Rattle.node_laws.specs.Wire.{IsOfLine}
 
--- RCV.NXT of the node, by the text that it received: the number that it expects next
+-- RCV.NXT of the node (RFC 793, section 3.2), by the text that it received
 abbrev pub expected_next : Asker → List Exchange → ℕ
 expected_next a before = wrap (a.irs + 1 + length (text_received before))
 
--- SND.NXT of the node, by what it sent: the number after all its text
+-- SND.NXT of the node (RFC 793, section 3.2), by the text that it sent
 abbrev pub sent_next : Asker → List Exchange → ℕ
 sent_next a before = wrap (a.iss + 1 + length (receives_all a.iss before))
 
--- The segment acknowledges exactly what awaits an acknowledgement.
+-- SEG.ACK is SND.NXT, and something awaits an acknowledgement (RFC 793, section 3.4: a new one, SND.UNA < SEG.ACK =< SND.NXT).
 abbrev pub acknowledges_new : Asker → List Exchange → PlainSegment → Bool
 acknowledges_new a before s = has_ack s.flags && (awaits_ack before && (s.ack == sent_next a before))
 
--- The segment is a repeated, old or early one. With SYN, text or FIN it has another number than the one expected. Without these it
--- acknowledges nothing new.
+-- A copy that the link repeated, or delivered late or out of order. With SYN, text or FIN its SEG.SEQ is not RCV.NXT (RFC 793, section 3.9,
+-- "first check sequence number"). Without these it acknowledges nothing new.
 abbrev pub is_stale : Asker → List Exchange → PlainSegment → Bool
 is_stale a before s =
     if occupies_sequence_space s then not (s.seq == expected_next a before) else not (acknowledges_new a before s)
@@ -44,7 +44,7 @@ fresh a [] = []
 fresh a (x ∷ []) = x ∷ []
 fresh a (x ∷ y ∷ older) = with_fresh a x (fresh a (y ∷ older))
 
--- How often the node sent again what awaits an acknowledgement: segments with SYN, text or FIN, since one was last received.
+-- How often the node retransmitted what is outstanding (RFC 793, section 3.7): segments with SYN, text or FIN, since one was last received.
 abbrev pub retransmissions : List Exchange → ℕ
 retransmissions [] = 0
 retransmissions (x ∷ older) =
@@ -52,19 +52,17 @@ retransmissions (x ∷ older) =
     else if option_map_or occupies_sequence_space x.output false && awaits_ack older then retransmissions older + 1
     else retransmissions older
 
--- The node sends a SYN again at most five times, and text or a FIN eight times. The first segment received after the SYN of the peer ends
--- the first case.
+-- After its SYN no segment of the peer was received: the node is in SYN-RECEIVED (RFC 793, section 3.4).
+abbrev pub in_handshake : List Exchange → Bool
+in_handshake [] = true
+in_handshake (x ∷ []) = true
+in_handshake (x ∷ y ∷ older) = if is_some x.received then false else in_handshake (y ∷ older)
+
+-- How often the node retransmits before it gives up (RFC 1122, section 4.2.3.5): a SYN five times, text or a FIN eight times.
 abbrev pub retransmission_limit : List Exchange → ℕ
-retransmission_limit [] = 5
-retransmission_limit (x ∷ []) = 5
-retransmission_limit (x ∷ y ∷ older) = if is_some x.received then 8 else retransmission_limit (y ∷ older)
+retransmission_limit exchanges = if in_handshake exchanges then 5 else 8
 
--- The exchange received nothing, and the last retransmission is still to come.
-abbrev pub IsAwaited : Exchange → List Exchange → Type 0
-IsAwaited x before = (x.received ≡ None) × (retransmissions before < retransmission_limit before)
-
--- The exchange received a stale segment: a copy that the link repeated, or one that it delivered late or out of order. Its window admits
--- the longest text, unless it is discarded for its number.
+-- The exchange received a stale segment without RST. If the node does not discard it for its number, its window admits the longest text.
 pub record ReceivesStale (a : Asker) (x : Exchange) (before : List Exchange) : Type 0 where
   pub segment : PlainSegment
   pub received : x.received ≡ Some segment
@@ -72,17 +70,21 @@ pub record ReceivesStale (a : Asker) (x : Exchange) (before : List Exchange) : T
   pub stale : is_stale a before segment ≡ true
   pub window : occupies_sequence_space segment ≡ false → a.mss ≤ segment.window
 
--- After its handshake each exchange receives nothing, the next segment of the peer, or a stale one. What is next is seen by the fresh
--- exchanges before.
+-- One exchange of the peer over a lossy link. It received nothing, and a retransmission is left. Or it received the next segment of the
+-- peer, or a stale one.
+pub data IsOverLoss (a : Asker) (x : Exchange) (before : List Exchange) : Type 0 where
+  receives_nothing : x.received ≡ None → retransmissions before < retransmission_limit before → IsOverLoss a x before
+  receives_next : SendsNext a x before → IsOverLoss a x before
+  receives_stale : ReceivesStale a x before → IsOverLoss a x before
+
+-- The first exchange is that of the SYN of the peer. Each later one is such an exchange, after the fresh ones before it.
 abbrev pub IsLossy : Asker → List Exchange → Type 0
 IsLossy a [] = ⊥
 IsLossy a (x ∷ []) = SendsSyn a x
-IsLossy a (x ∷ y ∷ older) =
-    (IsAwaited x (fresh a (y ∷ older)) ⊎ (SendsNext a x (fresh a (y ∷ older)) ⊎ ReceivesStale a x (fresh a (y ∷ older))))
-    × IsLossy a (y ∷ older)
+IsLossy a (x ∷ y ∷ older) = IsOverLoss a x (fresh a (y ∷ older)) × IsLossy a (y ∷ older)
 
--- An incarnation of a cooperating peer on a lossy link, in this trace. At first only its SYN is received, and stale segments. Then its
--- whole request is received, in order, before any slot is called more often than the patience of the application.
+-- An incarnation of a cooperating peer on a lossy link, in this trace. While it opens, its SYN and stale segments alone are received. While
+-- it asks, its whole request is received, and no slot is called more often than the patience of the application.
 pub record AsksOverLoss (a : Asker) (p : Sockets) (patience : ℕ) (trace incarnation : List TraceEntry) : Type 0 where
   pub before : List TraceEntry
   pub opening : List TraceEntry
@@ -91,11 +93,11 @@ pub record AsksOverLoss (a : Asker) (p : Sockets) (patience : ℕ) (trace incarn
   pub split : trace ≡ before ++ incarnation
   pub joined : incarnation ≡ opening ++ (asking ++ later)
   pub lossy : IsLossy a (exchanges_with p incarnation)
-  pub handshake : retransmission_limit (fresh a (exchanges_with p opening)) ≡ 5
+  pub handshake : in_handshake (fresh a (exchanges_with p opening)) ≡ true
   pub whole : text_received (fresh a (exchanges_with p (opening ++ asking))) ≡ a.request
   pub prompt : (slot : ℕ) → calls_of slot asking ≤ patience
 
--- A segment was received that acknowledges everything before this number.
+-- A segment was received whose SEG.ACK is this number: everything before it is acknowledged (RFC 793, section 3.3).
 pub record HasAcknowledged (incarnation : List Exchange) (number : ℕ) : Type 0 where
   pub place : ℕ
   pub segment : PlainSegment
@@ -103,15 +105,15 @@ pub record HasAcknowledged (incarnation : List Exchange) (number : ℕ) : Type 0
   pub acks : has_ack segment.flags ≡ true
   pub ack : segment.ack ≡ number
 
--- The whole page was sent, and a FIN after it. When the FIN was sent everything before it was acknowledged, and no RST was received or sent.
+-- The whole page was sent, and a FIN after it. When the FIN was sent, everything before it was acknowledged, and no RST was received or
+-- sent.
 pub record Arrives (pages : Pages) (a : Asker) (incarnation : List Exchange) : Type 0 where
   pub page : HasItsPage pages a incarnation
   pub acknowledged : HasAcknowledged (drop page.ends.place incarnation) page.ends.segment.seq
   pub unreset : All IsWithoutReset (drop page.ends.place incarnation)
 
--- Every cooperating peer of this trace arrives at the end of its page. It asks over a link that loses, repeats and reorders datagrams, and
--- acknowledges what is outstanding before the last retransmission. After more such acknowledgements without text than the application needs
--- segments, its whole page and a FIN were sent, and all of it was acknowledged.
+-- Every cooperating peer of this trace arrives at the end of its page, over a link that loses, repeats and reorders datagrams. The
+-- application answers its request in this number of texts. Then more fresh acknowledgements without text suffice.
 abbrev pub ArrivesIn : AppSpec → Pages → List TraceEntry → Type 0
 ArrivesIn m pages trace =
     (a : Asker) (p : Sockets) (fine : ℕ → AppState → Bool) (left : AppState → ℕ) (texts patience : ℕ)
