@@ -1,6 +1,8 @@
 -- How the trace of a device on a link of frames conforms, move by move.
 use Rattle.frame_device.proofs.Prelude.{All, flat_map, ◌≡◌, ℕ, Bool, List, [], ◌∷◌, ◌++◌, map, refl, sym, ap, ◌∙◌, subst, append-nil, append_assoc, All-append, All-cons, All-head, All-nil, All-tail, IsAddr, IsPaged, IsU32, Pages, AppSpec, Ghosts, Addr, event_of, Event, HasBytes, AbstractNode, run, MediumInput, Datagram, Overlong, Own, MediumSpec, StationEvent, OfMedium, OfNode, Station, station_after, station_after_all, output, output_of_event, CarriesBytes, station_event_by, events_among, text_in, TraceConforms, at_every_port, TraceEntry, trace_of, IsOfLine, IsDecoded, of_bytes, of_overlong, of_call, every_step, paged_everywhere, steady_of, page_bytes, OutputModel, HasOutputModel, IsSteady, SendsBytes, turn_events, DecodesBytes, FrameSpec, acts_before, as_medium, AnsweredFrame, AnswersAllFrames, CallsSlot, DoesNothing, FrameCall, FrameMove, Gives, InputsFrame, IsFreshFrameDevice, Makes, RepresentsStation, Writing, station_after_move, station_events_by, station_events_of_move, frame_moves_of, with_value, initial_station, AllHandOut, HandsOutFrame, IsFrameOfBytes, FrameTrace, FramesConform, KeepsU32, acts_in, FrameDevice}
 use Rattle.uip_node.specs.Events.Event.{Overlong as OverlongFrame, Periodic}
+use Rattle.node_laws.proofs.HonestPeers.{arrives_over_steps}
+use Rattle.node_laws.specs.LossyPeers.{ArrivesIn}
 use Rattle.node_laws.proofs.Steps.{Changes, OfNode as HappensAt, IsStep, LineStep, all_happen, trace_over, turns_then}
 use Rattle.frame_device.specs.declared.frames.Frames.{Ghosts as FramesGhosts}
 use Rattle.frame_device.proofs.MoveLaws.{MovesOn, moves_on}
@@ -131,7 +133,7 @@ module _ {A S M : Type 0} (g : Ghosts A S) (h : FramesGhosts M) (k : h.Config) (
 
   pub keeps_frames_by : (model : ℕ → OutputModel) → IsSteady m → SendsBytes m → HasOutputModel m model → KeepsU32 gives → DecodesBytes (h.spec k) → (numbers : List ℕ) → All IsU32 numbers → IsAddr own
       → (all : List AnsweredFrame) → All IsFrameOfBytes (frame_moves_of all) → (old new : FrameDevice A M S) → IsFreshFrameDevice g h k m numbers own old → AnswersAllFrames g h gives all old new
-      → FramesConform (h.spec k) model g.served own all
+      → FramesConform (h.spec k) m model g.served own all
   keeps_frames_by model steady bytes speaks low decodes numbers words is all brought old new fresh answered =
       let steps : List LineStep = steps_of own (h.spec k) gives (frame_moves_of all) in
       let t = in_turns all old new (initial_station own numbers) fresh.represented answered in
@@ -142,10 +144,11 @@ module _ {A S M : Type 0} (g : Ghosts A S) (h : FramesGhosts M) (k : h.Config) (
         each = t.each;
         keeps = subst (λ (l : List TraceEntry). TraceConforms model g.served l) (sym t.turns) kept.0;
         read = subst (λ (l : List TraceEntry). All (IsDecoded own) l) (sym t.turns) kept.1;
+        arrives = λ pages lawful. subst (λ (l : List TraceEntry). ArrivesIn m pages l) (sym t.turns) (arrives_over_steps m pages lawful g.served own numbers words steps (steps_are own (h.spec k) decodes gives low (frame_moves_of all) brought));
       }
 
   -- of pages at every port
   pub keeps_frames : (pages : Pages) → IsPaged m pages → HasBytes pages → KeepsU32 gives → DecodesBytes (h.spec k) → (numbers : List ℕ) → All IsU32 numbers → IsAddr own
       → (all : List AnsweredFrame) → All IsFrameOfBytes (frame_moves_of all) → (old new : FrameDevice A M S) → IsFreshFrameDevice g h k m numbers own old → AnswersAllFrames g h gives all old new
-      → FramesConform (h.spec k) (at_every_port pages) g.served own all
+      → FramesConform (h.spec k) m (at_every_port pages) g.served own all
   keeps_frames pages lawful page = keeps_frames_by (at_every_port pages) (steady_of m pages lawful) (page_bytes m pages lawful page) (paged_everywhere m pages lawful)

@@ -5,6 +5,8 @@ use Rattle.frame_device.specs.ProgramKeeping.{ProgramConforms}
 use Rattle.frame_device.proofs.HomeLaws.{call_home}
 use Rattle.frame_device.proofs.KeepLaws.{acts_after, call_hands_out, call_of_line, node_after, turns_of_call}
 use Rattle.frame_device.proofs.Newest.{newest_in_each_slot, node_over}
+use Rattle.node_laws.proofs.HonestPeers.{arrives_over_steps}
+use Rattle.node_laws.specs.LossyPeers.{ArrivesIn}
 use Rattle.node_laws.proofs.Steps.{Changes, OfNode as HappensAt, IsStep, LineStep, all_happen, trace_over, turns_then}
 
 module _ {Call C : Type 0} (program : Program Call C) (m : AppSpec) (served : ℕ → Bool) (w : FrameSpec C) (own : Addr) where
@@ -148,6 +150,7 @@ module _ {Call C : Type 0} (program : Program Call C) (m : AppSpec) (served : �
             each = t.each;
             keeps = subst (λ (l : List TraceEntry). TraceConforms model served l) (sym t.turns) kept.0;
             read = subst (λ (l : List TraceEntry). All (IsDecoded own) l) (sym t.turns) kept.1;
+            arrives = λ pages lawful. subst (λ (l : List TraceEntry). ArrivesIn m pages l) (sym t.turns) (arrives_over_steps m pages lawful served own numbers words steps are);
           };
           newest = subst (λ (l : List TraceEntry). NewestInEachSlot model (after_program_calls program m served w own calls s).node l) (sym t.turns)
               (subst (λ (n : AbstractNode). NewestInEachSlot model n (trace_over m served steps s.node)) (nodes_are calls s)

@@ -1,8 +1,8 @@
 -- How the trace of a device on a link of frames conforms, move by move.
 use Rattle.std.specs.Prelude.{◌≡◌, ◌≤◌, ◌∷◌, ◌++◌, [], All, Bool, flat_map, length, List, map, ℕ, ⊤}
-use Rattle.app_events.specs.Prelude.{IsByte, IsU32}
+use Rattle.app_events.specs.Prelude.{AppSpec, IsByte, IsPaged, IsU32, Pages}
 use Rattle.uip_wire.specs.declared.addr.Addr.{Addr}
-use Rattle.node_laws.specs.Prelude.{OutputModel, TraceConforms, TraceEntry, IsDecoded}
+use Rattle.node_laws.specs.Prelude.{ArrivesIn, OutputModel, TraceConforms, TraceEntry, IsDecoded}
 use Rattle.serve_loop.specs.Prelude.{StationEvent, OfMedium, OfNode}
 use Rattle.line_laws.specs.Prelude.{events_among, text_in}
 use Rattle.frame_device.specs.FrameCalls.{AnsweredFrame, FrameMove, Gives, InputsFrame, Makes, Writing, station_events_of_move}
@@ -42,11 +42,13 @@ AllHandOut w own acts (it ∷ more) =
     HandsOutFrame w own acts it × AllHandOut w own (acts ++ acts_in (station_events_of_move w own it.answered.move)) more
 
 -- Moves of a fresh device were answered so in turn. Each writes the frame of what is sent in entries of its own. The trace of all moves
--- conforms, and each segment is read by its peer.
-pub record FramesConform {A : Type 0} (w : FrameSpec A) (model : ℕ → OutputModel) (served : ℕ → Bool)
+-- conforms, and each segment is read by its peer. If the output of the application is a page, each cooperating peer has its whole page, over
+-- any link that does not lose too much.
+pub record FramesConform {A : Type 0} (w : FrameSpec A) (m : AppSpec) (model : ℕ → OutputModel) (served : ℕ → Bool)
     (own : Addr) (all : List AnsweredFrame) : Type 0 where
   pub moves : List FrameTrace
   pub answered : map (λ it. it.answered) moves ≡ all
   pub each : AllHandOut w own [] moves
   pub keeps : TraceConforms model served (flat_map (λ it. it.turns) moves)
   pub read : All (IsDecoded own) (flat_map (λ it. it.turns) moves)
+  pub arrives : (pages : Pages) → IsPaged m pages → ArrivesIn m pages (flat_map (λ it. it.turns) moves)

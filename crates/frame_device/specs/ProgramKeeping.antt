@@ -14,6 +14,6 @@ use Rattle.frame_device.specs.ProgramCalls.{AnsweredBy, Program, after_program_c
 -- CLOSED is that of this connection.
 pub record ProgramConforms {Call C : Type 0} (program : Program Call C) (m : AppSpec) (served : ℕ → Bool) (w : FrameSpec C) (own : Addr)
     (model : ℕ → OutputModel) (numbers : List ℕ) (all : List (AnsweredBy Call)) : Type 0 where
-  pub frames : FramesConform w model served own (frames_made program all)
+  pub frames : FramesConform w m model served own (frames_made program all)
   pub newest : NewestInEachSlot model (after_program_calls program m served w own (program_calls all) (initial_station own numbers)).node
       (flat_map (λ it. it.turns) frames.moves)

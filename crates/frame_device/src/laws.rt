@@ -34,7 +34,7 @@ pub fn frame_calls_keep_the_promise<A: App, M: Frames>()
         → (gives : Writing) → KeepsU32 gives → (numbers : List ℕ) → All IsU32 numbers → (own : Addr) → IsAddr own
         → (all : List AnsweredFrame) → All IsFrameOfBytes (frame_moves_of all) → (old new : AnyDevice A M A.Shared)
         → IsFreshFrameDevice A.App M.Frames k m numbers own old → AnswersAllFrames A.App M.Frames gives all old new
-        → FramesConform (M.spec k) model A.served own all }
+        → FramesConform (M.spec k) m model A.served own all }
 {}
 
 /// Over Ethernet, if every address is on the link, a call writes what `ether_medium` sends on a line for the same events, without the

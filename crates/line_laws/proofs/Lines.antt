@@ -1,5 +1,5 @@
 -- The output for a line is the text of the trace of its node.
-use Rattle.line_laws.proofs.Prelude.{All, ◌≡◌, ℕ, ◌+◌, ◌<◌, Bool, ap, List, [], ◌∷◌, ◌++◌, length, map, refl, All-append, All-cons, All-head, All-map, All-nil, All-tail, All-weaker, Addr, IsByte, AppSpec, Item, Byte, Quiet, tick, Periodic, AbstractNode, initial_node, choose, MediumInput, Datagram, Overlong, Own, MediumSpec, StationEvent, OfMedium, OfNode, Station, station_after, output, output_of_event, BringsBytes, IsItem, CarriesBytes, beat_on, station_event_by, station_events_after, station_events_of_line, tick_on, initial_station, is_beat, trace_of, IsOfLine, of_bytes, of_overlong, of_call, every_trace_conforms, turn_events, EveryLineConforms, events_among, text_in}
+use Rattle.line_laws.proofs.Prelude.{All, ◌≡◌, ℕ, ◌+◌, ◌<◌, Bool, ap, List, [], ◌∷◌, ◌++◌, length, map, refl, All-append, All-cons, All-head, All-map, All-nil, All-tail, All-weaker, Addr, IsByte, AppSpec, Item, Byte, Quiet, tick, Periodic, AbstractNode, initial_node, choose, MediumInput, Datagram, Overlong, Own, MediumSpec, StationEvent, OfMedium, OfNode, Station, station_after, output, output_of_event, BringsBytes, IsItem, CarriesBytes, beat_on, station_event_by, station_events_after, station_events_of_line, tick_on, initial_station, is_beat, trace_of, IsOfLine, of_bytes, of_overlong, of_call, every_trace_conforms, turn_events, EveryLineArrives, EveryLineConforms, events_among, text_in, ArrivesIn, HasOutputModel, IsAddr, IsSteady, IsU32, OutputModel, SendsBytes, TraceEntry, arrives_under_loss, at_every_port, page_bytes, paged_everywhere, steady_of, subst, sym}
 
 -- ---- what is written in the turns of a line
 
@@ -76,3 +76,25 @@ every_line {A = A} w decodes m model steady bytes speaks served numbers words ow
       };
       read = kept.1;
     }
+
+-- the events of a line
+pub events_of_line : {A : Type 0} (w : MediumSpec A) → BringsBytes w → (own : Addr) (pace : ℕ) (items : List Item) → All IsItem items → All (IsOfLine own) (events_among (station_events_of_line w own pace items))
+events_of_line w decodes own pace items low =
+    all_from_line own (station_events_of_line w own pace items) (after_from_line own w decodes pace [] items (All-nil IsByte) low)
+
+-- its trace is that of its events
+pub line_turns : {A : Type 0} (w : MediumSpec A) (decodes : BringsBytes w) (m : AppSpec) (model : ℕ → OutputModel) (steady : IsSteady m) (bytes : SendsBytes m) (speaks : HasOutputModel m model)
+    (served : ℕ → Bool) (numbers : List ℕ) (words : All IsU32 numbers) (own : Addr) (is : IsAddr own) (pace : ℕ) (items : List Item) (low : All IsItem items) →
+    (every_line w decodes m model steady bytes speaks served numbers words own is pace items low).line.turns ≡ trace_of m served (events_among (station_events_of_line w own pace items)) (initial_node own numbers)
+unfolding every_line
+line_turns w decodes m model steady bytes speaks served numbers words own is pace items low = refl
+
+pub every_line_arrives : {A : Type 0} (w : MediumSpec A) → BringsBytes w → EveryLineArrives w
+every_line_arrives w decodes m pages lawful made served numbers words own is pace items low =
+    let steady : IsSteady m = steady_of m pages lawful in
+    let bytes : SendsBytes m = page_bytes m pages lawful made in
+    let speaks : HasOutputModel m (at_every_port pages) = paged_everywhere m pages lawful in (
+      every_line w decodes m (at_every_port pages) steady bytes speaks served numbers words own is pace items low,
+      subst (λ (turns : List TraceEntry). ArrivesIn m pages turns) (sym (line_turns w decodes m (at_every_port pages) steady bytes speaks served numbers words own is pace items low))
+      (arrives_under_loss m pages lawful served own is numbers words (events_among (station_events_of_line w own pace items)) (events_of_line w decodes own pace items low)),
+    )

@@ -39,6 +39,7 @@ module _ (model : ℕ → OutputModel) (served : ℕ → Bool) (turns more : Lis
     asked = λ p newer x before e. k.asked p ((session_later p).more ++ newer) x before (within p newer (x ∷ before) e);
     ports = λ p newer x before e o. k.ports p ((session_later p).more ++ newer) x before (within p newer (x ∷ before) e) o;
     echoes = prefix_all IsEchoed turns more k.echoes;
+    retries = λ p s before waiting later split. k.retries p s before waiting (later ++ more) (ap (λ (l : List TraceEntry). l ++ more) split ∙ append_assoc before (waiting ++ later) more ∙ ap (λ (l : List TraceEntry). before ++ l) (append_assoc waiting later more));
   }
 
 -- ---- of a line

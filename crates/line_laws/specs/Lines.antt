@@ -1,10 +1,10 @@
 -- The guarantee for a line: for the station events of its items and the bytes written.
 use Rattle.std.specs.Prelude.{◌≡◌, ◌∷◌, ◌++◌, [], All, Bool, List, map, ℕ}
 use Rattle.uip_wire.specs.declared.addr.Addr.{Addr}
-use Rattle.app_events.specs.Prelude.{AppSpec, IsAddr, IsU32}
+use Rattle.app_events.specs.Prelude.{AppSpec, IsAddr, IsPaged, IsU32, Pages}
 use Rattle.uip_edge.specs.declared.item.Item.{Item}
-use Rattle.uip_node.specs.Prelude.{Event, IsSteady, SendsBytes}
-use Rattle.node_laws.specs.Prelude.{TraceEntry, TraceConforms, OutputModel, HasOutputModel, IsDecoded}
+use Rattle.uip_node.specs.Prelude.{Event, HasBytes, IsSteady, SendsBytes}
+use Rattle.node_laws.specs.Prelude.{TraceEntry, TraceConforms, OutputModel, HasOutputModel, IsDecoded, ArrivesIn, at_every_port}
 use Rattle.line_medium.specs.Prelude.{MediumSpec}
 use Rattle.serve_loop.specs.Prelude.{StationEvent, OfMedium, OfNode, reply_text, IsItem, station_events_of_line, output_by}
 
@@ -43,6 +43,15 @@ EveryLineConforms w =
     → (served : ℕ → Bool) (numbers : List ℕ) → All IsU32 numbers → (own : Addr) → IsAddr own
     → (pace : ℕ) (items : List Item) → All IsItem items
     → LineConformsRead w model served own (station_events_of_line w own pace items) (output_by w m served numbers own pace items)
+
+-- If the output of the application is a page, cooperating peers also arrive at the end of theirs over this medium, though it loses datagrams.
+abbrev pub EveryLineArrives : {A : Type 0} → MediumSpec A → Type 0
+EveryLineArrives w =
+    (m : AppSpec) (pages : Pages) → IsPaged m pages → HasBytes pages
+    → (served : ℕ → Bool) (numbers : List ℕ) → All IsU32 numbers → (own : Addr) → IsAddr own
+    → (pace : ℕ) (items : List Item) → All IsItem items
+    → (conforms : LineConformsRead w (at_every_port pages) served own (station_events_of_line w own pace items)
+    (output_by w m served numbers own pace items)) × ArrivesIn m pages conforms.line.turns
 
 -- Each prefix of a line that conforms is a line that conforms, whose output is a prefix: the guarantee holds at every point.
 abbrev pub PrefixConforms : {A : Type 0} → MediumSpec A → Type 0

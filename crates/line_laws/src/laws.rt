@@ -1,7 +1,7 @@
 //! The laws of a line.
 
 ghost use Rattle.serve_loop.specs.Prelude.{BringsBytes, slip_medium};
-ghost use Rattle.line_laws.specs.Prelude.{EveryLineConforms, PrefixConforms};
+ghost use Rattle.line_laws.specs.Prelude.{EveryLineArrives, EveryLineConforms, PrefixConforms};
 
 use line_medium::Medium;
 
@@ -13,6 +13,12 @@ pub fn every_line<M: Medium>()
 /// The same for a serial line.
 pub fn every_serial_line()
     ensures { EveryLineConforms slip_medium }
+{}
+
+/// Over every such medium the pages of cooperating peers arrive, though it loses, repeats and reorders datagrams, if the text of the
+/// application is a page of bytes.
+pub fn every_line_arrives<M: Medium>()
+    ensures { (k : M.Config) → BringsBytes (M.spec k) → EveryLineArrives (M.spec k) }
 {}
 
 /// If a line satisfies the guarantee, so does each prefix of it.

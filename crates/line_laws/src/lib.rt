@@ -3,4 +3,4 @@
 
 mod laws;
 
-pub use laws::{every_line, every_prefix, every_serial_line};
+pub use laws::{every_line, every_line_arrives, every_prefix, every_serial_line};

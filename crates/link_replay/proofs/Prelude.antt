@@ -13,7 +13,7 @@ unfoldable pub use Rattle.link_client.specs.Prelude.{aborts_by, again_by, client
 pub use Rattle.link_client.specs.declared.client_state.ClientState.{ClientState}
 pub use Rattle.link_client.specs.declared.client_state.ClientState.TheVariants.{Idle}
 pub use Rattle.link_client.specs.declared.setup.Setup.{Setup}
-pub use Rattle.link_replay.specs.Prelude.{AbortAndCloseApart, ActSteps, ActsEnd, AnswersTo, AppendsShown, AreFresh, AreTo, AreWorkedReplays, AreWorkedReports, AreWorkedSummaries, ClosesInTime, CodeSent, CodeSide, CodeWorld, DamageLoses, EndsReport, EndsWith, Follows, FromHere, HasReached, HitsAreCounted, HonestPages, HonestReplay, HonestWebPeer, IsAt, IsAtLast, IsFresh, IsHonest, IsLink, IsLoadText, IsPlayDue, IsReplayText, IsShort, IsTextDue, IsTo, KeepsPromises, LacksEither, LinesEnd, Link, LinkRepresents, LoadEnds, LoadIsReported, Matched, OnlyEpoch, OnlyFull, PagesAreReceived, PlaysSchedule, PostsOfClient, PostsReply, Reaches, Refuses, ReplayEnds, ReplayIsReported, SentRepresents, ServesHonest, ShownSide, SideRepresents, Stepped, Stops, StopsAt, WritesFault, WorldRepresents, WritesDue, WritesText, Wrote, WroteDue, bad_schedule, becomes_hit, buried, client_line, client_reported, code_side_shown, column, counts_line, datagram_line, digits_or_dash, event_at, gone_pair, hits_over, is_at_end, is_place, is_sent_again, kind_sent, line_of_datagram, lines_of_client, link_of, lost, lost_at, most_of, numbered_texts, one_hits, opening_for, or_pair, outcome, own_step, owner, owner_in, pair_at, pair_at_side, parts_of, pieces_for, plan_from, planned, refusal_at, report, resent, rounds_for, sees, segment_kind, server, side_shown, sockets_at, sockets_for, summary_of, tally_line, tally_of, text_line, texts_for, texts_of, reported_of}
+pub use Rattle.link_replay.specs.Prelude.{AbortAndCloseApart, ActSteps, ActsEnd, AnswersTo, AppendsShown, AreFresh, AreTo, AreWorkedReplays, AreWorkedReports, AreWorkedSummaries, ClosesInTime, CodeSent, CodeSide, CodeWorld, DamageLoses, EndsReport, EndsWith, Follows, FromHere, HasReached, HitsAreCounted, HonestPages, HonestReplay, HonestWebPeer, LossyWebPeer, IsAt, IsAtLast, IsFresh, IsHonest, IsLink, IsLoadText, IsPlayDue, IsReplayText, IsShort, IsTextDue, IsTo, KeepsPromises, LacksEither, LinesEnd, Link, LinkRepresents, LoadEnds, LoadIsReported, Matched, OnlyEpoch, OnlyFull, PagesAreReceived, PlaysSchedule, PostsOfClient, PostsReply, Reaches, Refuses, ReplayEnds, ReplayIsReported, SentRepresents, ServesHonest, ShownSide, SideRepresents, Stepped, Stops, StopsAt, WritesFault, WorldRepresents, WritesDue, WritesText, Wrote, WroteDue, bad_schedule, becomes_hit, buried, client_line, client_reported, code_side_shown, column, counts_line, datagram_line, digits_or_dash, event_at, gone_pair, hits_over, is_at_end, is_place, is_sent_again, kind_sent, line_of_datagram, lines_of_client, link_of, lost, lost_at, most_of, numbered_texts, one_hits, opening_for, or_pair, outcome, own_step, owner, owner_in, pair_at, pair_at_side, parts_of, pieces_for, plan_from, planned, refusal_at, report, resent, rounds_for, sees, segment_kind, server, side_shown, sockets_at, sockets_for, summary_of, tally_line, tally_of, text_line, texts_for, texts_of, reported_of}
 pub use Rattle.link_replay.specs.declared.report.kind.Kind.{Kind}
 pub use Rattle.link_replay.specs.declared.report.kind.Kind.TheVariants.{EchoReply}
 pub use Rattle.link_replay.specs.declared.world.client_steps.Own.{Own}
@@ -61,7 +61,7 @@ pub use Rattle.link_world.specs.declared.step_fault.StepFault.{StepFault}
 pub use Rattle.link_world.specs.declared.step_fault.StepFault.TheVariants.{AlreadyOpen, Full, NoByte, NoDatagram, NoMemory, NotOpen}
 pub use Rattle.link_world.specs.declared.who.Who.{Who}
 pub use Rattle.link_world.specs.declared.who.Who.TheVariants.{FromClient, FromNode, Pinger}
-pub use Rattle.node_laws.proofs.HonestPeers.{honest_peer, of_syn}
+pub use Rattle.node_laws.proofs.HonestPeers.{arrives_under_loss, honest_peer, lossy_syn, of_syn}
 pub use Rattle.script_lang.specs.Prelude.{length_at_most, takes_capture}
 pub use Rattle.script_lang.specs.declared.function.Function.{Function}
 pub use Rattle.script_lang.specs.declared.function.Function.TheVariants.{FileStats, NetStats, TcpConnections, Ticks, Unknown}

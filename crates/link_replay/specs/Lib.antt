@@ -25,6 +25,7 @@ pub mod Due
 pub mod Web
 pub mod Honest
 pub mod HonestPeers
+pub mod LossyPeers
 pub mod Worked
 pub mod Hits
 pub mod Apart

@@ -1,7 +1,7 @@
 //! The laws of the worlds of a replay; what the definitions of a report and of a summary give for worlds worked by hand; and
 //! how a replay ends if nothing disturbs it. Each law is the clause of a function without parameters.
 
-ghost use Rattle.link_replay.specs.Prelude.{AbortAndCloseApart, HitsAreCounted, HonestWebPeer, HonestReplay, LoadIsReported};
+ghost use Rattle.link_replay.specs.Prelude.{AbortAndCloseApart, HitsAreCounted, HonestWebPeer, HonestReplay, LoadIsReported, LossyWebPeer};
 ghost use Rattle.link_replay.specs.Prelude.{OnlyFull, ReplayIsReported, DamageLoses, AreWorkedReports, AreWorkedSummaries};
 
 /// The definition gives the reports that were worked by hand.
@@ -56,4 +56,9 @@ pub fn abort_and_close_apart()
 /// Whatever other peers do, a peer that requests a page, acknowledges each segment and loses nothing receives its whole page.
 pub fn honest_web_peer()
     ensures { HonestWebPeer }
+{}
+
+/// The same over a link that loses, repeats and reorders datagrams, if what is outstanding is acknowledged before the last retransmission.
+pub fn lossy_web_peer()
+    ensures { LossyWebPeer }
 {}

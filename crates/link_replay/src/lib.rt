@@ -17,7 +17,8 @@ pub use file_tree::{SiteError, SiteWhy};
 pub use headline::{honest_pages, pages_are_received, worked_replays};
 pub use laws::{
     abort_and_close_apart, damage_loses, hits_are_counted, honest_replay, honest_web_peer,
-    load_is_reported, only_full, replay_is_reported, worked_reports, worked_summaries,
+    load_is_reported, lossy_web_peer, only_full, replay_is_reported, worked_reports,
+    worked_summaries,
 };
 pub use link_schedule::{ClientPlan, Event, Line, ReadSchedule, Schedule, Why};
 pub use link_world::{Act, StepFault, Who};

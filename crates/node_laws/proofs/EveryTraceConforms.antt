@@ -3,6 +3,7 @@ use Rattle.node_laws.proofs.Prelude.{All, option_map, ◌≡◌, ℕ, Bool, ◌&
 use Rattle.uip_node.specs.Node.{AbstractNode, NodeStep, arrives_at, for_no_connection, happened, initial_node, opens as opens_at, opens_in, slot_for_syn, step}
 use Rattle.node_laws.proofs.EveryIncarnation.{session_ends}
 use Rattle.node_laws.proofs.PeerReads.{every_peer_reads}
+use Rattle.node_laws.proofs.Timers.{retries_over_steps}
 use Rattle.node_laws.proofs.Steps.{LineStep, OfNode, Changes, IsStep, all_happen, changed, turns_happen, trace_over}
 
 -- no echo reply
@@ -55,7 +56,7 @@ pub every_step : (m : AppSpec) (model : ℕ → OutputModel) → IsSteady m → 
     → (steps : List LineStep) → All (IsStep own) steps → KeepsAll model served own (trace_over m served steps (initial_node own numbers))
 every_step m model steady bytes speaks served own a numbers w steps are =
     let ends = λ (p : Sockets). session_ends m model steady speaks served own numbers w steps are p in (
-      record { incarnations = λ p incarnation l. (ends p).incarnations incarnation l; asked = λ p. (ends p).asked; ports = λ p. (ends p).ports; echoes = all_echoed m served steps (initial_node own numbers) },
+      record { incarnations = λ p incarnation l. (ends p).incarnations incarnation l; asked = λ p. (ends p).asked; ports = λ p. (ends p).ports; echoes = all_echoed m served steps (initial_node own numbers); retries = retries_over_steps m steady served own numbers w steps are },
       every_peer_reads m steady bytes served own a numbers w steps are,
     )
 

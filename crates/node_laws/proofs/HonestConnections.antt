@@ -1,13 +1,24 @@
 -- The connection with an honest peer: at each segment of its peer it sends what the application has next.
-use Rattle.node_laws.proofs.Prelude.{All, option_map_or, ◌≡◌, ℕ, suc, ◌+◌, ◌<◌, ◌≤◌, ◌==◌, min, Bool, true, false, if◌then◌else◌, not, ◌&&◌, inl, inr, List, [], ◌∷◌, ◌++◌, length, take, drop, refl, sym, ap, ◌∙◌, subst, arith, Option, Some, None, is_some, eqb, ltb, length-append, eq-eqb, take-append-le, take_all, length-take-le, common_steps, take-add, wrap, PlainSegment, has_fin, has_rst, has_ack, beat_at, Beat, AppState, After, AppSpec, IsPrefixOf, Pages, IsPaged, IsU32, IsNow, IsSnapshot, MayWant, Now, Reset, State, SynRcvd, Established, FinWait1, Want, Nothing, Send, Close, Abort, Sockets, Connection, is_live, serves, snd_una, rcv_nxt, occupies_sequence_space, segment_of, bare_ack, fin_of, reset_of, syn_ack, text_segment, Outcome, leaves, closes, idles, does_as_wanted, ask, asked, reported_end, peer_closes, is_out_of_order, is_acked, has_text, delivers_text, with_window, stays_established, in_established, by_state, on_segment, Step, choose, ltb-yes, cut_length, wrap_wrap, prefix_length, append_nothing, zero_or_more, same_place, is_time_wait, same_self, FitOut, prepared_snapshots, steady_of, receives_is, prepare_is, Exchange, AnswersPolled, GoesOnBy, Asker, text_received, awaits_ack, is_bare_ack, bare_acks, SendsNext, HasItsPage}
+use Rattle.node_laws.proofs.Prelude.{All, option_map_or, ◌≡◌, ℕ, suc, ◌+◌, ◌<◌, ◌≤◌, ◌==◌, min, Bool, true, false, if◌then◌else◌, not, ◌&&◌, ◌||◌, ◌⊎◌, inl, inr, List, [], ◌∷◌, ◌++◌, length, take, drop, refl, sym, ap, ◌∙◌, subst, arith, Option, Some, None, is_some, eqb, ltb, length-append, eq-eqb, take-append-le, take_all, length-take-le, common_steps, take-add, wrap, PlainSegment, has_syn, has_fin, has_rst, has_ack, beat_at, Beat, AppState, After, AppSpec, IsPrefixOf, Pages, IsU32, IsNow, IsSnapshot, MayWant, Now, Reset, State, SynRcvd, Established, FinWait1, Want, Nothing, Send, Close, Abort, Sockets, Connection, is_live, serves, snd_una, rcv_nxt, occupies_sequence_space, segment_of, bare_ack, fin_of, reset_of, syn_ack, text_segment, Outcome, leaves, closes, idles, does_as_wanted, ask, asked, reported_end, peer_closes, is_out_of_order, is_acked, has_text, delivers_text, with_window, stays_established, in_established, by_state, on_segment, Step, choose, both_ways, only_some, ltb-yes, cut_length, wrap_wrap, prefix_length, append_nothing, zero_or_more, same_place, is_time_wait, same_self, FitOut, prepared_snapshots, Exchange, GoesOnBy, Asker, text_received, awaits_ack, is_bare_ack, bare_acks, SendsNext, HasItsPage, acknowledges_new, expected_next, is_stale, ltb-zero, not-true, retransmissions, retransmission_limit, sent_next}
 use Rattle.tcp_machine.specs.OnTick.{by_beat, limit_of, on_tick, polls as polled_by, ticks_established}
 use Rattle.node_laws.proofs.HonestSessions.{has_of, has_on, lets_go, nothing_more, takes_at}
 use Rattle.node_laws.proofs.Lines.{quiet, met}
+use Rattle.node_laws.proofs.Paging.{Answering, Paging, receives_is}
 use Rattle.node_laws.proofs.StepTable.{nil_of}
+use Rattle.node_laws.proofs.Waiting.{Timed, timed_again, timed_first, timed_quiet, timed_waits, goes_on_in_time, limit_low}
 
 and_no : (b : Bool) → b && false ≡ false
 and_no true = refl
 and_no false = refl
+
+pub both_no : (b c : Bool) → b || c ≡ false → (b ≡ false) × (c ≡ false)
+both_no true c h = absurd (cc)
+both_no false c h = (refl, h)
+
+ack_test : (b c d : Bool) → b && d ≡ false → b && (c && d) ≡ false
+ack_test true true d h = h
+ack_test true false d h = refl
+ack_test false c d h = refl
 
 not_zero : (n : ℕ) → 0 < n → eqb n 0 ≡ false
 not_zero n h = grind (arith, common_steps)
@@ -31,7 +42,7 @@ module _ (m : AppSpec) where
       ap (λ b. if b then leaves (closes c) (reported_end m Reset c.state c.part numbers) Step.Drop else (if is_out_of_order c s then leaves c numbers Step.Ack else by_state m c.state (is_acked c s) c numbers s)) r
       ∙ ap (λ b. if b then leaves c numbers Step.Ack else by_state m c.state (is_acked c s) c numbers s) in_order
 
-module _ (m : AppSpec) (pages : Pages) (lawful : IsPaged m pages) (p : Sockets) (a : Asker) (room : 0 < a.mss) (fine : ℕ → AppState → Bool) (left : AppState → ℕ) (texts patience : ℕ) (answering : AnswersPolled m a.request a.mss fine left texts patience) where
+module _ (m : AppSpec) (pages : Pages) (here : AppState → Bool) (p : Sockets) (lawful : Paging m pages p.own_port.0 here) (a : Asker) (room : 0 < a.mss) (fine : ℕ → AppState → Bool) (left : AppState → ℕ) (texts patience : ℕ) (answering : Answering m p.own_port.0 here a.request a.mss fine left texts patience) where
   -- the connection at some point of its life
   abbrev pub conn_at : State → ℕ → ℕ → ℕ → ℕ → ℕ → AppState → Connection
   conn_at state taken iss acked len age part = record {
@@ -59,9 +70,11 @@ module _ (m : AppSpec) (pages : Pages) (lawful : IsPaged m pages) (p : Sockets) 
     pub received : text_received incarnation ≡ []
     pub none : bare_acks incarnation ≡ 0
     pub has : has_of a.iss incarnation ≡ []
+    pub limit : retransmission_limit incarnation ≤ 5
 
   -- this much was accepted, acknowledged and sent
   pub record Interactive (incarnation : List Exchange) (part : AppState) (taken acked len : ℕ) : Type 0 where
+    pub at_port : here part ≡ true
     pub input : part.input ≡ text_received incarnation
     pub is_taken : taken ≡ length (text_received incarnation)
     pub asked : IsPrefixOf (text_received incarnation) a.request
@@ -81,21 +94,22 @@ module _ (m : AppSpec) (pages : Pages) (lawful : IsPaged m pages) (p : Sockets) 
     pub more : part.input ≡ a.request → ⊥
 
   pub data Stage (polls : ℕ) (incarnation : List Exchange) (c : Connection) : Type 0 where
-    at_syn : (iss age : ℕ) (part : AppState) → Counts iss → c ≡ conn_at SynRcvd 0 iss 0 1 age part → AtSyn incarnation → Stage polls incarnation c
+    at_syn : (iss age : ℕ) (part : AppState) → Counts iss → c ≡ conn_at SynRcvd 0 iss 0 1 age part → AtSyn incarnation → Timed 5 incarnation age → Stage polls incarnation c
     reported : (taken iss acked len age most : ℕ) (part : AppState) → Counts iss → c ≡ conn_at Established taken iss acked len age part →
-        Interactive incarnation part taken acked len → Awaits polls part len most → bare_acks incarnation + most ≤ texts + 1 → Stage polls incarnation c
+        Interactive incarnation part taken acked len → Awaits polls part len most → bare_acks incarnation + most ≤ texts + 1 → Timed 8 incarnation age → Stage polls incarnation c
     waits : (taken iss acked age most : ℕ) (part : AppState) → Counts iss → c ≡ conn_at Established taken iss acked 0 age part →
         Interactive incarnation part taken acked 0 → awaits_ack incarnation ≡ false → Rests polls part most → bare_acks incarnation + most ≤ texts + 1 → Stage polls incarnation c
 
   -- what the next exchange leaves
   pub data Next (polls : ℕ) (incarnation : List Exchange) (c : Connection) : Type 0 where
     goes_on_so : Stage polls incarnation c → Next polls incarnation c
-    ends_so : HasItsPage pages a incarnation → Next polls incarnation c
+    ends_so : (h : HasItsPage pages a incarnation) → h.ends.place ≡ 0 → is_live c.state ≡ true → 0 < c.acked → Next polls incarnation c
 
   -- ---- nothing passes
 
   syn_quiet : (incarnation : List Exchange) → AtSyn incarnation → AtSyn (quiet ∷ incarnation)
-  syn_quiet incarnation h = record { received = append_nothing (text_received incarnation) ∙ h.received; none = h.none; has = has_on a.iss quiet incarnation ∙ h.has }
+  syn_quiet [] h = record { received = append_nothing (text_received []) ∙ h.received; none = h.none; has = has_on a.iss quiet [] ∙ h.has; limit = h.limit }
+  syn_quiet (x ∷ older) h = record { received = append_nothing (text_received (x ∷ older)) ∙ h.received; none = h.none; has = has_on a.iss quiet (x ∷ older) ∙ h.has; limit = h.limit }
 
   -- what is sent adds nothing for the receiver
   session_kept_still : (incarnation : List Exchange) (output : Option PlainSegment) (part : AppState) (taken acked len : ℕ) → has_of a.iss (met None output ∷ incarnation) ≡ has_of a.iss incarnation → Interactive incarnation part taken acked len →
@@ -103,6 +117,7 @@ module _ (m : AppSpec) (pages : Pages) (lawful : IsPaged m pages) (p : Sockets) 
   session_kept_still incarnation output part taken acked len same h =
       let e : text_received (met None output ∷ incarnation) ≡ text_received incarnation = append_nothing (text_received incarnation) in
       record {
+        at_port = h.at_port;
         input = h.input ∙ sym e;
         is_taken = h.is_taken ∙ ap length (sym e);
         asked = subst (λ t. IsPrefixOf t a.request) (sym e) h.asked;
@@ -116,8 +131,8 @@ module _ (m : AppSpec) (pages : Pages) (lawful : IsPaged m pages) (p : Sockets) 
 
   pub stage_quiet : (polls : ℕ) (incarnation : List Exchange) (c : Connection) → Stage polls incarnation c → Stage polls (quiet ∷ incarnation) c
   stage_quiet polls incarnation c h = elim h [
-    | at_syn iss age part k e t ↦ at_syn iss age part k e (syn_quiet incarnation t)
-    | reported taken iss acked len age most part k e t w b ↦ reported taken iss acked len age most part k e (session_kept_quiet incarnation part taken acked len t) w b
+    | at_syn iss age part k e t y ↦ at_syn iss age part k e (syn_quiet incarnation t) (timed_quiet 5 incarnation age y)
+    | reported taken iss acked len age most part k e t w b y ↦ reported taken iss acked len age most part k e (session_kept_quiet incarnation part taken acked len t) w b (timed_quiet 8 incarnation age y)
     | waits taken iss acked age most part k e t n r b ↦ waits taken iss acked age most part k e (session_kept_quiet incarnation part taken acked 0 t) n r b
   ]
 
@@ -129,6 +144,7 @@ module _ (m : AppSpec) (pages : Pages) (lawful : IsPaged m pages) (p : Sockets) 
 
   -- before it is asked, with what came
   pub record Ready (received : Option PlainSegment) (older : List Exchange) (part : AppState) (taken acked most : ℕ) : Type 0 where
+    pub at_port : here part ≡ true
     pub input : part.input ≡ text_received older ++ brought received
     pub is_taken : taken ≡ length (text_received older ++ brought received)
     pub asked : IsPrefixOf (text_received older ++ brought received) a.request
@@ -140,11 +156,12 @@ module _ (m : AppSpec) (pages : Pages) (lawful : IsPaged m pages) (p : Sockets) 
   prepared_ready : (received : Option PlainSegment) (older : List Exchange) (part : AppState) (taken acked most : ℕ) (numbers : List ℕ) (now : Now) → Ready received older part taken acked most → Ready received older (m.prepare numbers part now) taken acked most
   prepared_ready received older part taken acked most numbers now h =
       let q : AppState = m.prepare numbers part now in
-      let is = prepare_is m pages lawful numbers part now in
+      let is = lawful.prepare numbers part now h.at_port in
       let grows : IsPrefixOf (page part) (page q) =
       subst (λ k. IsPrefixOf (page part) (pages.page q.input k)) (sym is.snapshots)
       (subst (λ t. IsPrefixOf (page part) (pages.page t (part.snapshots ++ is.more))) (append_nothing part.input ∙ sym is.input) (lawful.grows part.input [] part.snapshots is.more)) in
       record {
+        at_port = is.at_port;
         input = is.input ∙ h.input;
         is_taken = h.is_taken;
         asked = h.asked;
@@ -188,11 +205,12 @@ module _ (m : AppSpec) (pages : Pages) (lawful : IsPaged m pages) (p : Sockets) 
       Interactive (met received (Some (text_segment m (conn_at Established taken iss acked len 0 q))) ∷ older) q taken acked len
   sends_text received older q taken iss acked most len k h within =
       let t : PlainSegment = text_segment m (conn_at Established taken iss acked len 0 q) in
-      let output : t.text ≡ take len (drop q.acked (page q)) = ap (λ l. take len (drop q.acked l)) (lawful.output q) in
+      let output : t.text ≡ take len (drop q.acked (page q)) = ap (λ l. take len (drop q.acked l)) (lawful.output q h.at_port) in
       let size : length t.text ≡ len = ap length output ∙ cut_length (page q) q.acked len within in
       let own : length (has_of a.iss older) ≡ q.acked = ap length h.has ∙ length-take-le q.acked (page q) h.fits in
       let at : t.seq ≡ wrap (a.iss + 1 + length (has_of a.iss older)) = k acked ∙ ap wrap (let i = h.is_acked in omega (arith, i, own)) in
       record {
+        at_port = h.at_port;
         input = h.input;
         is_taken = h.is_taken;
         asked = h.asked;
@@ -202,10 +220,19 @@ module _ (m : AppSpec) (pages : Pages) (lawful : IsPaged m pages) (p : Sockets) 
             ∙ ap (λ l. l ++ t.text) h.has ∙ ap (λ l. take q.acked (page q) ++ l) output ∙ sym (take-add q.acked len (page q));
       }
 
+  -- text that is outstanding occupies sequence space
+  text_placed : (taken iss acked len age : ℕ) (q : AppState) → here q ≡ true → 0 < len → q.acked + len ≤ length (page q) → occupies_sequence_space (text_segment m (conn_at Established taken iss acked len age q)) ≡ true
+  text_placed taken iss acked len age q h some within =
+      let t : PlainSegment = text_segment m (conn_at Established taken iss acked len age q) in
+      let output : t.text ≡ take len (drop q.acked (page q)) = ap (λ l. take len (drop q.acked l)) (lawful.output q h) in
+      let size : length t.text ≡ len = ap length output ∙ cut_length (page q) q.acked len within in
+      ap (λ b. b || (has_syn t.flags || has_fin t.flags)) (ltb-yes (length t.text) (omega (arith, size, some)))
+
   -- nothing was sent
   outputs_none : (received : Option PlainSegment) (output : Option PlainSegment) (older : List Exchange) (q : AppState) (taken acked most : ℕ) → Ready received older q taken acked most →
       has_of a.iss (met received output ∷ older) ≡ has_of a.iss older → Interactive (met received output ∷ older) q taken acked 0
   outputs_none received output older q taken acked most h e = record {
+    at_port = h.at_port;
     input = h.input;
     is_taken = h.is_taken;
     asked = h.asked;
@@ -217,14 +244,16 @@ module _ (m : AppSpec) (pages : Pages) (lawful : IsPaged m pages) (p : Sockets) 
   by_want : (polls : ℕ) (received : Option PlainSegment) (older : List Exchange) (fresh : Bool) (numbers : List ℕ) (taken iss acked age most : ℕ) (q : AppState) (w : Want) → Counts iss → Ready received older q taken acked most →
       All IsSnapshot q.snapshots → MayWant pages q w → GoesOnBy m a.request a.mss (fine polls) left q most w → not (is_some received) && awaits_ack older ≡ false →
       (let o : Outcome = does_as_wanted w fresh (conn_at Established taken iss acked 0 age q) numbers in Next polls (met received (segment_of m o.connection o.step) ∷ older) o.connection)
-  unfolding idles
+  unfolding idles closes_whole
   by_want polls received older fresh numbers taken iss acked age most q Abort k h snapshots may g rested = absurd g
-  by_want polls received older fresh numbers taken iss acked age most q Close k h snapshots may g rested = ends_so (closes_whole received older q taken iss acked most k h snapshots may)
+  by_want polls received older fresh numbers taken iss acked age most q Close k h snapshots may g rested = ends_so (closes_whole received older q taken iss acked most k h snapshots may) refl refl (let some : 0 < acked = (let z = h.is_acked in omega (arith, z)) in some)
   by_want polls received older fresh numbers taken iss acked age most q (Send j) k h snapshots may g rested =
       let len : ℕ = min j a.mss in
       let some : 0 < len = (let l = may.0 in omega (arith, l, room)) in
       let within : q.acked + len ≤ length (page q) = (let l = may.1 in omega (arith, l)) in
-      goes_on_so (reported taken iss acked len 0 most q k refl (sends_text received older q taken iss acked most len k h within) record { some = some; next = g } h.bound)
+      let t : PlainSegment = text_segment m (conn_at Established taken iss acked len 0 q) in
+      goes_on_so (reported taken iss acked len 0 most q k refl (sends_text received older q taken iss acked most len k h within) record { some = some; next = g } h.bound
+      (timed_first received t older (text_placed taken iss acked len 0 q h.at_port some within)))
   by_want polls received older fresh numbers taken iss acked age most q Nothing k h snapshots may g rested =
       let d : Connection = conn_at Established taken iss acked 0 age q in
       let P : Outcome → Type 0 = λ o. Next polls (met received (segment_of m o.connection o.step) ∷ older) o.connection in
@@ -242,23 +271,25 @@ module _ (m : AppSpec) (pages : Pages) (lawful : IsPaged m pages) (p : Sockets) 
   at_most_more polls q few most Nothing h g = (g.0, omega (arith, h, g.1), g.2)
 
   -- what an application requests whose state is as it should be
-  wants_so : (polls : ℕ) → polls ≤ patience → (numbers : List ℕ) (now : Now) (part : AppState) (rest : List ℕ) (most : ℕ) → All IsU32 numbers → IsNow now → 0 < length now.rows → fine polls part ≡ true → left part ≤ most → part.input ++ rest ≡ a.request →
+  wants_so : (polls : ℕ) → polls ≤ patience → (numbers : List ℕ) (now : Now) (part : AppState) (rest : List ℕ) (most : ℕ) → All IsU32 numbers → IsNow now → 0 < length now.rows → here part ≡ true → fine polls part ≡ true → left part ≤ most → part.input ++ rest ≡ a.request →
       GoesOnBy m a.request a.mss (fine polls) left (m.prepare numbers part now) most (m.want numbers (m.prepare numbers part now))
-  wants_so polls l numbers now part rest most words is rows good few joined =
-      at_most_more polls (m.prepare numbers part now) (left part) most (m.want numbers (m.prepare numbers part now)) few ((answering.answers polls l).goes_on numbers part now rest good joined words is rows)
+  wants_so polls l numbers now part rest most words is rows at good few joined =
+      at_most_more polls (m.prepare numbers part now) (left part) most (m.want numbers (m.prepare numbers part now)) few (answering.goes_on polls l numbers part now rest at good joined words is rows)
 
   asks : (polls : ℕ) → polls ≤ patience → (received : Option PlainSegment) (older : List Exchange) (fresh : Bool) (numbers : List ℕ) (now : Now) (taken iss acked age most : ℕ) (part : AppState) → All IsU32 numbers → IsNow now → 0 < length now.rows →
       Counts iss → Ready received older part taken acked most → fine polls part ≡ true → left part ≤ most → All IsSnapshot part.snapshots → not (is_some received) && awaits_ack older ≡ false →
       (let o : Outcome = ask m now fresh (conn_at Established taken iss acked 0 age part) numbers in Next polls (met received (segment_of m o.connection o.step) ∷ older) o.connection)
   asks polls l received older fresh numbers now taken iss acked age most part words is rows k h good few snapshots rested =
       let q : AppState = m.prepare numbers part now in
-      by_want polls received older fresh numbers taken iss acked age most q (m.want numbers q) k (prepared_ready received older part taken acked most numbers now h) (prepared_snapshots m (steady_of m pages lawful) numbers part now words is snapshots) (lawful.wants numbers q)
-      (wants_so polls l numbers now part h.asked.rest most words is rows good few (ap (λ t. t ++ h.asked.rest) h.input ∙ h.asked.joined)) rested
+      let ready : Ready received older q taken acked most = prepared_ready received older part taken acked most numbers now h in
+      by_want polls received older fresh numbers taken iss acked age most q (m.want numbers q) k ready (prepared_snapshots m lawful.steady numbers part now words is snapshots) (lawful.wants numbers q ready.at_port)
+      (wants_so polls l numbers now part h.asked.rest most words is rows h.at_port good few (ap (λ t. t ++ h.asked.rest) h.input ∙ h.asked.joined)) rested
 
   -- ---- a segment of the peer is received
 
   -- the state before the delivery, with what was acknowledged
   pub record Acked (older : List Exchange) (part : AppState) (taken acked : ℕ) : Type 0 where
+    pub at_port : here part ≡ true
     pub input : part.input ≡ text_received older
     pub is_taken : taken ≡ length (text_received older)
     pub is_acked : acked ≡ 1 + part.acked
@@ -269,11 +300,12 @@ module _ (m : AppSpec) (pages : Pages) (lawful : IsPaged m pages) (p : Sockets) 
       Ready (Some s) older (delivers_text m numbers part s.text).part (taken + length s.text) acked most
   received_ready s older numbers part taken acked most prefix h bound =
       let q : AppState = (delivers_text m numbers part s.text).part in
-      let is = receives_is m pages lawful numbers part s.text in
+      let is = receives_is m pages p.own_port.0 here lawful numbers part s.text h.at_port in
       let grows : IsPrefixOf (page part) (page q) =
       subst (λ k. IsPrefixOf (page part) (pages.page q.input k)) (append_nothing part.snapshots ∙ sym is.snapshots)
       (subst (λ t. IsPrefixOf (page part) (pages.page t (part.snapshots ++ []))) (sym is.input) (lawful.grows part.input s.text part.snapshots [])) in
       record {
+        at_port = is.at_port;
         input = is.input ∙ ap (λ t. t ++ s.text) h.input;
         is_taken = ap (λ n. n + length s.text) h.is_taken ∙ sym (length-append (text_received older) s.text);
         asked = prefix;
@@ -283,11 +315,11 @@ module _ (m : AppSpec) (pages : Pages) (lawful : IsPaged m pages) (p : Sockets) 
         bound = bound;
       }
 
-  received_fine : (polls : ℕ) → polls ≤ patience → (numbers : List ℕ) (part : AppState) (text rest : List ℕ) (most : ℕ) → fine polls part ≡ true → left part ≤ most → (part.input ++ text) ++ rest ≡ a.request →
+  received_fine : (polls : ℕ) → polls ≤ patience → (numbers : List ℕ) (part : AppState) (text rest : List ℕ) (most : ℕ) → here part ≡ true → fine polls part ≡ true → left part ≤ most → (part.input ++ text) ++ rest ≡ a.request →
       (fine polls (delivers_text m numbers part text).part ≡ true) × (left (delivers_text m numbers part text).part ≤ most)
-  received_fine polls l numbers part [] rest most good few joined = (good, few)
-  received_fine polls l numbers part (y ∷ ys) rest most good few joined =
-      let more = (answering.answers polls l).delivers_text numbers part (y ∷ ys) rest good joined in (more.0, omega (arith, more.1, few))
+  received_fine polls l numbers part [] rest most at good few joined = (good, few)
+  received_fine polls l numbers part (y ∷ ys) rest most at good few joined =
+      let more = answering.delivers_text polls l numbers part (y ∷ ys) rest at good joined in (more.0, omega (arith, more.1, few))
 
   -- what the environment of a step gives
   pub record Snapshots (at : Connection → Now) (o : Outcome) : Type 0 where
@@ -308,7 +340,7 @@ module _ (m : AppSpec) (pages : Pages) (lawful : IsPaged m pages) (p : Sockets) 
   asked_after polls l at s older o next taken iss acked age most part k prefix b bound good few e snapshots =
       let delivered : After = delivers_text m next part s.text in
       let d : Connection = conn_at Established (taken + length s.text) iss acked 0 age delivered.part in
-      let f = received_fine polls l next part s.text prefix.rest most good few (ap (λ t. (t ++ s.text) ++ prefix.rest) b.input ∙ prefix.joined) in
+      let f = received_fine polls l next part s.text prefix.rest most b.at_port good few (ap (λ t. (t ++ s.text) ++ prefix.rest) b.input ∙ prefix.joined) in
       let z : Outcome = leaves d delivered.numbers (Step.Ask (has_text s)) in
       let given : Snapshots at z = subst (λ (y : Outcome). Snapshots at y) e snapshots in
       subst (λ (y : Outcome). (let r : Outcome = asked m at y in Next polls (met (Some s) (segment_of m r.connection r.step) ∷ older) r.connection)) (sym e)
@@ -391,30 +423,34 @@ module _ (m : AppSpec) (pages : Pages) (lawful : IsPaged m pages) (p : Sockets) 
   pub answered : (polls : ℕ) → polls ≤ patience → (at : Connection → Now) (numbers : List ℕ) (s : PlainSegment) (older : List Exchange) (c : Connection) → (h : SendsNext a (met (Some s) None) older) → h.segment ≡ s → Snapshots at (on_segment m c numbers s) → Stage polls older c →
       Answered polls at c numbers s older
   answered polls l at numbers s older c h same snapshots stage = elim stage [
-    | at_syn iss age part k e syn ↦
+    | at_syn iss age part k e syn y ↦
         (let d : Connection = conn_at SynRcvd 0 iss 0 1 age part in
         let start : After = m.connected numbers p.own_port.0 in
-        let begins = (answering.answers polls l).starts numbers p.own_port.0 in
+        let begins = answering.starts polls l numbers in
+        let opens = lawful.connected numbers in
         subst (λ (z : Connection). Answered polls at z numbers s older) (sym e)
         (asked_after polls l at s older (on_segment m d numbers s) start.numbers 0 iss (0 + 1) 0 texts start.part k prefix
         record {
-          input = lawful.connected_input numbers p.own_port.0 ∙ sym syn.received;
+          at_port = opens.at_port;
+          input = opens.input ∙ sym syn.received;
           is_taken = ap length (sym syn.received);
-          is_acked = ap (λ n. 1 + n) (sym (lawful.connected_acked numbers p.own_port.0));
-          fits = (let z = lawful.connected_acked numbers p.own_port.0 in omega (arith, z));
-          has = syn.has ∙ ap (λ n. take n (page start.part)) (sym (lawful.connected_acked numbers p.own_port.0));
+          is_acked = ap (λ n. 1 + n) (sym opens.acked);
+          fits = (let z = opens.acked in omega (arith, z));
+          has = syn.has ∙ ap (λ n. take n (page start.part)) (sym opens.acked);
         }
         (bare_more s older texts (let z = syn.none in omega (arith, z))) begins.0 begins.1 (first_row numbers iss age part s older k syn h same) (subst (λ (z : Connection). Snapshots at (on_segment m z numbers s)) e snapshots)))
-    | reported taken iss acked len age most part k e t w b ↦
+    | reported taken iss acked len age most part k e t w b early ↦
         (let d : Connection = conn_at Established taken iss acked len age part in
         let reported_it : After = m.acked numbers part len in
+        let moves = lawful.acked numbers part len t.at_port in
         let fewer : ℕ = left reported_it.part in
-        let page_same : page reported_it.part ≡ page part = ap (λ z. pages.page z reported_it.part.snapshots) (lawful.acked_input numbers part len) ∙ ap (λ z. pages.page part.input z) (lawful.acked_snapshots numbers part len) in
-        let moved : reported_it.part.acked ≡ part.acked + len = lawful.acked_moves numbers part len in
+        let page_same : page reported_it.part ≡ page part = ap (λ z. pages.page z reported_it.part.snapshots) moves.input ∙ ap (λ z. pages.page part.input z) moves.snapshots in
+        let moved : reported_it.part.acked ≡ part.acked + len = moves.acked in
         subst (λ (z : Connection). Answered polls at z numbers s older) (sym e)
         (asked_after polls l at s older (on_segment m d numbers s) reported_it.numbers taken iss (acked + len) 0 fewer reported_it.part k prefix
         record {
-          input = lawful.acked_input numbers part len ∙ t.input;
+          at_port = moves.at_port;
+          input = moves.input ∙ t.input;
           is_taken = t.is_taken;
           is_acked = (let z = t.is_acked in omega (arith, z, moved));
           fits = (let z = t.fits in let y = ap length page_same in omega (arith, z, moved, y));
@@ -427,6 +463,7 @@ module _ (m : AppSpec) (pages : Pages) (lawful : IsPaged m pages) (p : Sockets) 
         subst (λ (z : Connection). Answered polls at z numbers s older) (sym e)
         (asked_after polls l at s older (on_segment m d numbers s) numbers taken iss acked age most part k prefix
         record {
+          at_port = t.at_port;
           input = t.input;
           is_taken = t.is_taken;
           is_acked = t.is_acked;
@@ -446,8 +483,13 @@ module _ (m : AppSpec) (pages : Pages) (lawful : IsPaged m pages) (p : Sockets) 
   Keeps at c numbers = (let r : Outcome = asked m at (on_tick m c numbers) in (u : PlainSegment) → segment_of m r.connection r.step ≡ Some u → has_rst u.flags ≡ false)
 
   -- the SYN is sent again
+  limit_stays : (incarnation : List Exchange) (output : Option PlainSegment) → retransmission_limit incarnation ≤ 5 → retransmission_limit (met None output ∷ incarnation) ≤ 5
+  limit_stays [] output h = h
+  limit_stays (x ∷ older) output h = h
+
   syn_again : (incarnation : List Exchange) (d : Connection) → AtSyn incarnation → AtSyn (met None (Some (syn_ack d)) ∷ incarnation)
   syn_again incarnation d h = record {
+    limit = limit_stays incarnation (Some (syn_ack d)) h.limit;
     received = append_nothing (text_received incarnation) ∙ h.received;
     none = h.none;
     has = has_on a.iss (met None (Some (syn_ack d))) incarnation ∙ nothing_more a.iss (has_of a.iss incarnation) (syn_ack d) refl ∙ h.has;
@@ -468,19 +510,19 @@ module _ (m : AppSpec) (pages : Pages) (lawful : IsPaged m pages) (p : Sockets) 
       omega (arith, same, own, i, some)) in
       session_kept_still incarnation (Some t) part taken acked len (has_on a.iss (met None (Some t)) incarnation ∙ lets_go a.iss got t passed) h
 
-  syn_beat : (polls : ℕ) (at : Connection → Now) (b : Beat) (iss age : ℕ) (part : AppState) (numbers : List ℕ) (older : List Exchange) → Counts iss → AtSyn older →
+  syn_beat : (polls : ℕ) (at : Connection → Now) (b : Beat) (iss age : ℕ) (part : AppState) (numbers : List ℕ) (older : List Exchange) → Counts iss → AtSyn older → Timed 5 older age → beat_at 5 (age + 1) ≡ b →
       let c : Connection = conn_at SynRcvd 0 iss 0 1 age part in let r : Outcome = asked m at (by_beat m b c numbers) in
       ((u : PlainSegment) → segment_of m r.connection r.step ≡ Some u → has_rst u.flags ≡ false) → Stage polls (met None (segment_of m r.connection r.step) ∷ older) r.connection
-  syn_beat polls at Beat.Wait iss age part numbers older k syn h = at_syn iss (age + 1) part k refl (syn_quiet older syn)
-  syn_beat polls at Beat.Again iss age part numbers older k syn h = at_syn iss (age + 1) part k refl (syn_again older (conn_at SynRcvd 0 iss 0 1 (age + 1) part) syn)
-  syn_beat polls at Beat.GiveUp iss age part numbers older k syn h = absurd (let c : Connection = conn_at SynRcvd 0 iss 0 1 age part in let z = h (reset_of (closes c)) refl in cc)
+  syn_beat polls at Beat.Wait iss age part numbers older k syn y q h = at_syn iss (age + 1) part k refl (syn_quiet older syn) (timed_waits 5 older age (inl refl) y q)
+  syn_beat polls at Beat.Again iss age part numbers older k syn y q h = at_syn iss (age + 1) part k refl (syn_again older (conn_at SynRcvd 0 iss 0 1 (age + 1) part) syn) (timed_again 5 (syn_ack (conn_at SynRcvd 0 iss 0 1 (age + 1) part)) older age (inl refl) refl y)
+  syn_beat polls at Beat.GiveUp iss age part numbers older k syn y q h = absurd (let c : Connection = conn_at SynRcvd 0 iss 0 1 age part in let z = h (reset_of (closes c)) refl in cc)
 
-  text_beat : (polls : ℕ) (at : Connection → Now) (b : Beat) (taken iss acked len age most : ℕ) (part : AppState) (numbers : List ℕ) (older : List Exchange) → Counts iss → All IsSnapshot part.snapshots → Interactive older part taken acked len → Awaits polls part len most → bare_acks older + most ≤ texts + 1 →
+  text_beat : (polls : ℕ) (at : Connection → Now) (b : Beat) (taken iss acked len age most : ℕ) (part : AppState) (numbers : List ℕ) (older : List Exchange) → Counts iss → All IsSnapshot part.snapshots → Interactive older part taken acked len → Awaits polls part len most → bare_acks older + most ≤ texts + 1 → Timed 8 older age → beat_at 8 (age + 1) ≡ b →
       let c : Connection = conn_at Established taken iss acked len age part in let r : Outcome = asked m at (by_beat m b c numbers) in
       ((u : PlainSegment) → segment_of m r.connection r.step ≡ Some u → has_rst u.flags ≡ false) → Stage polls (met None (segment_of m r.connection r.step) ∷ older) r.connection
-  text_beat polls at Beat.Wait taken iss acked len age most part numbers older k snapshots t w b h = reported taken iss acked len (age + 1) most part k refl (session_kept_quiet older part taken acked len t) w b
-  text_beat polls at Beat.Again taken iss acked len age most part numbers older k snapshots t w b h = reported taken iss acked len (age + 1) most part k refl (text_again older taken iss acked len (age + 1) part k snapshots w.some t) w b
-  text_beat polls at Beat.GiveUp taken iss acked len age most part numbers older k snapshots t w b h = absurd (let c : Connection = conn_at Established taken iss acked len age part in let z = h (reset_of (closes c)) refl in cc)
+  text_beat polls at Beat.Wait taken iss acked len age most part numbers older k snapshots t w bound y q h = reported taken iss acked len (age + 1) most part k refl (session_kept_quiet older part taken acked len t) w bound (timed_waits 8 older age (inr refl) y q)
+  text_beat polls at Beat.Again taken iss acked len age most part numbers older k snapshots t w bound y q h = reported taken iss acked len (age + 1) most part k refl (text_again older taken iss acked len (age + 1) part k snapshots w.some t) w bound (timed_again 8 (text_segment m (conn_at Established taken iss acked len (age + 1) part)) older age (inr refl) (text_placed taken iss acked len (age + 1) part t.at_port w.some t.fits) y)
+  text_beat polls at Beat.GiveUp taken iss acked len age most part numbers older k snapshots t w bound y q h = absurd (let c : Connection = conn_at Established taken iss acked len age part in let z = h (reset_of (closes c)) refl in cc)
 
   -- what a call leaves: the polls so far
   pub record Polled (polls : ℕ) (incarnation : List Exchange) (c : Connection) : Type 0 where
@@ -497,17 +539,19 @@ module _ (m : AppSpec) (pages : Pages) (lawful : IsPaged m pages) (p : Sockets) 
   polled_waits polls at older numbers taken iss acked age most part l k t n r b snapshots =
       let delivered : After = m.polled numbers part in
       let d : Connection = conn_at Established taken iss acked 0 age delivered.part in
-      let alike = lawful.polled_same numbers part in
-      let f = answering.waits polls numbers part l r.good in
+      let alike = lawful.polled numbers part t.at_port in
+      let still : delivered.part.acked ≡ part.acked = alike.acked ∙ (let z : part.acked + 0 ≡ part.acked = omega arith in z) in
+      let f = answering.waits polls numbers part l t.at_port r.good in
       let same : page delivered.part ≡ page part = ap (λ z. pages.page z delivered.part.snapshots) alike.input ∙ ap (λ z. pages.page part.input z) alike.snapshots in
       let none : text_received older ++ [] ≡ text_received older = append_nothing (text_received older) in
       let ready : Ready None older delivered.part taken acked most = record {
+        at_port = alike.at_port;
         input = alike.input ∙ t.input ∙ sym none;
         is_taken = t.is_taken ∙ ap length (sym none);
         asked = subst (λ z. IsPrefixOf z a.request) (sym none) t.asked;
-        is_acked = t.is_acked ∙ ap (λ j. 1 + j) (sym alike.acked);
-        fits = (let z = t.fits in let y = ap length same in let x = alike.acked in omega (arith, z, y, x));
-        has = t.has ∙ ap (λ j. take j (page part)) (let x = alike.acked in let z : part.acked + 0 ≡ delivered.part.acked = omega (arith, x) in z) ∙ ap (λ z. take delivered.part.acked z) (sym same);
+        is_acked = t.is_acked ∙ ap (λ j. 1 + j) (sym still);
+        fits = (let z = t.fits in let y = ap length same in omega (arith, z, y, still));
+        has = t.has ∙ ap (λ j. take j (page part)) (let z : part.acked + 0 ≡ delivered.part.acked = omega (arith, still) in z) ∙ ap (λ z. take delivered.part.acked z) (sym same);
         bound = b;
       } in
       record {
@@ -517,43 +561,185 @@ module _ (m : AppSpec) (pages : Pages) (lawful : IsPaged m pages) (p : Sockets) 
         next = asks (suc polls) l None older false delivered.numbers (at d) taken iss acked age most delivered.part snapshots.fit.numbers snapshots.is (snapshots.rows d refl) k ready f.0 (let z = r.few in let y = f.1 in omega (arith, z, y)) snapshots.fit.conn.snapshots n;
       }
 
-  pub called : (polls : ℕ) → polls ≤ patience → (at : Connection → Now) (numbers : List ℕ) (older : List Exchange) (c : Connection) → ((text_received older ≡ a.request → ⊥) → polls < patience) → All IsSnapshot c.part.snapshots → Snapshots at (on_tick m c numbers) → Keeps at c numbers → Stage polls older c →
+  pub called : (polls : ℕ) → polls ≤ patience → (at : Connection → Now) (numbers : List ℕ) (older : List Exchange) (c : Connection) → ((c.state ≡ SynRcvd → ⊥) → (text_received older ≡ a.request → ⊥) → polls < patience) → All IsSnapshot c.part.snapshots → Snapshots at (on_tick m c numbers) → (0 < c.len → Keeps at c numbers) → Stage polls older c →
       (let r : Outcome = asked m at (on_tick m c numbers) in Polled polls (met None (segment_of m r.connection r.step) ∷ older) r.connection)
   unfolding ticks_established
   called polls l at numbers older c room_left captures snapshots keeps stage = elim stage [
-    | at_syn iss age part k e syn ↦
+    | at_syn iss age part k e syn y ↦
         (let d : Connection = conn_at SynRcvd 0 iss 0 1 age part in
-        let now : Keeps at d numbers = subst (λ (z : Connection). Keeps at z numbers) e keeps in
+        let now : Keeps at d numbers = subst (λ (z : Connection). Keeps at z numbers) e (keeps (let z = ap (λ (v : Connection). v.len) e in omega (arith, z))) in
         subst (λ (z : Connection). (let r : Outcome = asked m at (on_tick m z numbers) in Polled polls (met None (segment_of m r.connection r.step) ∷ older) r.connection)) (sym e)
-        record { now = polls; least = omega arith; most = l; next = goes_on_so (syn_beat polls at (beat_at (limit_of SynRcvd) (age + 1)) iss age part numbers older k syn now) })
-    | reported taken iss acked len age most part k e t w b ↦
+        record { now = polls; least = omega arith; most = l; next = goes_on_so (syn_beat polls at (beat_at (limit_of SynRcvd) (age + 1)) iss age part numbers older k syn y refl now) })
+    | reported taken iss acked len age most part k e t w b y ↦
         (let d : Connection = conn_at Established taken iss acked len age part in
-        let now : Keeps at d numbers = subst (λ (z : Connection). Keeps at z numbers) e keeps in
+        let now : Keeps at d numbers = subst (λ (z : Connection). Keeps at z numbers) e (keeps (let z = ap (λ (v : Connection). v.len) e in let s = w.some in omega (arith, z, s))) in
         let beat : Beat = beat_at (limit_of Established) (age + 1) in
         let ticks : on_tick m d numbers ≡ by_beat m beat d numbers = ap (λ (y : Bool). if y then by_beat m beat d numbers else polled_by m d numbers) (ltb-yes len w.some) in
         let still = subst (λ (y : Outcome). (let r : Outcome = asked m at y in (u : PlainSegment) → segment_of m r.connection r.step ≡ Some u → has_rst u.flags ≡ false)) ticks now in
         subst (λ (z : Connection). (let r : Outcome = asked m at (on_tick m z numbers) in Polled polls (met None (segment_of m r.connection r.step) ∷ older) r.connection)) (sym e)
         (subst (λ (y : Outcome). (let r : Outcome = asked m at y in Polled polls (met None (segment_of m r.connection r.step) ∷ older) r.connection)) (sym ticks)
-        record { now = polls; least = omega arith; most = l; next = goes_on_so (text_beat polls at beat taken iss acked len age most part numbers older k (subst (λ (z : Connection). All IsSnapshot z.part.snapshots) e captures) t w b still) }))
+        record { now = polls; least = omega arith; most = l; next = goes_on_so (text_beat polls at beat taken iss acked len age most part numbers older k (subst (λ (z : Connection). All IsSnapshot z.part.snapshots) e captures) t w b y refl still) }))
     | waits taken iss acked age most part k e t n r b ↦
-        (let left_some : polls < patience = room_left (λ z. r.more (t.input ∙ z)) in
+        (let left_some : polls < patience = room_left (λ s. (let z : Established ≡ SynRcvd = sym (ap (λ (v : Connection). v.state) e) ∙ s in cc)) (λ z. r.more (t.input ∙ z)) in
         subst (λ (z : Connection). (let r : Outcome = asked m at (on_tick m z numbers) in Polled polls (met None (segment_of m r.connection r.step) ∷ older) r.connection)) (sym e)
         (polled_waits polls at older numbers taken iss acked age most part (omega (arith, left_some)) k t n r b (subst (λ (z : Connection). Snapshots at (on_tick m z numbers)) e snapshots)))
   ]
+
+  -- ---- before the last retransmission the connection is not given up
+
+  beat_keeps : (at : Connection → Now) (b : Beat) (state : State) (taken iss acked len age : ℕ) (part : AppState) (numbers : List ℕ) → (state ≡ SynRcvd) ⊎ (state ≡ Established) → (b ≡ Beat.GiveUp → ⊥) →
+      (let r : Outcome = asked m at (by_beat m b (conn_at state taken iss acked len age part) numbers) in (u : PlainSegment) → segment_of m r.connection r.step ≡ Some u → has_rst u.flags ≡ false)
+  beat_keeps at Beat.Wait state taken iss acked len age part numbers is goes u e = absurd (cc)
+  beat_keeps at Beat.Again SynRcvd taken iss acked len age part numbers is goes u e = only_some (λ x. has_rst x.flags ≡ false) (syn_ack (conn_at SynRcvd taken iss acked len (age + 1) part)) u e refl
+  beat_keeps at Beat.Again Established taken iss acked len age part numbers is goes u e = only_some (λ x. has_rst x.flags ≡ false) (text_segment m (conn_at Established taken iss acked len (age + 1) part)) u e refl
+  beat_keeps at Beat.Again state taken iss acked len age part numbers is goes u e = absurd (elim is [ inl q ↦ cc | inr q ↦ cc ])
+  beat_keeps at Beat.GiveUp state taken iss acked len age part numbers is goes u e = absurd (goes refl)
+
+  pub keeps_in_time : (polls : ℕ) (at : Connection → Now) (numbers : List ℕ) (older : List Exchange) (c : Connection) → retransmissions older < retransmission_limit older → 0 < c.len → Stage polls older c → Keeps at c numbers
+  unfolding ticks_established
+  keeps_in_time polls at numbers older c few some stage = elim stage [
+    | at_syn iss age part k e syn y ↦
+        subst (λ (z : Connection). Keeps at z numbers) (sym e)
+        (beat_keeps at (beat_at 5 (age + 1)) SynRcvd 0 iss 0 1 age part numbers (inl refl) (goes_on_in_time 5 older age (inl refl) (let l = syn.limit in omega (arith, few, l)) y))
+    | reported taken iss acked len age most part k e t w b y ↦
+        (let d : Connection = conn_at Established taken iss acked len age part in
+        let beat : Beat = beat_at (limit_of Established) (age + 1) in
+        let ticks : on_tick m d numbers ≡ by_beat m beat d numbers = ap (λ (y : Bool). if y then by_beat m beat d numbers else polled_by m d numbers) (ltb-yes len w.some) in
+        subst (λ (z : Connection). Keeps at z numbers) (sym e)
+        (subst (λ (y : Outcome). (let r : Outcome = asked m at y in (u : PlainSegment) → segment_of m r.connection r.step ≡ Some u → has_rst u.flags ≡ false)) (sym ticks)
+        (beat_keeps at beat Established taken iss acked len age part numbers (inr refl) (goes_on_in_time 8 older age (inr refl) (let l = limit_low older in omega (arith, few, l)) y))))
+    | waits taken iss acked age most part k e t n r b ↦ absurd (let z = ap (λ (v : Connection). v.len) e in omega (arith, z, some))
+  ]
+
+  -- ---- while the SYN-ACK awaits its acknowledgement
+
+  no_syn : {P : Type 0} (c d : Connection) → c ≡ d → d.state ≡ Established → c.state ≡ SynRcvd → P
+  no_syn c d e f s = absurd (let z : Established ≡ SynRcvd = sym f ∙ sym (ap (λ (v : Connection). v.state) e) ∙ s in cc)
+
+  beat_state : (at : Connection → Now) (b : Beat) (iss age : ℕ) (part : AppState) (numbers : List ℕ) →
+      (let r : Outcome = asked m at (by_beat m b (conn_at SynRcvd 0 iss 0 1 age part) numbers) in (u : PlainSegment) → segment_of m r.connection r.step ≡ Some u → has_rst u.flags ≡ false) →
+      (asked m at (by_beat m b (conn_at SynRcvd 0 iss 0 1 age part) numbers)).connection.state ≡ SynRcvd
+  beat_state at Beat.Wait iss age part numbers h = refl
+  beat_state at Beat.Again iss age part numbers h = refl
+  beat_state at Beat.GiveUp iss age part numbers h = absurd (let c : Connection = conn_at SynRcvd 0 iss 0 1 age part in let z = h (reset_of (closes c)) refl in cc)
+
+  pub syn_stays : (polls : ℕ) (at : Connection → Now) (numbers : List ℕ) (older : List Exchange) (c : Connection) → c.state ≡ SynRcvd → Keeps at c numbers → Stage polls older c → (asked m at (on_tick m c numbers)).connection.state ≡ SynRcvd
+  syn_stays polls at numbers older c s keeps stage = elim stage [
+    | at_syn iss age part k e syn y ↦ subst (λ (z : Connection). (asked m at (on_tick m z numbers)).connection.state ≡ SynRcvd) (sym e)
+        (beat_state at (beat_at 5 (age + 1)) iss age part numbers (subst (λ (z : Connection). Keeps at z numbers) e keeps))
+    | reported taken iss acked len age most part k e t w b y ↦ no_syn c _ e refl s
+    | waits taken iss acked age most part k e t n r b ↦ no_syn c _ e refl s
+  ]
+
+  -- there the number of polls is of no account, the SYN-ACK is outstanding, and so it shows in the exchanges
+  pub stage_at : (polls other : ℕ) (incarnation : List Exchange) (c : Connection) → c.state ≡ SynRcvd → Stage polls incarnation c → Stage other incarnation c
+  stage_at polls other incarnation c s stage = elim stage [
+    | at_syn iss age part k e syn y ↦ at_syn iss age part k e syn y
+    | reported taken iss acked len age most part k e t w b y ↦ no_syn c _ e refl s
+    | waits taken iss acked age most part k e t n r b ↦ no_syn c _ e refl s
+  ]
+
+  pub syn_out : (polls : ℕ) (incarnation : List Exchange) (c : Connection) → c.state ≡ SynRcvd → Stage polls incarnation c → (0 < c.len) × (awaits_ack incarnation ≡ true)
+  syn_out polls incarnation c s stage = elim stage [
+    | at_syn iss age part k e syn y ↦ (let z = ap (λ (v : Connection). v.len) e in omega (arith, z), y.awaits)
+    | reported taken iss acked len age most part k e t w b y ↦ no_syn c _ e refl s
+    | waits taken iss acked age most part k e t n r b ↦ no_syn c _ e refl s
+  ]
+
+  -- ---- a stale segment changes nothing
+
+  -- what the node does with it: a bare ACK, or nothing
+  pub data Discards (c : Connection) (numbers : List ℕ) (o : Outcome) : Type 0 where
+    with_ack : o ≡ leaves c numbers Step.Ack → Discards c numbers o
+    silently : o ≡ leaves c numbers Step.Drop → Discards c numbers o
+
+  still_row : (numbers : List ℕ) (taken iss acked len age : ℕ) (part : AppState) (s : PlainSegment) → has_fin s.flags ≡ false → s.text ≡ [] → a.mss ≤ s.window →
+      in_established m false (conn_at Established taken iss acked len age part) numbers s ≡ leaves (conn_at Established taken iss acked len age part) numbers Step.Drop
+  unfolding in_established stays_established
+  still_row numbers taken iss acked len age part s f none w =
+      let c : Connection = conn_at Established taken iss acked len age part in
+      let delivered : After = delivers_text m numbers part s.text in
+      let d : Connection = conn_at Established (taken + length s.text) iss acked len age delivered.part in
+      let silent : not (has_text s) ≡ true = ap (λ (t : List ℕ). not (ltb 0 (length t))) none in
+      ap (λ b. if b then peer_closes m c numbers s else stays_established m false c numbers s) f
+      ∙ ap (λ b. if b then leaves (with_window s.window d) delivered.numbers Step.Drop else (if ltb 0 len then leaves (with_window s.window d) delivered.numbers Step.Ack else leaves (with_window s.window d) delivered.numbers (Step.Ask (has_text s)))) silent
+      ∙ ap (λ n. leaves (record d { mss = n }) delivered.numbers Step.Drop) (window_same s.window w)
+      ∙ ap (λ (t : List ℕ). leaves (conn_at Established (taken + length t) iss acked len age (delivers_text m numbers part t).part) (delivers_text m numbers part t).numbers Step.Drop) none
+      ∙ ap (λ n. leaves (conn_at Established n iss acked len age part) numbers Step.Drop) (let z : taken + 0 ≡ taken = omega arith in z)
+
+  out_of_order_row : (c : Connection) (numbers : List ℕ) (s : PlainSegment) → has_rst s.flags ≡ false → is_out_of_order c s ≡ true → on_segment m c numbers s ≡ leaves c numbers Step.Ack
+  unfolding on_segment
+  out_of_order_row c numbers s r h =
+      ap (λ b. if b then leaves (closes c) (reported_end m Reset c.state c.part numbers) Step.Drop else (if is_out_of_order c s then leaves c numbers Step.Ack else by_state m c.state (is_acked c s) c numbers s)) r
+      ∙ ap (λ b. if b then leaves c numbers Step.Ack else by_state m c.state (is_acked c s) c numbers s) h
+
+  unplaced_row : (c : Connection) (numbers : List ℕ) (s : PlainSegment) → has_rst s.flags ≡ false → occupies_sequence_space s ≡ false → on_segment m c numbers s ≡ by_state m c.state (is_acked c s) c numbers s
+  unfolding on_segment
+  unplaced_row c numbers s r h =
+      ap (λ b. if b then leaves (closes c) (reported_end m Reset c.state c.part numbers) Step.Drop else (if is_out_of_order c s then leaves c numbers Step.Ack else by_state m c.state (is_acked c s) c numbers s)) r
+      ∙ ap (λ b. if b && not (s.seq == rcv_nxt c) then leaves c numbers Step.Ack else by_state m c.state (is_acked c s) c numbers s) h
+
+  -- a segment that acknowledges nothing new, at the number that the node awaits
+  not_new : (c : Connection) (s : PlainSegment) (older : List Exchange) → awaits_ack older ≡ true → wrap (snd_una c + c.len) ≡ sent_next a older → not (acknowledges_new a older s) ≡ true → is_acked c s ≡ false
+  not_new c s older w e h =
+      let old : acknowledges_new a older s ≡ false = not-true (acknowledges_new a older s) h in
+      let same : has_ack s.flags && (s.ack == sent_next a older) ≡ false = ap (λ b. has_ack s.flags && (b && (s.ack == sent_next a older))) (sym w) ∙ old in
+      ack_test (has_ack s.flags) (ltb 0 c.len) (s.ack == wrap (snd_una c + c.len)) (ap (λ n. has_ack s.flags && (s.ack == n)) e ∙ same)
+
+  pub discards : (polls : ℕ) (numbers : List ℕ) (s : PlainSegment) (older : List Exchange) (c : Connection) → has_rst s.flags ≡ false → is_stale a older s ≡ true → (occupies_sequence_space s ≡ false → a.mss ≤ s.window) → Stage polls older c → Discards c numbers (on_segment m c numbers s)
+  discards polls numbers s older c r stale window stage = both_ways (occupies_sequence_space s)
+      (λ occ. with_ack (out_of_order_row c numbers s r
+      (let n : not (s.seq == expected_next a older) ≡ true = ap (λ b. if b then not (s.seq == expected_next a older) else not (acknowledges_new a older s)) (sym occ) ∙ stale in
+      ap (λ b. b && not (s.seq == rcv_nxt c)) occ ∙ ap (λ k. not (s.seq == k)) (expects polls older c stage) ∙ n)))
+      (λ occ. silently (let n : not (acknowledges_new a older s) ≡ true = ap (λ b. if b then not (s.seq == expected_next a older) else not (acknowledges_new a older s)) (sym occ) ∙ stale in
+      unplaced_row c numbers s r occ ∙ old_row polls numbers s older c n occ (window occ) stage))
+    where
+      expects : (polls : ℕ) (older : List Exchange) (c : Connection) → Stage polls older c → rcv_nxt c ≡ expected_next a older
+      expects polls older c stage = elim stage [
+        | at_syn iss age part k e syn y ↦ ap rcv_nxt e ∙ ap (λ (t : List ℕ). wrap (a.irs + 1 + length t)) (sym syn.received)
+        | reported taken iss acked len age most part k e t w b y ↦ ap rcv_nxt e ∙ ap (λ n. wrap (a.irs + 1 + n)) t.is_taken
+        | waits taken iss acked age most part k e t n r b ↦ ap rcv_nxt e ∙ ap (λ n. wrap (a.irs + 1 + n)) t.is_taken
+      ]
+
+      old_row : (polls : ℕ) (numbers : List ℕ) (s : PlainSegment) (older : List Exchange) (c : Connection) → not (acknowledges_new a older s) ≡ true → occupies_sequence_space s ≡ false → a.mss ≤ s.window → Stage polls older c →
+          by_state m c.state (is_acked c s) c numbers s ≡ leaves c numbers Step.Drop
+      old_row polls numbers s older c n occ w stage =
+          let parts = both_no (ltb 0 (length s.text)) (has_syn s.flags || has_fin s.flags) occ in
+          let none : s.text ≡ [] = nil_of s.text (ltb-zero (length s.text) parts.0) in
+          let fin : has_fin s.flags ≡ false = (both_no (has_syn s.flags) (has_fin s.flags) parts.1).1 in
+          elim stage [
+            | at_syn iss age part k e syn y ↦
+                (let d : Connection = conn_at SynRcvd 0 iss 0 1 age part in
+                let at : wrap (snd_una d + 1) ≡ sent_next a older =
+                wrap_wrap (iss + 0) 1 ∙ ap wrap (let z : iss + 0 + 1 ≡ iss + 1 = omega arith in z) ∙ k 1 ∙ ap wrap (let z = ap length syn.has in let q : a.iss + 1 ≡ a.iss + 1 + length (has_of a.iss older) = omega (arith, z) in q) in
+                subst (λ (z : Connection). by_state m z.state (is_acked z s) z numbers s ≡ leaves z numbers Step.Drop) (sym e)
+                (ap (λ b. by_state m SynRcvd b d numbers s) (not_new d s older y.awaits at n)))
+            | reported taken iss acked len age most part k e t w' b y ↦
+                (let d : Connection = conn_at Established taken iss acked len age part in
+                let at : wrap (snd_una d + len) ≡ sent_next a older =
+                wrap_wrap (iss + acked) len ∙ ap wrap (let z : iss + acked + len ≡ iss + (acked + len) = omega arith in z) ∙ k (acked + len)
+                ∙ ap wrap (let z = has_length older part taken acked len t in let i = t.is_acked in let q : a.iss + (acked + len) ≡ a.iss + 1 + length (has_of a.iss older) = omega (arith, z, i) in q) in
+                subst (λ (z : Connection). by_state m z.state (is_acked z s) z numbers s ≡ leaves z numbers Step.Drop) (sym e)
+                (ap (λ b. by_state m Established b d numbers s) (not_new d s older y.awaits at n) ∙ still_row numbers taken iss acked len age part s fin none w))
+            | waits taken iss acked age most part k e t n r b ↦
+                (let d : Connection = conn_at Established taken iss acked 0 age part in
+                subst (λ (z : Connection). by_state m z.state (is_acked z s) z numbers s ≡ leaves z numbers Step.Drop) (sym e)
+                (ap (λ b. by_state m Established b d numbers s) (and_no (has_ack s.flags)) ∙ still_row numbers taken iss acked 0 age part s fin none w))
+          ]
 
   -- ---- what holds at each stage
 
   pub stage_serves : (polls : ℕ) (incarnation : List Exchange) (c : Connection) → Stage polls incarnation c → serves p c ≡ true
   stage_serves polls incarnation c h = elim h [
-    | at_syn iss age part k e t ↦ ap (serves p) e ∙ same_self p
-    | reported taken iss acked len age most part k e t w b ↦ ap (serves p) e ∙ same_self p
+    | at_syn iss age part k e t y ↦ ap (serves p) e ∙ same_self p
+    | reported taken iss acked len age most part k e t w b y ↦ ap (serves p) e ∙ same_self p
     | waits taken iss acked age most part k e t n r b ↦ ap (serves p) e ∙ same_self p
   ]
 
   pub stage_stays : (polls : ℕ) (incarnation : List Exchange) (c : Connection) → Stage polls incarnation c → is_time_wait c.state ≡ false
   stage_stays polls incarnation c h = elim h [
-    | at_syn iss age part k e t ↦ ap (λ z. is_time_wait z.state) e
-    | reported taken iss acked len age most part k e t w b ↦ ap (λ z. is_time_wait z.state) e
+    | at_syn iss age part k e t y ↦ ap (λ z. is_time_wait z.state) e
+    | reported taken iss acked len age most part k e t w b y ↦ ap (λ z. is_time_wait z.state) e
     | waits taken iss acked age most part k e t n r b ↦ ap (λ z. is_time_wait z.state) e
   ]
 
@@ -562,8 +748,8 @@ module _ (m : AppSpec) (pages : Pages) (lawful : IsPaged m pages) (p : Sockets) 
   -- with more acknowledgements without text than texts, after the whole request, the page was sent
   pub runs_out : (polls : ℕ) (incarnation : List Exchange) (c : Connection) → text_received incarnation ≡ a.request → texts < bare_acks incarnation → Stage polls incarnation c → ⊥
   runs_out polls incarnation c whole l h = elim h [
-    | at_syn iss age part k e t ↦ (let z = t.none in omega (arith, z, l))
-    | reported taken iss acked len age most part k e t w b ↦ (let z = (w.next []).1 in omega (arith, z, l, b))
+    | at_syn iss age part k e t y ↦ (let z = t.none in omega (arith, z, l))
+    | reported taken iss acked len age most part k e t w b y ↦ (let z = (w.next []).1 in omega (arith, z, l, b))
     | waits taken iss acked age most part k e t n r b ↦ r.more (t.input ∙ whole)
   ]
 

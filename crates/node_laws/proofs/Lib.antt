@@ -13,13 +13,17 @@ pub mod TurnRuns
 pub mod EveryTraceConforms
 pub mod Rows
 pub mod HonestRows
+pub mod LossyRows
 pub mod WindowRows
 pub mod WrongIncarnations
 pub mod Steps
 pub mod Slots
 pub mod GoodNodes
 pub mod HonestSessions
+pub mod Waiting
+pub mod Paging
 pub mod HonestConnections
+pub mod Arriving
 pub mod HonestPeers
 pub mod Beating
 pub mod Timers

@@ -8,7 +8,7 @@ pub use Rattle.app_events.specs.declared.want.Want.{Want}
 pub use Rattle.app_events.specs.declared.want.Want.TheVariants.{Abort, Close, Nothing, Send}
 pub use Rattle.icmp_echo.specs.Prelude.{echo_fate}
 pub use Rattle.icmp_echo.specs.declared.fate.IcmpFate.{IcmpFate}
-pub use Rattle.node_laws.specs.Prelude.{AcceptsPrefix, Account, AccountHolds, Acknowledges, Asker, Begins, CarriesByte, EndsAfter, EveryTraceConforms, EveryTraceOfPagesConforms, Exchange, FitsNewest, FitsWindows, FollowsModelAt, FollowsPagesAt, Free, HasItsPage, HasOutputModel, HonestPeer, IncarnationConforms, Interactive, IsSelection, IsAcknowledged, IsAtOffset, IsEchoed, IsExtendedBy, IsHonest, IsIncarnationIn, IsNewText, IsOfLine, IsOutstanding, IsPagedAt, IsPassedOver, IsPrefixOfPage, IsDecoded, IsDecodedAt, IsReceived, IsRetried, IsRetriedIn, IsSolicited, IsWaitedFor, IsWithoutReset, LeavesDelivered, ContinuesUnreset, NothingUnsolicited, NumbersGiveOffsets, Opening, OpensServed, OutputModel, Paged, PlainestReceives, RetransmitsOrResets, SendsNext, SendsSlice, SendsSyn, SpeaksBy, TextConforms, TraceConforms, TraceEntry, WindowsAreRespected, WrongIncarnationsFall, acknowledges_refused, at_every_port, awaits_ack, bare_acks, calls_of, cut_again, echoes_before, ends_early, exchange, exchanged, exchanges_onto, exchanges_with, given_up, hello_pages, in_turn, is_bare_ack, is_empty, is_incarnation, is_opening, mirror_pages, of_bytes, of_call, of_overlong, opened, received_at, received_from, receives, receives_all, repeats_byte, replies_of, seen_from_peer, segment, sent_again, sent_at, sent_to, sequence_length, takes_next, reports_another, text_received, trace_of, two_under_way, with_first}
+pub use Rattle.node_laws.specs.Prelude.{AcceptsPrefix, Account, AccountHolds, Acknowledges, Arrives, ArrivesIn, ArrivesUnderLoss, Asker, AsksOverLoss, HasAcknowledged, IsLossy, IsOverLoss, ReceivesStale, acknowledges_new, expected_next, fresh, in_handshake, is_stale, retransmission_limit, retransmissions, sent_next, with_fresh, Begins, CarriesByte, EndsAfter, EveryTraceConforms, EveryTraceOfPagesConforms, Exchange, FitsNewest, FitsWindows, FollowsModelAt, FollowsPagesAt, Free, HasItsPage, HasOutputModel, HonestPeer, IncarnationConforms, Interactive, IsSelection, IsAcknowledged, IsAtOffset, IsEchoed, IsExtendedBy, IsHonest, IsIncarnationIn, IsNewText, IsOfLine, IsOutstanding, IsPagedAt, IsPassedOver, IsPrefixOfPage, IsDecoded, IsDecodedAt, IsReceived, IsRetried, IsRetriedIn, IsSolicited, IsWaitedFor, IsWithoutReset, LeavesDelivered, ContinuesUnreset, NothingUnsolicited, NumbersGiveOffsets, Opening, OpensServed, OutputModel, Paged, PlainestReceives, RetransmitsOrResets, RetriesIn, SendsNext, SendsSlice, SendsSyn, SpeaksBy, TextConforms, TraceConforms, TraceEntry, WindowsAreRespected, WrongIncarnationsFall, acknowledges_refused, at_every_port, awaits_ack, bare_acks, calls_of, cut_again, echoes_before, ends_early, exchange, exchanged, exchanges_onto, exchanges_with, given_up, hello_pages, in_turn, is_bare_ack, is_empty, is_incarnation, is_opening, mirror_pages, of_bytes, of_call, of_overlong, opened, received_at, received_from, receives, receives_all, repeats_byte, replies_of, seen_from_peer, segment, sent_again, sent_at, sent_to, sequence_length, takes_next, reports_another, text_received, trace_of, two_under_way, with_first}
 pub use Rattle.rexmit_timer.specs.Prelude.{ages, beat_at, give_up_age}
 pub use Rattle.rexmit_timer.specs.declared.timer.Beat.{Beat}
 pub use Rattle.std.proofs.Common.{Bool, List, None, Option, Result, Some, [], ap, append_assoc, arith, bytes_eq, drop, eqb, false, if◌then◌else◌, inl, inr, is_some, length, length-append, length-drop, length-take, ltb, map, min, not, position, refl, replicate, set, slice_get, slice_index, slice_index_or, subst, suc, sym, take, true, zero, ℕ, ◌%◌, ◌&&◌, ◌++◌, ◌+◌, ◌-◌, ◌<◌, ◌==◌, ◌||◌, ◌∙◌, ◌∷◌, ◌≡◌, ◌≤◌, ◌⊎◌}

@@ -1,9 +1,10 @@
 -- What is outstanding in the exchanges is outstanding at the node, and its timer expires.
-use Rattle.node_laws.proofs.Prelude.{All, option_map_or, option_map, ◌≡◌, ℕ, zero, suc, ◌+◌, ◌<◌, ◌≤◌, ◌==◌, Bool, true, false, not, ◌&&◌, inl, inr, List, [], ◌∷◌, ◌++◌, length, set, take, refl, sym, ap, ◌∙◌, subst, arith, Option, Some, None, slice_get, ltb, if◌then◌else◌, cases_lt, All-head, All-tail, wrap, Addr, PlainSegment, has_rst, has_ack, AppSpec, IsNow, is_time_wait, beat_at, Beat, Now, State, Closed, SynRcvd, Established, CloseWait, FinWait1, FinWait2, Closing, TimeWait, LastAck, Sockets, Connection, closed, is_live, serves, same_sockets, snd_una, occupies_sequence_space, segment_of, is_again, reset_for_no_connection, reset_of, syn_ack, Outcome, leaves, closes, asked, accepted, is_acked, on_segment, by_beat, grows_older, limit_of, on_tick, outstanding, Step, Event, called_by, IpRefused, IcmpRefused, TcpRefused, EchoAsked, Arrived, Overlong, Periodic, TcpReply, AbstractNode, NodeStep, snapshot, initial_node, step, serving, IsEvent, Alike, IsSteady, both_ways, and_true, eqb-eq, only_some, Single, get_set, get_set_same, is_served, serving_free, none_serves, here, there, served, free, FitConn, on_segment_fits, on_tick_fits, node_snapshot, Moves, asked_moves, segment_moves, tick_moves, on_segment_keeps, asked_keeps, on_tick_keeps, same_is, serves_dead, serves_yes, stepped_reports, IsDue, StepReports, OutReports, due, alike_trans, alike_sym, alike_refl, segment_reports, tick_reports, IsWithoutReset, sequence_length, Exchange, TraceEntry, sent_at, exchange, received_from, exchanges_onto, trace_of, calls_of, IsOutstanding, IsRetried, IsRetriedIn, RetransmitsOrResets, sent_again, given_up, IsOfLine}
-use Rattle.node_laws.proofs.HonestPeers.{calls_one}
+use Rattle.node_laws.proofs.Prelude.{All, append_assoc, map, IsU32, option_map_or, option_map, ◌≡◌, ℕ, zero, suc, ◌+◌, ◌<◌, ◌≤◌, ◌==◌, Bool, true, false, not, ◌&&◌, inl, inr, List, [], ◌∷◌, ◌++◌, length, set, take, refl, sym, ap, ◌∙◌, subst, arith, Option, Some, None, slice_get, ltb, if◌then◌else◌, cases_lt, All-head, All-tail, wrap, Addr, PlainSegment, has_rst, has_ack, AppSpec, IsNow, is_time_wait, beat_at, Beat, Now, State, Closed, SynRcvd, Established, CloseWait, FinWait1, FinWait2, Closing, TimeWait, LastAck, Sockets, Connection, closed, is_live, serves, same_sockets, snd_una, occupies_sequence_space, segment_of, is_again, reset_for_no_connection, reset_of, syn_ack, Outcome, leaves, closes, asked, accepted, is_acked, on_segment, by_beat, grows_older, limit_of, on_tick, outstanding, Step, Event, called_by, IpRefused, IcmpRefused, TcpRefused, EchoAsked, Arrived, Overlong, Periodic, TcpReply, AbstractNode, NodeStep, snapshot, initial_node, step, serving, IsEvent, Alike, IsSteady, both_ways, and_true, eqb-eq, only_some, Single, get_set, get_set_same, is_served, serving_free, none_serves, here, there, served, free, FitConn, on_segment_fits, on_tick_fits, node_snapshot, Moves, asked_moves, segment_moves, tick_moves, on_segment_keeps, asked_keeps, on_tick_keeps, same_is, serves_dead, serves_yes, stepped_reports, IsDue, StepReports, OutReports, due, alike_trans, alike_sym, alike_refl, segment_reports, tick_reports, IsWithoutReset, sequence_length, Exchange, TraceEntry, sent_at, exchange, received_from, exchanges_onto, trace_of, calls_of, IsOutstanding, IsRetried, IsRetriedIn, RetransmitsOrResets, RetriesIn, sent_again, given_up, IsOfLine}
+use Rattle.node_laws.proofs.Arriving.{calls_one}
 use Rattle.node_laws.proofs.Beating.{Young, asked_young, segment_young, tick_young, due_size, asked_lives, segment_lives, tick_lives, mss_some, no_wait, ticks_are, due_again, next_beat, SafeAt}
 use Rattle.node_laws.proofs.GoodNodes.{AnyLength, Good, SafeConn, first_is, good_on, good_start, low_text}
 use Rattle.node_laws.proofs.Lines.{comes, quiet, met}
+use Rattle.node_laws.proofs.Steps.{Changes, IsStep, LineStep, OfNode, all_happen, changed, changed_good, cut, event_first, trace_over, turns_happen}
 use Rattle.node_laws.proofs.Lines.OfMedium.{passes_by, evicted, unanswered, refused, born, delivers_text, ticks}
 use Rattle.node_laws.proofs.Slots.{Acted, acts}
 use Rattle.node_laws.proofs.Slots.Acts.{is_called, is_met, is_apart, makes_room}
@@ -331,15 +332,24 @@ module _ (m : AppSpec) (steady : IsSteady m) (ports : ℕ → Bool) (p : Sockets
     later : c.age < at
     beats : beat_at (limit_of c.state) at ≡ Beat.Wait → ⊥
 
+  -- the numbers of the application are changed
+  changed_represents : (change : List ℕ → List ℕ) (n : AbstractNode) (session : List Exchange) → Representing n session → Representing (changed change n) session
+  changed_represents change n session s = elim s [
+    | incarnations v ↦ incarnations record { i = v.i; c = v.c; there = v.there; own = v.own; safe = v.safe; young = v.young; out = v.out }
+    | gone dead out ↦ gone dead out
+  ]
+
   module _ (own : Addr) (s : PlainSegment) where
-    retries : (es : List Event) (n : AbstractNode) (i at : ℕ) (c : Connection) → All (IsOfLine own) es → Good n → Waits n s i at c → at ≤ c.age + calls_of i (trace_of m ports es n) → NoneComes (trace_of m ports es n) → IsRetriedIn p s (trace_of m ports es n)
+    retries : (es : List LineStep) (n : AbstractNode) (i at : ℕ) (c : Connection) → All (IsStep own) es → Good n → Waits n s i at c → at ≤ c.age + calls_of i (trace_over m ports es n) → NoneComes (trace_over m ports es n) → IsRetriedIn p s (trace_over m ports es n)
     retries [] n i at c l g w few none = absurd (let z = w.later in omega (arith, z, few))
-    retries (e ∷ es) n i at c l g w few none =
+    retries (Changes change ∷ es) n i at c l g w few none =
+        retries es (changed change n) i at c (All-tail (IsStep own) (Changes change) es l) (changed_good own change es n l g) record { there = w.there; own = w.own; safe = w.safe; due_now = w.due_now; later = w.later; beats = w.beats } few none
+    retries (OfNode e ∷ es) n i at c l g w few none =
         let r : NodeStep = step m ports n e in
         let t : TraceEntry = record { event = e; sent = r.sent } in
-        let rest : List TraceEntry = trace_of m ports es r.node in
-        let is : IsEvent e = first_is own e es l in
-        let l' : All (IsOfLine own) es = All-tail (IsOfLine own) e es l in
+        let rest : List TraceEntry = trace_over m ports es r.node in
+        let is : IsEvent e = event_first own e es l in
+        let l' : All (IsStep own) es = All-tail (IsStep own) (OfNode e) es l in
         let g' : Good r.node = good_on m steady ports n e is g in
         let none' : NoneComes rest = All-tail (λ z. received_from p z.event ≡ None) t rest none in
         let quiet_here : received_from p e ≡ None = All-head (λ z. received_from p z.event ≡ None) t rest none in
@@ -376,7 +386,7 @@ module _ (m : AppSpec) (steady : IsSteady m) (ports : ℕ → Bool) (p : Sockets
           | makes_room x rested_so free_now ↦ absurd (no_wait m steady AnyLength (low_text m) c c.state w.safe.state w.due_now.len rested_so)
         ]
 
-    at_end : (n : AbstractNode) (es : List Event) (session : List Exchange) → All (IsOfLine own) es → Good n → Representing n session → IsOutstanding session s → NoneComes (trace_of m ports es n) → ((slot : ℕ) → slot < 10 → 49 ≤ calls_of slot (trace_of m ports es n)) → IsRetriedIn p s (trace_of m ports es n)
+    at_end : (n : AbstractNode) (es : List LineStep) (session : List Exchange) → All (IsStep own) es → Good n → Representing n session → IsOutstanding session s → NoneComes (trace_over m ports es n) → ((slot : ℕ) → slot < 10 → 49 ≤ calls_of slot (trace_over m ports es n)) → IsRetriedIn p s (trace_over m ports es n)
     at_end n es session l g st out none calls = elim st [
       | gone dead over ↦ absurd (over s out)
       | incarnations v ↦
@@ -388,21 +398,29 @@ module _ (m : AppSpec) (steady : IsSteady m) (ports : ℕ → Bool) (p : Sockets
           retries es n v.i next.at v.c l g record { there = v.there; own = v.own; safe = v.safe; due_now = due_now; later = next.later; beats = next.beats } (omega (arith, enough, soon)) none)
     ]
 
-    from_before : (before waiting : List TraceEntry) (es : List Event) (n : AbstractNode) (session : List Exchange) → trace_of m ports es n ≡ before ++ waiting → All (IsOfLine own) es → Good n → Representing n session → IsOutstanding (exchanges_onto p before session) s → NoneComes waiting → ((slot : ℕ) → slot < 10 → 49 ≤ calls_of slot waiting) → IsRetriedIn p s waiting
+    from_before : (before waiting : List TraceEntry) (es : List LineStep) (n : AbstractNode) (session : List Exchange) → trace_over m ports es n ≡ before ++ waiting → All (IsStep own) es → Good n → Representing n session → IsOutstanding (exchanges_onto p before session) s → NoneComes waiting → ((slot : ℕ) → slot < 10 → 49 ≤ calls_of slot waiting) → IsRetriedIn p s waiting
     from_before [] waiting es n session q l g st out none calls =
         subst (λ ts. IsRetriedIn p s ts) q (at_end n es session l g st out (subst NoneComes (sym q) none) (subst (λ ts. (slot : ℕ) → slot < 10 → 49 ≤ calls_of slot ts) (sym q) calls))
     from_before (t ∷ before) waiting [] n session q l g st out none calls = absurd (cc)
-    from_before (t ∷ before) waiting (e ∷ es) n session q l g st out none calls =
+    from_before (t ∷ before) waiting (Changes change ∷ es) n session q l g st out none calls =
+        from_before (t ∷ before) waiting es (changed change n) session q (All-tail (IsStep own) (Changes change) es l) (changed_good own change es n l g) (changed_represents change n session st) out none calls
+    from_before (t ∷ before) waiting (OfNode e ∷ es) n session q l g st out none calls =
         let r : NodeStep = step m ports n e in
         let turn : TraceEntry = record { event = e; sent = r.sent } in
         let head : turn ≡ t = cc in
-        let tail : trace_of m ports es r.node ≡ before ++ waiting = cc in
-        let is : IsEvent e = first_is own e es l in
-        from_before before waiting es r.node (exchange p e r.sent ∷ session) tail (All-tail (IsOfLine own) e es l) (good_on m steady ports n e is g) (represents_on n e g session is st)
+        let tail : trace_over m ports es r.node ≡ before ++ waiting = cc in
+        let is : IsEvent e = event_first own e es l in
+        from_before before waiting es r.node (exchange p e r.sent ∷ session) tail (All-tail (IsStep own) (OfNode e) es l) (good_on m steady ports n e is g) (represents_on n e g session is st)
         (subst (λ z. IsOutstanding (exchanges_onto p before (z ∷ session)) s) (ap (λ z. exchange p z.event z.sent) (sym head)) out) none calls
 
-pub retransmits_or_resets : RetransmitsOrResets
-retransmits_or_resets m steady ports own addr numbers words events of p s before waiting split out none calls =
-    from_before m steady ports p own s before waiting events (initial_node own numbers) [] split of
+pub retries_over_steps : (m : AppSpec) → IsSteady m → (ports : ℕ → Bool) (own : Addr) (numbers : List ℕ) → All IsU32 numbers → (steps : List LineStep) → All (IsStep own) steps
+    → RetriesIn (trace_over m ports steps (initial_node own numbers))
+retries_over_steps m steady ports own numbers words steps of p s before waiting later split out none calls =
+    let front = cut m ports own steps (initial_node own numbers) (before ++ waiting) later of (split ∙ sym (append_assoc before waiting later)) in
+    from_before m steady ports p own s before waiting front.steps (initial_node own numbers) [] front.turns front.are
     (good_start own numbers words)
     (gone (ap (λ c. is_live c.state) (serving_free (initial_node own numbers).connections p (none_serves 10 p))) none_outstands) out none calls
+
+pub retransmits_or_resets : RetransmitsOrResets
+retransmits_or_resets m steady ports own addr numbers words events of =
+    subst RetriesIn (turns_happen m ports events (initial_node own numbers)) (retries_over_steps m steady ports own numbers words (map OfNode events) (all_happen own events of))

@@ -7,6 +7,7 @@ pub mod Turns
 pub mod Speakers
 pub mod TraceConforms
 pub mod HonestPeers
+pub mod LossyPeers
 pub mod Timers
 pub mod Windows
 pub mod WrongIncarnations

@@ -2,6 +2,8 @@
 pub use Rattle.node_laws.specs.Asked.{IsEchoed, IsSolicited, IsWithoutReset, ContinuesUnreset, NothingUnsolicited, OpensServed}
 pub use Rattle.node_laws.specs.HonestPeers.{Asker, AsksHonestly, HasItsPage, HonestPeer, IsHonest, IsWaitedFor, SendsNext, SendsSyn}
 pub use Rattle.node_laws.specs.HonestPeers.{awaits_ack, bare_acks, calls_of, in_turn, is_bare_ack, receives_all, text_received}
+pub use Rattle.node_laws.specs.LossyPeers.{Arrives, ArrivesIn, ArrivesUnderLoss, AsksOverLoss, HasAcknowledged, IsLossy, IsOverLoss, ReceivesStale, acknowledges_new, expected_next}
+pub use Rattle.node_laws.specs.LossyPeers.{fresh, in_handshake, is_stale, retransmission_limit, retransmissions, sent_next, with_fresh}
 pub use Rattle.node_laws.specs.Promise.{Account, AccountHolds, Acknowledges, Begins, IncarnationConforms, IsSelection}
 pub use Rattle.node_laws.specs.Promise.{IsAcknowledged, IsAtOffset, IsExtendedBy, IsPrefixOfPage, NumbersGiveOffsets}
 pub use Rattle.node_laws.specs.Promise.{Opening, OutputModel, SendsSlice, TextConforms, sequence_length}
@@ -9,7 +11,7 @@ pub use Rattle.node_laws.specs.Promise.OutputModel.{Free, Interactive, Paged}
 pub use Rattle.node_laws.specs.Receivers.{CarriesByte, EndsAfter, IsReceived, PlainestReceives, receives, takes_next}
 pub use Rattle.node_laws.specs.Speakers.{AcceptsPrefix, FollowsModelAt, FollowsPagesAt}
 pub use Rattle.node_laws.specs.Speakers.{HasOutputModel, IsPagedAt, LeavesDelivered, at_every_port}
-pub use Rattle.node_laws.specs.Timers.{IsOutstanding, IsRetried, IsRetriedIn, RetransmitsOrResets}
+pub use Rattle.node_laws.specs.Timers.{IsOutstanding, IsRetried, IsRetriedIn, RetransmitsOrResets, RetriesIn}
 pub use Rattle.node_laws.specs.Timers.IsRetried.{given_up, sent_again}
 pub use Rattle.node_laws.specs.TraceConforms.{EveryTraceConforms, EveryTraceOfPagesConforms, TraceConforms}
 pub use Rattle.node_laws.specs.Traces.{Exchange, IsIncarnationIn, TraceEntry, exchange, exchanges_onto, exchanges_with, is_empty}

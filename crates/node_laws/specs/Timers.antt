@@ -35,11 +35,16 @@ pub record IsRetriedIn (p : Sockets) (s : PlainSegment) (trace : List TraceEntry
   pub there : slice_get trace place ≡ Some turn
   pub retried : IsRetried p s turn
 
--- Let each of the ten slots be called 49 times while nothing is received from the peer. Then some entry retransmits what is outstanding,
--- or resets the connection. This holds for every steady application.
+-- At any point of this trace let each of the ten slots be called 49 times while nothing is received from the peer. Then some entry of these
+-- retransmits what is outstanding, or resets the connection.
+abbrev pub RetriesIn : List TraceEntry → Type 0
+RetriesIn trace =
+    (p : Sockets) (s : PlainSegment) (before waiting later : List TraceEntry) → trace ≡ before ++ (waiting ++ later)
+    → IsOutstanding (exchanges_with p before) s → All (λ t. received_from p t.event ≡ None) waiting
+    → ((slot : ℕ) → slot < 10 → 49 ≤ calls_of slot waiting) → IsRetriedIn p s waiting
+
+-- This holds in every trace of a node, for every steady application.
 abbrev pub RetransmitsOrResets : Type 0
 RetransmitsOrResets =
     (m : AppSpec) → IsSteady m → (ports : ℕ → Bool) (own : Addr) → IsAddr own → (numbers : List ℕ) → All IsU32 numbers
-    → (events : List Event) → All (IsOfLine own) events → (p : Sockets) (s : PlainSegment) (before waiting : List TraceEntry)
-    → trace_of m ports events (initial_node own numbers) ≡ before ++ waiting → IsOutstanding (exchanges_with p before) s
-    → All (λ t. received_from p t.event ≡ None) waiting → ((slot : ℕ) → slot < 10 → 49 ≤ calls_of slot waiting) → IsRetriedIn p s waiting
+    → (events : List Event) → All (IsOfLine own) events → RetriesIn (trace_of m ports events (initial_node own numbers))

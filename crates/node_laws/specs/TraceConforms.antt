@@ -9,16 +9,18 @@ use Rattle.node_laws.specs.Promise.{IncarnationConforms, OutputModel}
 use Rattle.node_laws.specs.Speakers.{HasOutputModel, at_every_port}
 use Rattle.node_laws.specs.Asked.{IsEchoed, NothingUnsolicited, OpensServed}
 use Rattle.node_laws.specs.Wire.{IsOfLine, IsDecoded}
+use Rattle.node_laws.specs.Timers.{RetriesIn}
 use Rattle.node_laws.specs.Turns.{trace_of}
 
 -- Every incarnation of every connection conforms to the output model of its port. Nothing is sent unsolicited, and connections open only
--- at served ports. An echo reply answers the request of the same trace entry.
+-- at served ports. An echo reply answers the request of the same trace entry. What is outstanding is retransmitted, or the connection reset.
 pub record TraceConforms (model : ℕ → OutputModel) (served : ℕ → Bool) (trace : List TraceEntry) : Type 0 where
   pub incarnations : (p : Sockets) (incarnation : List Exchange)
       → IsIncarnationIn (exchanges_with p trace) incarnation → IncarnationConforms (model p.own_port.0) incarnation
   pub asked : (p : Sockets) → NothingUnsolicited (exchanges_with p trace)
   pub ports : (p : Sockets) → OpensServed served p (exchanges_with p trace)
   pub echoes : All IsEchoed trace
+  pub retries : RetriesIn trace
 
 -- Every trace of a node conforms to the output model of its application, for any events of a line and every application that never retracts
 -- output and sends bytes. Each peer that checks as the node does reads its segments as they were meant.

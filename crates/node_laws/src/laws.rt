@@ -1,6 +1,6 @@
 //! The laws of a node's trace.
 
-ghost use Rattle.node_laws.specs.Prelude.{HonestPeer, EveryTraceConforms, EveryTraceOfPagesConforms, PlainestReceives};
+ghost use Rattle.node_laws.specs.Prelude.{ArrivesUnderLoss, HonestPeer, EveryTraceConforms, EveryTraceOfPagesConforms, PlainestReceives};
 ghost use Rattle.node_laws.specs.Prelude.{RetransmitsOrResets, WindowsAreRespected, WrongIncarnationsFall};
 
 /// Holds for any datagrams, from any peers, and every application that never retracts text. Every incarnation of every connection in a
@@ -28,6 +28,12 @@ pub fn wrong_incarnations_fall()
 /// segments.
 pub fn honest_peer()
     ensures { HonestPeer }
+{}
+
+/// The same over a link that loses, repeats and reorders datagrams, if what is outstanding is acknowledged before the last retransmission.
+/// The connection is not reset before.
+pub fn arrives_under_loss()
+    ensures { ArrivesUnderLoss }
 {}
 
 /// What is outstanding is retransmitted, or the connection reset, within 49 calls of each slot in which nothing is received from the peer.

@@ -5,6 +5,6 @@
 mod laws;
 
 pub use laws::{
-    every_trace_conforms, every_trace_of_pages_conforms, honest_peer, plainest_receives,
-    retransmits_or_resets, windows_are_respected, wrong_incarnations_fall,
+    arrives_under_loss, every_trace_conforms, every_trace_of_pages_conforms, honest_peer,
+    plainest_receives, retransmits_or_resets, windows_are_respected, wrong_incarnations_fall,
 };

@@ -88,7 +88,7 @@ module _ (files : List File) (own : Addr) (mac : Mac) (network : Network) (all :
 
 module _ (site : SiteContent) (loaded : IsLoaded site) (image : All IsByte site.image) (sound : HasSoundScripts word_calls (files_of site)) (own : Addr) (is : IsAddr own) (mac : Mac) (network : Network) where
   pub f_keeps : (all : List AnsweredFrame) → All IsFrameOfBytes (frame_moves_of all) → (closed old new : Kept) → OpensEtherAs (files_of site) own mac network closed old
-      → DidFrames all old new → FramesConform (ether_frames (interface_at own mac network)) (at_every_port (value_pages (files_of site))) is_served own all
+      → DidFrames all old new → FramesConform (ether_frames (interface_at own mac network)) (value_spec (files_of site)) (at_every_port (value_pages (files_of site))) is_served own all
   f_keeps all bytes closed old new opens did =
       let files : List File = files_of site in
       let on : OnDevices all opens.1.0 new = on_devices all opens.1.0 old new opens.1.1 did in

@@ -102,11 +102,11 @@ module _ (files : List File) (own : Addr) (all : List Answered) (closed old new 
 
 module _ (site : SiteContent) (loaded : IsLoaded site) (image : All IsByte site.image) (sound : HasSoundScripts word_calls (files_of site)) (own : Addr) (is : IsAddr own) where
   pub c_keeps : (all : List Answered) → All IsOfBytes (moves_of all) → (closed old new : Kept) → OpensAs (files_of site) own closed old
-      → (did : DidAll all old new) → CallsConform (value_pages (files_of site)) is_served own all (lefts_in all old new did)
+      → (did : DidAll all old new) → CallsConform (value_spec (files_of site)) (value_pages (files_of site)) is_served own all (lefts_in all old new did)
   c_keeps all bytes closed old new opens did =
       let files : List File = files_of site in
       let on : OnDevices all opens.1.0 old new did = on_devices all opens.1.0 old new opens.1.1 did in
-      subst (λ (l : List (List ℕ)). CallsConform (value_pages files) is_served own all l) on.lefts
+      subst (λ (l : List (List ℕ)). CallsConform (value_spec files) (value_pages files) is_served own all l) on.lefts
       (keeps_calls ghosts (value_spec files) (value_pages files) (keeps_page_laws_by words words_short site loaded sound)
       (λ delivered captures bytes are. made_of_bytes_by words words_bytes site image delivered captures are)
       write_value written_words (first_numbers files) (first_words files) own is all bytes opens.1.0 on.last opens.1.2.fresh on.answers)

@@ -12,7 +12,7 @@ use Rattle.ethernet_arp.specs.declared.mac.Mac.{Mac}
 use Rattle.frame_device.specs.declared.network.Network.{Network}
 use Rattle.node_laws.specs.Prelude.{at_every_port}
 use Rattle.frame_device.specs.Prelude.{AnsweredFrame, FramesConform, IsFrameOfBytes, ether_frames, frame_moves_of, interface_at}
-use Rattle.uip_device.specs.Prelude.{Answered, Bring, CallsConform, IsOfBytes, line_handed, moves_of, value_pages, web_output}
+use Rattle.uip_device.specs.Prelude.{Answered, Bring, CallsConform, IsOfBytes, line_handed, moves_of, value_pages, value_spec, web_output}
 use Rattle.uip_c.specs.FrameHandles.{DidFrames, OpensEtherAs}
 use Rattle.uip_c.specs.Handles.{DidAll, OpensAs, lefts_in}
 use Rattle.uip_c.specs.Kept.{IsLine, Kept}
@@ -28,7 +28,7 @@ abbrev pub CallsFromCConform : Type 0
 CallsFromCConform = OfSites (λ site own.
     (all : List Answered) → All IsOfBytes (moves_of all) → (closed old new : Kept)
     → OpensAs (files_of site) own closed old → (did : DidAll all old new)
-    → CallsConform (value_pages (files_of site)) is_served own all (lefts_in all old new did))
+    → CallsConform (value_spec (files_of site)) (value_pages (files_of site)) is_served own all (lefts_in all old new did))
 
 -- If the calls alone bring the items of a line at a pace, in order, no value is set and no output is pending at the end, the output is what
 -- the server of a serial line writes for these items.
@@ -43,4 +43,4 @@ abbrev pub FramesFromCConform : Type 0
 FramesFromCConform = OfSites (λ site own.
     (mac : Mac) (network : Network) (all : List AnsweredFrame) → All IsFrameOfBytes (frame_moves_of all) → (closed old new : Kept)
     → OpensEtherAs (files_of site) own mac network closed old → DidFrames all old new
-    → FramesConform (ether_frames (interface_at own mac network)) (at_every_port (value_pages (files_of site))) is_served own all)
+    → FramesConform (ether_frames (interface_at own mac network)) (value_spec (files_of site)) (at_every_port (value_pages (files_of site))) is_served own all)

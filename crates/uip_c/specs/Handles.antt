@@ -1,11 +1,11 @@
 -- What a call does to what a handle keeps. Calls over Ethernet: `specs/FrameHandles.antt`.
-use Rattle.std.specs.Prelude.{◌≡◌, ◌∷◌, [], is_some, List, true, ℕ}
+use Rattle.std.specs.Prelude.{◌≡◌, ◌∷◌, [], Bool, is_some, List, true, ℕ}
 use Rattle.site_image.specs.Prelude.{File}
 use Rattle.frame_device.specs.Prelude.{ChangesNumbers}
 use Rattle.frame_device.specs.contracts.ether.EthernetFrames.TheImpl.{ghosts as ether_link}
 use Rattle.uip_device.specs.contracts.value_pages.ValuePagesApp.TheImpl.{ghosts}
 use Rattle.uip_wire.specs.declared.addr.Addr.{Addr}
-use Rattle.uip_device.specs.Prelude.{Call, DoesNothing, Answered, Answers, Changes, left_text_of}
+use Rattle.uip_device.specs.Prelude.{Call, DoesNothing, Answered, Answers, AnswersOver, Changes, left_text_of}
 use Rattle.uip_device.specs.Prelude.{Move, Gives, Makes, IsFreshWebDevice, WebDevice, write_value}
 use Rattle.c_calls.specs.Prelude.{StillHas}
 use Rattle.uip_c.specs.Kept.{IsLine, Kept, NoDevice, OnEther, OnLine}
@@ -17,6 +17,10 @@ OpensAs files own old new = (old ≡ NoDevice) × IsLine (IsFreshWebDevice files
 -- There was a device for a line and there still is one, and the call wrote these bytes.
 abbrev pub HandleAnswers : Call → Kept → Kept → List ℕ → Type 0
 HandleAnswers call old new handed = StillHas OnLine (λ before after. Answers ghosts call before after handed) old new
+
+-- The same for a call that writes the packet, or not. If it does while a frame is partly received, that frame is lost.
+abbrev pub HandleAnswersOver : Call → Bool → Kept → Kept → List ℕ → Type 0
+HandleAnswersOver call writes old new handed = StillHas OnLine (λ before after. AnswersOver ghosts call writes before after handed) old new
 
 -- There was a device and there still is one of the same kind, in which the value of this number is now this text.
 abbrev pub HandleGives : ℕ → List ℕ → Kept → Kept → Type 0

@@ -5,7 +5,7 @@ ghost use Rattle.std.specs.Prelude.{◌≡◌, ◌==◌, ◌||◌, ◌<◌, ◌�
 ghost use Rattle.uip_device.specs.Prelude.{Calls, CallsForDatagram, Drains, Feeds, Inputs, StopsAtEnd, CompleteOne, HasFilled};
 ghost use Rattle.frame_device.specs.Prelude.{CallsSlot, InputsFrame};
 ghost use Rattle.c_calls.specs.Prelude.{IsLinkStatus, IsTextStatus, Refused, left_flag};
-ghost use Rattle.uip_c.specs.Prelude.{EtherAnswers, HandleAnswers, HasText, IsLine, NoDevice, is_on_ether, is_on_line};
+ghost use Rattle.uip_c.specs.Prelude.{EtherAnswers, HandleAnswers, HandleAnswersOver, HasText, IsLine, NoDevice, is_on_ether, is_on_line};
 
 use crate::handle::{UipDevice, put_ether, put_line, take_ether, take_idle, take_line};
 use c_calls::{BAD_ARGUMENT, NO_DEVICE, OK, OUTPUT_PENDING, UipResult, WRONG_LINK};
@@ -68,7 +68,7 @@ pub extern "C" fn uip_periodic(
 ) -> UipResult
     ensures known { IsTextStatus result.status }
     ensures fine { result.status ≡ OK
-        → HandleAnswers (Calls slot) device.old.held.device device.new.held.device (take result.written out.new) }
+        → HandleAnswersOver (Calls slot) (nat_lt 0 result.written) device.old.held.device device.new.held.device (take result.written out.new) }
     ensures within { (result.consumed ≡ 0) × (result.written ≤ length out.new) }
     ensures pending { result.status ≡ OK → IsLine (λ d. result.pending ≡ left_flag d.left) device.new.held.device }
     ensures all { result.status ≡ OK → LARGEST_TEXT ≤ length out.old → result.pending ≡ 0 }
@@ -132,7 +132,7 @@ pub extern "C" fn uip_input(
 ) -> UipResult
     ensures known { IsTextStatus result.status }
     ensures fine { result.status ≡ OK
-        → HandleAnswers (Inputs datagram.now) device.old.held.device device.new.held.device (take result.written out.new) }
+        → HandleAnswersOver (Inputs datagram.now) true device.old.held.device device.new.held.device (take result.written out.new) }
     ensures whole { result.status ≡ OK → result.consumed ≡ length datagram.now }
     ensures within { result.written ≤ length out.new }
     ensures pending { result.pending ≡ 0 }
@@ -166,7 +166,7 @@ pub extern "C" fn uip_periodic_datagram(
 ) -> UipResult
     ensures known { IsTextStatus result.status }
     ensures fine { result.status ≡ OK
-        → HandleAnswers (CallsForDatagram slot) device.old.held.device device.new.held.device (take result.written out.new) }
+        → HandleAnswersOver (CallsForDatagram slot) true device.old.held.device device.new.held.device (take result.written out.new) }
     ensures within { (result.consumed ≡ 0) × (result.written ≤ length out.new) }
     ensures pending { result.pending ≡ 0 }
     ensures no_device { result.status ≡ NO_DEVICE → device.old.held.device ≡ NoDevice }

@@ -251,6 +251,56 @@ fn a_text_is_handed_on(rt: HostRuntime) {
     close(&rt, alloc, device);
 }
 
+/// Feeds a request in two pieces, the second of which completes it, and returns whether the reply is written.
+fn is_answered(alloc: Global, device: &mut UipDevice, cut: usize, out: &mut [u8]) -> bool {
+    uip_feed(alloc, device, &REQUEST_TEXT[cut..], out) == made(34 - cut, 34)
+}
+
+/// A frame is received in the packet. A call that sends nothing leaves it there; one that sends loses it, and the next frame is answered.
+#[test]
+fn a_frame_is_received_in_the_packet(rt: HostRuntime) {
+    let alloc = rt.alloc();
+    let mut device = opened_with(&rt, alloc, VALUE_IMAGE);
+    let mut out = [0; LARGEST_TEXT];
+    for cut in 1..34 {
+        let called = uip_feed(alloc, &mut device, &REQUEST_TEXT[..cut], &mut out);
+        assert_eq!(rt; called, made(cut, 0));
+        for slot in 0..10 {
+            assert_eq!(rt;
+                uip_periodic(alloc, &mut device, slot, &mut out),
+                answer(OK)
+            );
+        }
+        assert!(rt; is_answered(alloc, &mut device, cut, &mut out));
+    }
+    assert_eq!(rt; uip_counter(alloc, &mut device, 3).number, 0);
+
+    assert_eq!(rt;
+        uip_input(alloc, &mut device, SYN, &mut out),
+        made(SYN.len(), 44)
+    );
+    let mut lost = 0;
+    for cut in 2..33 {
+        let called = uip_feed(alloc, &mut device, &REQUEST_TEXT[..cut], &mut out);
+        assert_eq!(rt; called, made(cut, 0));
+        let called = uip_periodic(alloc, &mut device, 0, &mut out);
+        assert_eq!(rt; called.status, OK);
+        if called.written > 0 {
+            assert_eq!(rt;
+                uip_feed(alloc, &mut device, &REQUEST_TEXT[cut..], &mut out),
+                made(34 - cut, 0)
+            );
+            lost += 1;
+            assert_eq!(rt; uip_counter(alloc, &mut device, 3).number, lost);
+            assert!(rt; is_answered(alloc, &mut device, 0, &mut out));
+        } else {
+            assert!(rt; is_answered(alloc, &mut device, cut, &mut out));
+        }
+    }
+    assert!(rt; lost > 1);
+    close(&rt, alloc, device);
+}
+
 /// A value changes between the first transmission of its segment and the retransmission, which has the first bytes.
 #[test]
 fn a_value_is_sent_again_as_it_was(rt: HostRuntime) {

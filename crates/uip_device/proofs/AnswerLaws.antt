@@ -1,8 +1,12 @@
 -- The output of moves, one after the other.
-use Rattle.uip_device.proofs.Prelude.{◌≡◌, ℕ, Bool, true, false, List, [], ◌∷◌, ◌++◌, Option, None, if◌then◌else◌, refl, sym, ap, ◌∙◌, append-nil, append_assoc, subst, AppSpec, Ghosts, datagram_in, Item, WasFed, Reply, AbstractNode, initial_node, Addr, initial_station, output_by, slip_medium, text_of, IsNode, sent_text_on_line, Call, DoesNothing, Drains, bytes_of_call, events_by, is_by_datagram, Answered, Answers, AnswersAll, AnswersMove, HasDelivered, IsFreshDevice, datagrams_handed, left_text_of, line_handed, moves_of, text_to_come, Bring, Gives, Makes, Move, Writing, bytes_of_move, goes_by_datagram, run_move, datagrams_sent, line_sent, node_reached, HandsOut, SendsOver, datagram_sent, Device}
+use Rattle.uip_device.proofs.Prelude.{◌≡◌, ℕ, Bool, true, false, List, [], ◌∷◌, ◌++◌, Option, None, if◌then◌else◌, refl, sym, ap, ◌∙◌, append-nil, append_assoc, subst, AppSpec, Ghosts, datagram_in, Item, ◌⊎◌, inl, inr, true≢false, AnswersOver, Buffer, Byte, map, IsNoise, PartState, Spoils, WasFed, is_free, state_in, events_after, Calls, Periodic, Reply, AbstractNode, initial_node, Addr, initial_station, output_by, slip_medium, text_of, IsNode, sent_text_on_line, Call, DoesNothing, Drains, bytes_of_call, events_by, is_by_datagram, Answered, Answers, AnswersAll, AnswersMove, HasDelivered, IsFreshDevice, datagrams_handed, left_text_of, line_handed, moves_of, text_to_come, Bring, Gives, Makes, Move, Writing, bytes_of_move, goes_by_datagram, run_move, datagrams_sent, line_sent, node_reached, HandsOut, SendsOver, datagram_sent, Device}
 use Rattle.uip_node.specs.declared.node.Node.{Node}
 use Rattle.uip_device.proofs.CallLaws.{line_text}
-use Rattle.uip_device.proofs.SendLaws.{by_datagram, sends_none}
+use Rattle.uip_device.proofs.FrameLaws.{reported_events}
+use Rattle.uip_slip.proofs.PartLaws.{frames-plain}
+use Rattle.uip_slip.proofs.PlainLaws.{parts-plain}
+use Rattle.uip_device.proofs.SendLaws.{by_datagram, on_line, sends_none}
+use Rattle.uip_device.proofs.PartLaws.{fed_anywhere}
 
 -- the output of one call over the line, and then of the others
 line_step : (v : Bool) (own : Addr) (replies : List Reply) (before handed left rest more last : List ℕ) → HandsOut v own before handed left replies → left ++ rest ≡ more ++ last
@@ -33,22 +37,79 @@ module _ {A S : Type 0} (g : Ghosts A S) where
   pub answers_on : (d : Device A S) (left : Option ℕ) (handed : List ℕ) → left_text_of d ≡ handed ++ text_to_come (datagram_in d.node.packet) left
       → Answers g Drains d (record d { left = left }) handed
   answers_on d left handed e = record {
-    input = λ before h. subst (λ (l : List ℕ). WasFed l d.decoder) (sym (append-nil before)) h;
+    input = λ before h. subst (λ (l : List ℕ). HasDelivered l d) (sym (append-nil before)) h;
     sends = λ before h.
         sends_none g (λ own. []) d.node (λ own replies. HandsOut false own (left_text_of d) handed (text_to_come (datagram_in d.node.packet) left) replies)
         (λ own. refl) (λ own. append-nil (left_text_of d) ∙ e);
   }
 
   -- a call with a datagram, with no output pending: what its node sends is written whole
-  pub answers_whole : (call : Call) (old : Device A S) (new : Node A S) (handed : List ℕ) → old.left ≡ None → is_by_datagram call ≡ true → bytes_of_call call ≡ []
+  pub answers_whole : (call : Call) (old : Device A S) (new : Node A S) (handed : List ℕ) → is_free old.part ≡ true → old.left ≡ None → is_by_datagram call ≡ true → bytes_of_call call ≡ []
       → ((before : List ℕ) → SendsOver g (events_by before call) old.node new (λ own replies. handed ≡ datagram_sent own replies))
       → Answers g call old (record old { node = new }) handed
-  answers_whole call old new handed none whole nothing sends = record {
-    input = λ before h. subst (λ (l : List ℕ). WasFed l old.decoder) (sym (ap (λ (l : List ℕ). before ++ l) nothing ∙ append-nil before)) h;
+  answers_whole call old new handed free none whole nothing sends = record {
+    input = λ before h.
+        subst (λ (l : List ℕ). WasFed l (state_in new.packet.area old.part)) (sym (ap (λ (l : List ℕ). before ++ l) nothing ∙ append-nil before))
+        (fed_anywhere old.part old.node.packet.area new.packet.area before free h);
     sends = λ before h.
         subst (λ (b : Bool). SendsOver g (events_by before call) old.node new (λ own replies. HandsOut b own (left_text_of old) handed (left_text_of (record old { node = new })) replies)) (sym whole)
         (by_datagram g (events_by before call) old.node new (left_text_of old) handed (left_text_of (record old { node = new }))
         (none_left (record old { node = new }) none ∙ sym (none_left old none)) (sends before));
+  }
+
+  -- the text of what a slot sends is written, or its start
+  pub answers_slot : (slot : ℕ) (old : Device A S) (new : Node A S) (left : Option ℕ) (handed : List ℕ) → is_free old.part ≡ true → old.left ≡ None
+      → SendsOver g (λ own. Periodic slot ∷ []) old.node new (λ own replies. text_of own replies ≡ handed ++ text_to_come (datagram_in new.packet) left)
+      → Answers g (Calls slot) old (record old { node = new; left = left }) handed
+  answers_slot slot old new left handed free none sends = record {
+    input = λ before h.
+        subst (λ (l : List ℕ). WasFed l (state_in new.packet.area old.part)) (sym (append-nil before))
+        (fed_anywhere old.part old.node.packet.area new.packet.area before free h);
+    sends = λ before h.
+        on_line g (λ own. Periodic slot ∷ []) old.node new (left_text_of old) handed (text_to_come (datagram_in new.packet) left) (none_left old none) sends;
+  }
+
+  -- a slot that sends nothing changes no packet
+  pub answers_silent : (call : Call) (slot : ℕ) (old : Device A S) (new : Node A S) → bytes_of_call call ≡ [] → new.packet ≡ old.node.packet
+      → ((before : List ℕ) → SendsOver g (events_by before call) old.node new (λ own replies. HandsOut (is_by_datagram call) own (left_text_of old) [] (left_text_of (record old { node = new })) replies))
+      → Answers g call old (record old { node = new }) []
+  answers_silent call slot old new nothing same sends = record {
+    input = λ before h.
+        subst (λ (l : List ℕ). WasFed l (state_in new.packet.area old.part)) (sym (ap (λ (l : List ℕ). before ++ l) nothing ∙ append-nil before))
+        (subst (λ (b : Buffer). WasFed before (state_in b.area old.part)) (sym same) h);
+    sends = λ before h. sends before;
+  }
+
+  -- noise comes, and then the call is made
+  pub spoils : (call : Call) (old new : Device A S) (part : PartState) (handed : List ℕ)
+      → ((bytes noise area : List ℕ) → IsNoise noise → WasFed bytes (state_in area old.part) → WasFed (bytes ++ noise) (state_in area part))
+      → Answers g call (record old { part = part }) new handed → Spoils g call old new handed
+  spoils call old new part handed lost answers = λ noise is. (
+    record old { part = part },
+    record {
+      input = λ before h. lost before noise old.node.packet.area is h;
+      sends = λ before h.
+          sends_none g (λ own. events_after own 0 before (map Byte noise)) old.node (λ own replies. HandsOut false own (left_text_of old) [] (left_text_of old) replies)
+          (λ own. reported_events own before noise [] (frames-plain before noise (parts-plain noise is.plain))) (λ own. append-nil (left_text_of old));
+    },
+    answers,
+  )
+
+  -- a call that writes the packet, after it was given up
+  exact : (call : Call) (old : Device A S) (part : PartState) (final : Device A S) (handed : List ℕ) (writes : Bool) → writes ≡ true
+      → (is_free old.part ≡ true → part ≡ old.part) → Answers g call (record old { part = part }) final handed
+      → (is_free old.part ≡ true) ⊎ (writes ≡ false) → Answers g call old final handed
+  exact call old part final handed writes sure kept told (inl free) =
+      subst (λ (p : PartState). Answers g call (record old { part = p }) final handed) (kept free) told
+  exact call old part final handed writes sure kept told (inr quiet) = absurd (true≢false (sym sure ∙ quiet))
+
+  pub over_part : (call : Call) (old : Device A S) (part : PartState) (final : Device A S) (handed : List ℕ) (writes : Bool) → writes ≡ true
+      → (is_free old.part ≡ true → part ≡ old.part)
+      → (is_free old.part ≡ false → (bytes noise area : List ℕ) → IsNoise noise → WasFed bytes (state_in area old.part) → WasFed (bytes ++ noise) (state_in area part))
+      → Answers g call (record old { part = part }) final handed → AnswersOver g call writes old final handed
+  over_part call old part final handed writes sure kept lost told = record {
+    answers = λ w. exact call old part final handed writes sure kept told w;
+    spoils = λ busy _. spoils call old final part handed (lost busy) told;
   }
 
   module _ (m : AppSpec) (own : Addr) (gives : Writing) where

@@ -1,5 +1,7 @@
 -- A device satisfies the guarantee of its node, move by move.
 use Rattle.uip_device.proofs.Prelude.{All, flat_map, ◌≡◌, ℕ, List, [], ◌∷◌, ◌++◌, map, refl, sym, ap, ◌∙◌, subst, IsAddr, IsPaged, IsU32, Pages, AppSpec, Ghosts, Addr, Event, Reply, HasBytes, AbstractNode, initial_node, IsNode, TraceConforms, at_every_port, TraceEntry, trace_of, IsDecoded, every_step_of_pages, LineStep, trace_over, turns_then, sends, turn_events, events_by, Answered, AnswersAll, HasDelivered, IsFreshDevice, left_text_of, lefts_of, moves_of, AllHandOutSent, IsOfBytes, OutputIsSent, CallsConform, KeepsU32, MoveTrace, Gives, Makes, Move, Writing, bytes_of_move, events_of_move, goes_by_datagram, run_move, with_value, HandsOut, Device}
+use Rattle.node_laws.proofs.HonestPeers.{arrives_over_steps}
+use Rattle.node_laws.specs.LossyPeers.{ArrivesIn}
 use Rattle.uip_device.proofs.AnswerLaws.{MovesOn, moves_on, none_left}
 use Rattle.uip_device.proofs.BringLaws.{steps_are, steps_of, steps_of_move}
 
@@ -51,7 +53,7 @@ module _ {A S : Type 0} (g : Ghosts A S) where
 
   module _ (m : AppSpec) (pages : Pages) (lawful : IsPaged m pages) (page : HasBytes pages) (gives : Writing) (low : KeepsU32 gives) (numbers : List ℕ) (words : All IsU32 numbers) (own : Addr) (is : IsAddr own) where
     pub keeps_calls : (all : List Answered) → All IsOfBytes (moves_of all) → (old new : Device A S) → IsFreshDevice g m numbers own old
-        → (answered : AnswersAll g gives all old new) → CallsConform pages g.served own all (lefts_of g gives all old new answered)
+        → (answered : AnswersAll g gives all old new) → CallsConform m pages g.served own all (lefts_of g gives all old new answered)
     keeps_calls all bytes old new fresh answered =
         let steps : List LineStep = steps_of own gives [] (moves_of all) in
         let node : AbstractNode = initial_node own numbers in
@@ -64,4 +66,5 @@ module _ {A S : Type 0} (g : Ghosts A S) where
           each = subst (λ (l : List ℕ). AllHandOutSent own [] l t.moves) (none_left old fresh.none) t.each;
           keeps = subst (λ (l : List TraceEntry). TraceConforms (at_every_port pages) g.served l) (sym t.turns) kept.0;
           read = subst (λ (l : List TraceEntry). All (IsDecoded own) l) (sym t.turns) kept.1;
+          arrives = subst (λ (l : List TraceEntry). ArrivesIn m pages l) (sym t.turns) (arrives_over_steps m pages lawful g.served own numbers words steps (steps_are own gives low (moves_of all) bytes));
         }

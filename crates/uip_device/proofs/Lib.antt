@@ -4,7 +4,10 @@ pub mod CallLaws
 pub mod FrameLaws
 pub mod HandLaws
 pub mod KeepLaws
+pub mod TextCounts
+pub mod Answering
 pub mod NumberLaws
+pub mod PartLaws
 pub mod SendLaws
 pub mod WebLaws
 pub mod QueryLaws

@@ -21,8 +21,8 @@ pub use Rattle.serve_loop.proofs.RunLaws.{run-text-append, text_of-joined}
 pub use Rattle.serve_loop.proofs.SlipServeLaws.{sent_text_on_line}
 pub use Rattle.serve_loop.specs.Prelude.{CarriesBytes, IsNode, beat, came_by, event_by, events_after, initial_station, is_beat, line_events, output_by, slip_medium, text_for, text_of}
 pub use Rattle.site_image.specs.Prelude.{File, file_named, has_name}
-pub use Rattle.std.proofs.Common.{Bool, List, None, Option, Some, [], ap, append-nil, append_assoc, arith, drop, false, get_or, if◌then◌else◌, inl, inr, length, length-append, length-drop, length-take, lit<, map, option_map, refl, replicate, subst, sym, take, true, ℕ, ◌*◌, ◌++◌, ◌+◌, ◌-◌, ◌<◌, ◌∙◌, ◌∷◌, ◌≡◌, ◌≤◌, true≢false, find, cond, ◌||◌, position}
-pub use Rattle.std.proofs.lemmas.Bool.{false≢true, eqb-true}
+pub use Rattle.std.proofs.Common.{Bool, List, None, Option, Some, [], ap, append-nil, append_assoc, arith, drop, false, get_or, if◌then◌else◌, inl, inr, ◌⊎◌, length, length-append, length-drop, length-take, lit<, map, option_map, refl, replicate, subst, sym, take, true, ℕ, ◌*◌, ◌++◌, ◌+◌, ◌-◌, ◌<◌, ◌∙◌, ◌∷◌, ◌≡◌, ◌≤◌, true≢false, find, cond, suc, zero, ◌||◌, position}
+pub use Rattle.std.proofs.lemmas.Bool.{false≢true, eqb-true, lt-ltb}
 pub use Rattle.std.proofs.lemmas.Grind.{get_or_default_zero}
 pub use Rattle.std.proofs.lemmas.List.{drop_at, get_or_append_left, length-take-le, map-append, take-append-drop, take_at, take_rest, drop_all, take_all}
 pub use Rattle.std.proofs.lemmas.List.Concat.{flat_map-append}
@@ -30,7 +30,7 @@ pub use Rattle.std.proofs.lemmas.List.Elements.{All-append, All-cons, All-drop, 
 pub use Rattle.std.specs.List.{All, flat_map, slice_index_or, before_first, list_any}
 pub use Rattle.std.specs.Option.{is_some, option_map_or}
 pub use Rattle.std.specs.Prelude.{⊤, nat_eq, slice_get, codes, IfSome}
-pub use Rattle.uip_device.specs.Prelude.{AllHandOutSent, Answered, Answers, AnswersAll, AnswersMove, Bring, Call, Calls, CallsConform, CallsForDatagram, DoesNothing, Drains, Feeds, Gives, HandsOut, HasDelivered, Inputs, IsFreshDevice, IsOfBytes, KeepsU32, Makes, Move, MoveTrace, OutputIsSent, SendsOver, Writing, byte_calls, bytes_of_call, bytes_of_move, calls_after, datagram_sent, datagrams_handed, datagrams_sent, events_by, events_of_calls, events_of_move, first_numbers, goes_by_datagram, is_by_datagram, left_text_of, lefts_of, line_handed, line_sent, moves_of, node_reached, rest_text, run_move, text_to_come, tick_calls, with_value, write_value, ChangesNode}
+pub use Rattle.uip_device.specs.Prelude.{AllHandOutSent, Answered, Answers, AnswersAll, AnswersOver, AnswersMove, Bring, Call, Calls, CallsConform, CallsForDatagram, DoesNothing, Drains, Feeds, Gives, HandsOut, HasDelivered, Inputs, IsFreshDevice, IsOfBytes, KeepsU32, Makes, Move, MoveTrace, OutputIsSent, SendsOver, Spoils, Writing, byte_calls, bytes_of_call, bytes_of_move, calls_after, datagram_sent, datagrams_handed, datagrams_sent, events_by, events_of_calls, events_of_move, first_numbers, goes_by_datagram, is_by_datagram, left_text_of, lefts_of, line_handed, line_sent, moves_of, node_reached, rest_text, run_move, text_to_come, tick_calls, with_value, write_value, ChangesNode}
 pub use Rattle.uip_device.specs.Query.{QueryContent, kept_query, kept_text, place_wanted, query_after, query_by, query_in, text_after_mark, ReadsQuery, query_for}
 pub use Rattle.uip_device.specs.declared.device.Device.{Device}
 pub use Rattle.uip_edge.proofs.Reported.{moved_on}
@@ -39,7 +39,7 @@ pub use Rattle.uip_edge.specs.declared.item.Item.TheVariants.{Byte, Quiet}
 pub use Rattle.uip_node.proofs.Basics.{choose}
 pub use Rattle.uip_node.specs.Prelude.{AbstractNode, Event, HasBytes, IsSent, Node, Periodic, Reply, Represents, Steps, event_of, initial_node, joined, run, seen, step, tick}
 pub use Rattle.uip_slip.proofs.FrameLaws.{completed_by, completed_reported}
-pub use Rattle.uip_slip.specs.Prelude.{Datagram, Frame, Overlong, WasFed, completed, escaped, escaped_byte, frames, slip_text}
+pub use Rattle.uip_slip.specs.Prelude.{Datagram, FeedsPrefix, Frame, IsNoise, Overlong, PartState, State, WasFed, completed, escaped, escaped_byte, frames, is_free, open_bytes, reported_by, slip_text, state_in}
 pub use Rattle.uip_wire.specs.declared.addr.Addr.{Addr}
 pub use Rattle.web_pages.proofs.OwnState.{hits_by_prefix}
 pub use Rattle.web_pages.specs.Prelude.{hits_of, no_hits, place_of, wanted, web_spec_by, Wanted, Name, NotYet, Refused, target_of}

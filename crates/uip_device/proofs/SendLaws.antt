@@ -1,5 +1,5 @@
 -- What a node sends at its steps.
-use Rattle.uip_device.proofs.Prelude.{◌≡◌, ℕ, List, [], ◌∷◌, ◌++◌, Option, true, false, refl, sym, ap, ◌∙◌, append-nil, subst, Ghosts, Addr, Node, seen, event_of, Event, Reply, AbstractNode, joined, run, step, IsSent, Represents, Steps, text_for, text_of, IsNode, node_on, node_step, text_of-joined, HandsOut, SendsOver, datagram_sent}
+use Rattle.uip_device.proofs.Prelude.{◌≡◌, ℕ, Buffer, List, [], ◌∷◌, ◌++◌, None, Option, Some, true, false, refl, sym, ap, ◌∙◌, append-nil, subst, Ghosts, Addr, Node, seen, event_of, Event, Reply, AbstractNode, joined, run, step, IsSent, Represents, Steps, text_for, text_of, IsNode, node_on, node_step, text_of-joined, HandsOut, SendsOver, datagram_sent}
 use Rattle.uip_node.specs.Events.Event.{Overlong}
 
 module _ {A S : Type 0} (g : Ghosts A S) where
@@ -29,6 +29,20 @@ module _ {A S : Type 0} (g : Ghosts A S) where
   sends_so events a b P Q on v = record {
     kept = v.kept;
     each = λ m own n p. ((v.each m own n p).0, on own (run m g.served (events own) n).sent (v.each m own n p).1);
+  }
+
+  -- a frame was received in the packet before
+  pub sends_from : (events : Addr → List Event) (a mid b : Node A S) (q : Buffer) (P : Addr → List Reply → Type 0) → mid ≡ record a { packet = q }
+      → SendsOver g events mid b P → SendsOver g events a b P
+  sends_from events a mid b q P is v = record {
+    kept = v.kept ∙ ap (λ (x : Node A S). g.config x.shared) is;
+    each = λ m own n p.
+        let r = p.represented in
+        v.each m own n (subst (λ (x : Node A S). IsNode g m own x n) (sym is) (record {
+          meant = p.meant;
+          address = p.address;
+          represented = record { addr = r.addr; slots = r.slots; iss = r.iss; numbers_represented = r.numbers_represented; counts = r.counts };
+        }));
   }
 
   -- a frame that was too long
@@ -68,6 +82,11 @@ module _ {A S : Type 0} (g : Ghosts A S) where
   -- the text of one reply
   pub as_text : (own : Addr) (reply : Option Reply) (text : List ℕ) → text ≡ text_for own reply → text_of own (joined reply []) ≡ text
   as_text own reply text e = text_of-joined own reply [] ∙ append-nil (text_for own reply) ∙ sym e
+
+  -- nothing is sent
+  pub silent_text : (own : Addr) (reply : Option Reply) (sent : Option ℕ) (packet : Buffer) → sent ≡ None → IsSent own reply sent packet → text_of own (joined reply []) ≡ []
+  silent_text own None sent packet none is = refl
+  silent_text own (Some reply) sent packet none is = absurd (cc (sym none ∙ is.answer))
 
   -- if nothing was pending, the text of what is sent is written, and the rest is pending
   pub on_line : (events : Addr → List Event) (a b : Node A S) (before handed left : List ℕ) → before ≡ []

@@ -18,7 +18,7 @@ EveryCallConforms {A = A} {S = S} g =
     (m : AppSpec) (pages : Pages) → IsPaged m pages → HasBytes pages → (gives : Writing) → KeepsU32 gives
     → (numbers : List ℕ) → All IsU32 numbers → (own : Addr) → IsAddr own → (all : List Answered) → All IsOfBytes (moves_of all)
     → (old new : Device A S) → IsFreshDevice g m numbers own old → (answered : AnswersAll g gives all old new)
-    → CallsConform pages g.served own all (lefts_of g gives all old new answered)
+    → CallsConform m pages g.served own all (lefts_of g gives all old new answered)
 
 -- If the calls of a fresh device bring the items of a line at a pace, and no output is pending at the end, they returned what the server
 -- of a serial line writes for these items.

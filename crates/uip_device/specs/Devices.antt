@@ -1,5 +1,5 @@
 -- A device, and the output of each call.
-use Rattle.std.specs.Prelude.{◌≡◌, ◌≤◌, ◌==◌, ◌+◌, ℕ, Bool, List, [], ◌∷◌, ◌++◌, Option, None, Some, IfSome, if◌then◌else◌, length, map}
+use Rattle.std.specs.Prelude.{◌≡◌, ◌≤◌, ◌==◌, ◌+◌, ℕ, Bool, List, [], ◌∷◌, ◌++◌, Option, None, Some, IfSome, if◌then◌else◌, length, map, ◌⊎◌, false, true}
 use Rattle.std.specs.List.{flat_map}
 use Rattle.app_events.specs.Prelude.{AppSpec}
 use Rattle.app_events.specs.declared.app.App.{Ghosts}
@@ -8,9 +8,9 @@ use Rattle.packet_buffer.specs.Prelude.{datagram_in}
 use Rattle.tcp_machine.specs.Prelude.{rows_from}
 use Rattle.uip_node.specs.Prelude.{AbstractNode, initial_node, Node}
 use Rattle.uip_wire.specs.declared.addr.Addr.{Addr}
-use Rattle.uip_slip.specs.Prelude.{WasFed, frames}
+use Rattle.uip_slip.specs.Prelude.{IsNoise, WasFed, frames, is_free, state_in}
 use Rattle.serve_loop.specs.Prelude.{IsNode}
-use Rattle.uip_device.specs.Calls.{Call, bytes_of_call, events_by, is_by_datagram}
+use Rattle.uip_device.specs.Calls.{Call, Feeds, bytes_of_call, events_by, is_by_datagram}
 use Rattle.uip_device.specs.Moves.{Move, Makes, Gives, Writing, goes_by_datagram, with_numbers}
 use Rattle.uip_device.specs.Handing.{FillsRoom, text_to_come}
 use Rattle.uip_device.specs.Sending.{HandsOut, SendsOver}
@@ -30,7 +30,7 @@ HasFilled d wrote room = FillsRoom (datagram_in d.node.packet) d.left wrote room
 
 -- The device was fed these bytes.
 abbrev pub HasDelivered : {A S : Type 0} → List ℕ → Device A S → Type 0
-HasDelivered bytes d = WasFed bytes d.decoder
+HasDelivered bytes d = WasFed bytes (state_in d.node.packet.area d.part)
 
 -- After any bytes fed before, these bytes complete at most one frame.
 abbrev pub CompleteOne : {A S : Type 0} → List ℕ → Device A S → Type 0
@@ -62,6 +62,16 @@ pub record Answers {A S : Type 0} (g : Ghosts A S) (call : Call) (old new : Devi
   pub input : (before : List ℕ) → HasDelivered before old → HasDelivered (before ++ bytes_of_call call) new
   pub sends : (before : List ℕ) → HasDelivered before old → SendsOver g (events_by before call) old.node new.node
       (λ own replies. HandsOut (is_by_datagram call) own (left_text_of old) handed (left_text_of new) replies)
+
+-- A call for which a frame was lost that was partly received: as if any noise had come within it, just before the call.
+abbrev pub Spoils : {A S : Type 0} → Ghosts A S → Call → Device A S → Device A S → List ℕ → Type 0
+Spoils {A = A} {S = S} g call old new handed =
+    (noise : List ℕ) → IsNoise noise → (mid : Device A S) × Answers g (Feeds noise) old mid [] × Answers g call mid new handed
+
+-- A call that writes the packet, or not. If it does while a frame is partly received, that frame is lost.
+pub record AnswersOver {A S : Type 0} (g : Ghosts A S) (call : Call) (writes : Bool) (old new : Device A S) (handed : List ℕ) : Type 0 where
+  pub answers : (is_free old.part ≡ true) ⊎ (writes ≡ false) → Answers g call old new handed
+  pub spoils : is_free old.part ≡ false → writes ≡ true → Spoils g call old new handed
 
 -- The counters of a node's application were changed between calls. Its packet is unchanged, and it represents the same node with these
 -- counters.

@@ -1,8 +1,8 @@
 -- The guarantee for a device, move by move.
 use Rattle.std.specs.Prelude.{◌≡◌, ◌≤◌, ◌∷◌, ◌++◌, [], All, Bool, flat_map, length, List, map, ℕ, ⊤}
-use Rattle.app_events.specs.Prelude.{IsByte, IsU32, Pages}
+use Rattle.app_events.specs.Prelude.{AppSpec, IsByte, IsU32, Pages}
 use Rattle.uip_wire.specs.declared.addr.Addr.{Addr}
-use Rattle.node_laws.specs.Prelude.{TraceConforms, at_every_port, TraceEntry, replies_of, IsDecoded}
+use Rattle.node_laws.specs.Prelude.{ArrivesIn, TraceConforms, at_every_port, TraceEntry, replies_of, IsDecoded}
 use Rattle.uip_device.specs.Calls.{Feeds, Inputs}
 use Rattle.uip_device.specs.Moves.{Move, Makes, Gives, Writing, bytes_of_move, events_of_move, goes_by_datagram}
 use Rattle.uip_device.specs.Devices.{Answered}
@@ -39,11 +39,13 @@ AllHandOutSent own before left (it ∷ more) =
     OutputIsSent own before left it × AllHandOutSent own (before ++ bytes_of_move it.answered.move) it.left more
 
 -- These are results of moves in order (`all`) and the output pending after each (`lefts`). Each move returns what is sent in a trace of
--- its own. The concatenated traces conform, and the node's own parser, at the address of the peer, gives back each segment.
-pub record CallsConform (pages : Pages) (served : ℕ → Bool) (own : Addr) (all : List Answered) (lefts : List (List ℕ)) : Type 0 where
+-- its own. The concatenated traces conform, and the node's own parser, at the address of the peer, gives back each segment. Each cooperating
+-- peer has its whole page, over any link that does not lose too much.
+pub record CallsConform (m : AppSpec) (pages : Pages) (served : ℕ → Bool) (own : Addr) (all : List Answered) (lefts : List (List ℕ)) : Type 0 where
   pub moves : List MoveTrace
   pub answered : map (λ it. it.answered) moves ≡ all
   pub left : map (λ it. it.left) moves ≡ lefts
   pub each : AllHandOutSent own [] [] moves
   pub keeps : TraceConforms (at_every_port pages) served (flat_map (λ it. it.turns) moves)
   pub read : All (IsDecoded own) (flat_map (λ it. it.turns) moves)
+  pub arrives : ArrivesIn m pages (flat_map (λ it. it.turns) moves)

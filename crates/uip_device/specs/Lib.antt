@@ -7,6 +7,7 @@ pub mod Moves
 pub mod Output
 pub mod Sending
 pub mod WebDevices
+pub mod Answering
 pub mod ConstantValues
 pub mod Query
 pub mod Lemmas

@@ -3,8 +3,8 @@ pub use Rattle.uip_device.specs.Calls.{Call, Calls, CallsForDatagram, DoesNothin
 pub use Rattle.uip_device.specs.Calls.{bytes_of_call, calls_after, events_by, events_of_calls, is_by_datagram, tick_calls}
 pub use Rattle.uip_device.specs.ConstantValues.{ConstantValues}
 pub use Rattle.uip_device.specs.DeviceLaws.{EveryCallConforms, EveryLineIsServed}
-pub use Rattle.uip_device.specs.Devices.{Answered, Answers, AnswersAll, AnswersMove, Changes, ChangesNode, CompleteOne}
-pub use Rattle.uip_device.specs.Devices.{FromFresh, HasDelivered, HasFilled, IsFreshDevice, connection_row, datagrams_handed}
+pub use Rattle.uip_device.specs.Devices.{Answered, Answers, AnswersAll, AnswersOver, AnswersMove, Changes, ChangesNode, CompleteOne}
+pub use Rattle.uip_device.specs.Devices.{FromFresh, HasDelivered, HasFilled, IsFreshDevice, Spoils, connection_row, datagrams_handed}
 pub use Rattle.uip_device.specs.Devices.{is_node_idle, left_text_of, lefts_of, line_handed, moves_of, row_in}
 pub use Rattle.uip_device.specs.Handing.{rest_text, text_to_come}
 pub use Rattle.uip_device.specs.Keeping.{AllHandOutSent, CallsConform, IsOfBytes, KeepsU32, MoveTrace, OutputIsSent}

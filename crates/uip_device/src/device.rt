@@ -1,9 +1,11 @@
-//! A device and its calls: a node with a SLIP decoder (RFC 1055) and the output that is still pending.
+//! A device and its calls: a node, whose packet is also the area in which SLIP frames (RFC 1055) are received, and the output that is still
+//! pending.
 
 ghost use Rattle.std.specs.Prelude.{◌≡◌, ◌<◌, ◌≤◌, ◌+◌, ◌++◌, ◌∷◌, [], List, ℕ, None, Some, length, map, take};
 ghost use Rattle.packet_buffer.specs.Prelude.{datagram_in};
 ghost use Rattle.uip_edge.specs.declared.item.Item.TheVariants.{Byte};
-ghost use Rattle.uip_slip.specs.Prelude.{WasFed, frames};
+ghost use Rattle.uip_slip.specs.Prelude.{FeedsPrefix, WasFed, frames, state_in};
+ghost use Rattle.uip_slip.specs.declared.fed.Fed.TheVariants.{More};
 ghost use Rattle.uip_node.specs.Prelude.{event_of};
 ghost use Rattle.serve_loop.specs.Prelude.{events_after, text_of};
 ghost use Rattle.uip_device.specs.Calls.{StopsAtEnd};
@@ -17,7 +19,7 @@ use app_events::{App, Row};
 use std::alloc::Global;
 use uip_edge::NoMemory;
 use uip_node::Node;
-use uip_slip::{Decoder, Fed};
+use uip_slip::{Fed, FedRun, Part};
 use uip_wire::{Addr, LARGEST_DATAGRAM};
 
 /// The bytes of a line that were consumed, and the bytes that were written at the start of the area.
@@ -31,22 +33,33 @@ pub struct FeedResult {
 /// [add: c-call] A method of `Device`.
 #[derive(Drop)]
 pub struct Device<A: App> {
-    pub decoder: Decoder,
+    /// What is known of the frame that is received in the node's packet.
+    pub part: Part,
     pub node: Node<A>,
     /// The bytes of the datagram in the packet whose text was written already; `None` if no output is pending.
     pub left: Option<usize>,
 }
 
-/// Inputs a datagram to the node and writes the text of the reply.
-fn answer<A: App>(node: &mut Node<A>, datagram: &[u8], out: &mut [u8]) -> Written
-    requires most { length datagram.now ≤ LARGEST_DATAGRAM }
+/// Receives a prefix of the bytes of a line in the node's packet: up to an END that completes a frame, or all of them.
+fn receive<A: App>(part: &mut Part, node: &mut Node<A>, bytes: &[u8]) -> FedRun
+    requires some { 0 < length bytes.now }
+    ensures rest { node.new ≡ record node.old { packet = record node.old.packet { area = node.new.packet.area } } }
+    ensures prefix { FeedsPrefix (state_in node.old.packet.area part.old) bytes.now result (state_in node.new.packet.area part.new) }
+    ensures whole { result.fed ≡ More → result.count ≡ length bytes.now }
+{
+    part.feed_run(node.packet.area_mut(), bytes)
+}
+
+/// Inputs the datagram at the start of the node's packet and writes the text of the reply.
+fn answer<A: App>(node: &mut Node<A>, len: usize, out: &mut [u8]) -> Written
+    requires most { len ≤ LARGEST_DATAGRAM }
     requires room { 0 < length out.old }
     ensures long { length out.new ≡ length out.old }
     ensures part { IsPartWritten (datagram_in node.new.packet) result.wrote result.left (length out.new) }
-    ensures sends { SendsOver A.App (λ own. event_of own datagram.now ∷ []) node.old node.new (λ own replies. text_of own replies
+    ensures sends { SendsOver A.App (λ own. event_of own (take len node.old.packet.area) ∷ []) node.old node.new (λ own replies. text_of own replies
         ≡ take result.wrote out.new ++ text_to_come (datagram_in node.new.packet) result.left) }
 {
-    let sent = node.input(datagram);
+    let sent = node.input_in_place(len);
     write_text(node, sent, out)
 }
 
@@ -58,29 +71,29 @@ struct Taken {
 }
 
 /// Consumes all bytes, or those up to an END, so that at most one frame becomes complete, and writes the text of the reply.
-fn take<A: App>(decoder: &mut Decoder, node: &mut Node<A>, bytes: &[u8], out: &mut [u8]) -> Taken
+fn take<A: App>(part: &mut Part, node: &mut Node<A>, bytes: &[u8], out: &mut [u8]) -> Taken
     requires some { 0 < length bytes.now }
     requires room { 0 < length out.old }
     ensures taken { (0 < result.count) × (result.count ≤ length bytes.now) }
     ensures stops { StopsAtEnd bytes.now result.count }
-    ensures one { (before : List ℕ) → WasFed before decoder.old
+    ensures one { (before : List ℕ) → WasFed before (state_in node.old.packet.area part.old)
         → length (frames (before ++ take result.count bytes.now)) ≤ length (frames before) + 1 }
     ensures long { length out.new ≡ length out.old }
     ensures part { IsPartWritten (datagram_in node.new.packet) result.written.wrote result.written.left (length out.new) }
-    ensures fed { (before : List ℕ) → WasFed before decoder.old → WasFed (before ++ take result.count bytes.now) decoder.new }
-    ensures sends { (before : List ℕ) → WasFed before decoder.old
+    ensures fed { (before : List ℕ) → WasFed before (state_in node.old.packet.area part.old) → WasFed (before ++ take result.count bytes.now) (state_in node.new.packet.area part.new) }
+    ensures sends { (before : List ℕ) → WasFed before (state_in node.old.packet.area part.old)
         → SendsOver A.App (λ own. events_after own 0 before (map Byte (take result.count bytes.now))) node.old node.new
         (λ own replies. text_of own replies
         ≡ take result.written.wrote out.new ++ text_to_come (datagram_in node.new.packet) result.written.left) }
 {
-    let run = decoder.feed_run(bytes);
+    let run = receive(part, node, bytes);
     let written = match run.fed {
         Fed::More => Written::nothing(),
         Fed::Overlong => {
             node.count_overlong();
             Written::nothing()
         }
-        Fed::Datagram(count) => answer(node, decoder.bytes(count), out),
+        Fed::Datagram(len) => answer(node, len, out),
     };
     Taken {
         count: run.count,
@@ -89,12 +102,12 @@ fn take<A: App>(decoder: &mut Decoder, node: &mut Node<A>, bytes: &[u8], out: &m
 }
 
 impl<A: App> Device<A> {
-    ghost use Rattle.std.specs.Prelude.{◌≡◌, ◌<◌, ◌≤◌, IfOk, None, Some, length, slice_get, take};
+    ghost use Rattle.std.specs.Prelude.{◌≡◌, ◌<◌, ◌≤◌, IfOk, None, Some, length, nat_lt, slice_get, take, true};
     ghost use Rattle.uip_node.specs.Counters.{counters, ticks_of};
     ghost use Rattle.uip_node.specs.Node.{AbstractNode};
     ghost use Rattle.uip_node.specs.Represents.{Represents};
     ghost use Rattle.uip_device.specs.Calls.{Calls, CallsForDatagram, Drains, Feeds, Inputs};
-    ghost use Rattle.uip_device.specs.Devices.{Answers, CompleteOne, HasFilled, IsFreshDevice, IsSoundDevice, connection_row, is_node_idle};
+    ghost use Rattle.uip_device.specs.Devices.{Answers, AnswersOver, CompleteOne, HasFilled, IsFreshDevice, IsSoundDevice, connection_row, is_node_idle};
 
     /// Returns a device at an address, whose application shares a value among its connections. No later call allocates memory (measured).
     pub fn new(alloc: Global, own: Addr, shared: A::Shared) -> Result<Device<A>, NoMemory>
@@ -102,7 +115,7 @@ impl<A: App> Device<A> {
         ensures shared { IfOk result (λ d. d.node.shared ≡ shared) }
     {
         Ok(Device {
-            decoder: Decoder::new(),
+            part: Part::new(),
             node: Node::new(alloc, own, shared)?,
             left: None,
         })
@@ -125,7 +138,7 @@ impl<A: App> Device<A> {
         ensures full { HasFilled self.new result.written (length out.new) }
         ensures answers { Answers A.App (Feeds (take result.consumed bytes.now)) self.old self.new (take result.written out.new) }
     {
-        let taken = take(&mut self.decoder, &mut self.node, bytes, out);
+        let taken = take(&mut self.part, &mut self.node, bytes, out);
         self.left = taken.written.left;
         FeedResult {
             consumed: taken.count,
@@ -135,6 +148,7 @@ impl<A: App> Device<A> {
 
     /// Makes the periodic call of a slot; all ten are due twice a second. Writes the text of what is sent, or the part of it that fits, and
     /// returns its length in bytes. Requires that no output is pending.
+    /// If it sends while a frame is partly received, that frame is lost.
     pub fn periodic(&mut self, slot: usize, out: &mut [u8]) -> usize
         requires slot { slot < 10 }
         requires room { 0 < length out.old }
@@ -145,12 +159,18 @@ impl<A: App> Device<A> {
         ensures wrote { result ≤ length out.new }
         ensures all { LARGEST_TEXT ≤ length out.old → self.new.left ≡ None }
         ensures full { HasFilled self.new result (length out.new) }
-        ensures answers { Answers A.App (Calls slot) self.old self.new (take result out.new) }
+        ensures answers { AnswersOver A.App (Calls slot) (nat_lt 0 result) self.old self.new (take result out.new) }
     {
         let sent = self.node.periodic(slot);
-        let written = write_text(&self.node, sent, out);
-        self.left = written.left;
-        written.wrote
+        match sent {
+            None => 0,
+            Some(_) => {
+                self.part.give_up();
+                let written = write_text(&self.node, sent, out);
+                self.left = written.left;
+                written.wrote
+            }
+        }
     }
 
     /// Writes pending output, as much as fits, and returns its length in bytes.
@@ -173,7 +193,8 @@ impl<A: App> Device<A> {
         }
     }
 
-    /// Inputs a datagram of at most 1500 bytes and writes the reply, if there is one. Returns its length in bytes.
+    /// Inputs a datagram of at most 1500 bytes and writes the reply, if there is one. Returns its length in bytes. A frame that is partly
+    /// received is lost.
     pub fn input(&mut self, datagram: &[u8], out: &mut [u8]) -> usize
         requires most { length datagram.now ≤ LARGEST_DATAGRAM }
         requires room { LARGEST_DATAGRAM ≤ length out.old }
@@ -183,8 +204,9 @@ impl<A: App> Device<A> {
         ensures long { length out.new ≡ length out.old }
         ensures wrote { result ≤ length out.new }
         ensures none { self.new.left ≡ None }
-        ensures answers { Answers A.App (Inputs datagram.now) self.old self.new (take result out.new) }
+        ensures answers { AnswersOver A.App (Inputs datagram.now) true self.old self.new (take result out.new) }
     {
+        self.part.give_up();
         let sent = self.node.input(datagram);
         copy_sent(&self.node, sent, out)
     }
@@ -199,8 +221,9 @@ impl<A: App> Device<A> {
         ensures long { length out.new ≡ length out.old }
         ensures wrote { result ≤ length out.new }
         ensures none { self.new.left ≡ None }
-        ensures answers { Answers A.App (CallsForDatagram slot) self.old self.new (take result out.new) }
+        ensures answers { AnswersOver A.App (CallsForDatagram slot) true self.old self.new (take result out.new) }
     {
+        self.part.give_up();
         let sent = self.node.periodic(slot);
         copy_sent(&self.node, sent, out)
     }

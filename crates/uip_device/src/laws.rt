@@ -1,5 +1,6 @@
 //! The laws of any sequence of moves: calls, and values that are set between them.
 
+ghost use Rattle.uip_device.specs.Answering.{UipIsNeverEmpty, ValuePagesAnswer, WebCallsArrive};
 ghost use Rattle.std.specs.Prelude.{◌≡◌, ◌++◌, []};
 ghost use Rattle.uip_node.specs.Prelude.{initial_node};
 ghost use Rattle.serve_loop.specs.Prelude.{IsNode};
@@ -31,6 +32,17 @@ pub fn calls_keep_the_promise<A: App>()
 /// writes for these items, however the bytes are cut among the calls and the output into pieces.
 pub fn line_is_served<A: App>()
     ensures { EveryLineIsServed A.App }
+{}
+
+/// The pages of a device answer a decided request in a number of segments that its pieces give, if no call of the page has an empty text.
+pub fn value_pages_answer()
+    ensures answers { ValuePagesAnswer }
+    ensures uip { UipIsNeverEmpty }
+{}
+
+/// A peer of a device that serves a site has its page over a lossy link, if no call of the page has an empty text.
+pub fn web_calls_arrive()
+    ensures { WebCallsArrive }
 {}
 
 /// The number that contracts name by the code's constant.

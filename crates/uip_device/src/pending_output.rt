@@ -1,6 +1,6 @@
 //! The SLIP text of a datagram, written in pieces (RFC 1055).
 
-ghost use Rattle.std.specs.Prelude.{◌≡◌, ◌<◌, ◌≤◌, ◌+◌, ◌*◌, ◌-◌, ◌++◌, ◌⊎◌, [], ◌∷◌, Option, Some, None, IfSome, length, take};
+ghost use Rattle.std.specs.Prelude.{◌≡◌, ◌<◌, ◌≤◌, ◌+◌, ◌*◌, ◌-◌, ◌++◌, ◌⊎◌, [], ◌∷◌, Option, Some, None, IfSome, is_some, length, take, true};
 ghost use Rattle.packet_buffer.specs.Prelude.{datagram_in};
 ghost use Rattle.uip_slip.specs.Prelude.{escaped};
 ghost use Rattle.uip_wire.specs.declared.addr.Addr.{Addr as Address};
@@ -68,6 +68,7 @@ pub(crate) fn write_on(out: &mut [u8], len: usize, datagram: &[u8], at: usize) -
     ensures long { length out.new ≡ length out.old }
     ensures fits { result.wrote ≤ length out.new }
     ensures left { IfSome result.left (λ k. k ≤ length datagram.now) }
+    ensures grows { len ≤ result.wrote }
     ensures more { len + 2 ≤ length out.old → len < result.wrote }
     ensures whole { len + 2 * (length datagram.now - at) < length out.old → result.left ≡ None }
     ensures full { FillsRoom datagram.now result.left result.wrote (length out.new) }
@@ -122,6 +123,7 @@ pub(crate) fn write_text<A: App>(node: &Node<A>, sent: Option<usize>, out: &mut 
     requires room { 0 < length out.old }
     ensures long { length out.new ≡ length out.old }
     ensures part { IsPartWritten (datagram_in node.now.packet) result.wrote result.left (length out.new) }
+    ensures some { is_some sent ≡ true → 0 < result.wrote }
     ensures text { (own : Address) (reply : Option Reply) → IsSent own reply sent node.now.packet
         → take result.wrote out.new ++ text_to_come (datagram_in node.now.packet) result.left ≡ text_for own reply }
 {

@@ -36,7 +36,7 @@ pick true x y z f g = f refl
 pick false x y z f g = g refl
 
 -- the row of a connection is that of the abstract one
-row_represents : {A S : Type 0} (g : Ghosts A S) (k : g.Config) (slot : ℕ) (c : Conn A) (a : Connection) → ConnRepresents g k c a → is_live a.state ≡ true → row_in slot c ≡ row_of slot a
+pub row_represents : {A S : Type 0} (g : Ghosts A S) (k : g.Config) (slot : ℕ) (c : Conn A) (a : Connection) → ConnRepresents g k c a → is_live a.state ≡ true → row_in slot c ≡ row_of slot a
 row_represents g k slot c a h live =
     let l = h.numbers.like live in
     let peer = l.peer in

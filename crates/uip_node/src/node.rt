@@ -71,7 +71,7 @@ impl<A: App> Model for Node<A> {
 }
 
 impl<A: App> Node<A> {
-    ghost use Rattle.std.specs.Prelude.{◌≡◌, ◌+◌, ◌<◌, ◌≤◌, [], IfOk, Some, length, slice_get, true};
+    ghost use Rattle.std.specs.Prelude.{◌≡◌, ◌+◌, ◌<◌, ◌≤◌, [], IfOk, None, Some, length, slice_get, take, true};
     ghost use Rattle.app_events.specs.States.{is_live};
     ghost use Rattle.packet_buffer.specs.Buffer.{datagram_in};
     ghost use Rattle.tcp_machine.specs.Connection.{rows_from};
@@ -174,6 +174,7 @@ impl<A: App> Node<A> {
         requires answer { IsAnswer step }
         requires fits { IsIn self.old.table.conns slot (λ c. StepFits c step) }
         ensures same { A.config self.new.shared ≡ A.config self.old.shared }
+        ensures quiet { result ≡ None → self.new.packet ≡ self.old.packet }
         ensures step { SendsStep A.App slot step self.old self.new result }
     {
         let id = self.ident.wrapping_add(1);
@@ -273,7 +274,7 @@ impl<A: App> Node<A> {
     }
 
     /// Handles a segment from a peer, which is in the packet (RFC 793, section 3.9, SEGMENT ARRIVES).
-    fn segment_arrives(&mut self, peer: Addr, seg: &Segment) -> Option<usize>
+    pub fn segment_arrives(&mut self, peer: Addr, seg: &Segment) -> Option<usize>
         requires inside { seg.now.text_at + seg.now.text_len ≤ length (datagram_in self.old.packet) }
         ensures { Refines A.App
             (λ m served n. arrives m served n (sockets_of peer seg.now)
@@ -324,7 +325,7 @@ impl<A: App> Node<A> {
     }
 
     /// Handles the datagram in the packet: checks its IP header (RFC 791) and dispatches its protocol.
-    fn take_datagram(&mut self) -> Option<usize>
+    pub fn take_datagram(&mut self) -> Option<usize>
         ensures { Refines A.App (λ m served n. step m served n (event_of n.addr (datagram_in self.old.packet))) self.old self.new result }
     {
         match check_head(self.packet.bytes(), self.addr) {
@@ -348,10 +349,20 @@ impl<A: App> Node<A> {
         self.take_datagram()
     }
 
+    /// Inputs a datagram of at most 1500 bytes that was received at the start of the packet's area, as `input`.
+    pub fn input_in_place(&mut self, len: usize) -> Option<usize>
+        requires most { len ≤ LARGEST_DATAGRAM }
+        ensures { Refines A.App (λ m served n. step m served n (event_of n.addr (take len self.old.packet.area))) self.old self.new result }
+    {
+        self.packet.set_len(len);
+        self.take_datagram()
+    }
+
     /// Makes the periodic call of the connection in a slot below 10; all ten are due twice a second, slot 0 first.
     pub fn periodic(&mut self, slot: usize) -> Option<usize>
         requires within { slot < 10 }
-        ensures { Refines A.App (λ m served n. step m served n (Periodic slot)) self.old self.new result }
+        ensures refines { Refines A.App (λ m served n. step m served n (Periodic slot)) self.old self.new result }
+        ensures quiet { result ≡ None → self.new.packet ≡ self.old.packet }
     {
         count_slots(&self.table);
         self.ticks = event_counts::ticks_at(self.ticks, slot);

@@ -1,6 +1,6 @@
 //! Output: writes the segment that a connection sends into the packet.
 
-ghost use Rattle.std.specs.Prelude.{◌≡◌, ℕ, ◌+◌, ◌≤◌, List, IsSome, length, slice_range, take};
+ghost use Rattle.std.specs.Prelude.{◌≡◌, ℕ, ◌+◌, ◌≤◌, List, IsSome, None, length, slice_range, take};
 ghost use Rattle.app_events.specs.Prelude.{CanSupply, AppState, text_left};
 ghost use Rattle.packet_buffer.specs.Prelude.{datagram_in};
 ghost use Rattle.tcp_machine.specs.Prelude.{Connection, IsAnswer, StepFits, reset_for_no_connection};
@@ -150,6 +150,7 @@ pub(crate) fn speak<A: App>(
     requires fits { StepFits conn.now step }
     requires answer { IsAnswer step }
     ensures size { length packet.new.area ≡ LARGEST_DATAGRAM }
+    ensures quiet { result ≡ None → packet.new ≡ packet.old }
     ensures spoken { (a : Connection) → ConnRepresents A.App (A.config shared.now) conn.now a → ((step ≡ Drop → ⊥) → IsNamed conn.now a)
         → IsSpoken own a.sockets id (segment_of (A.app_spec (A.config shared.now)) a step) result packet.new }
 {

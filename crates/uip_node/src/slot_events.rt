@@ -1,6 +1,6 @@
 //! The events of the connection in one slot of the table.
 
-ghost use Rattle.std.specs.Prelude.{◌≡◌, ◌<◌, ◌≤◌, true, false, Some, length, slice_get};
+ghost use Rattle.std.specs.Prelude.{None, ◌≡◌, ◌<◌, ◌≤◌, true, false, Some, length, slice_get};
 ghost use Rattle.app_events.specs.Prelude.{is_live};
 ghost use Rattle.tcp_machine.specs.Prelude.{ask_prepared, CanBeAsked, IsAnswer, StepFits, on_segment, on_tick, plain};
 ghost use Rattle.uip_node.specs.Prelude.{sockets_of, OpensIn, PreparesIn, SettlesIn, SpeaksIn, StaysPrepared, TakesIn};
@@ -225,6 +225,7 @@ pub(crate) fn speak_in<A: App>(
     requires fits { IsIn table.now.conns slot (λ c. StepFits c step) }
     requires answer { IsAnswer step }
     ensures size { length packet.new.area ≡ LARGEST_DATAGRAM }
+    ensures quiet { result ≡ None → packet.new ≡ packet.old }
     ensures spoken { SpeaksIn A.App (A.config shared.now) slot own id table.now.conns step result packet.new }
 {
     let conn = &table.conns[slot];

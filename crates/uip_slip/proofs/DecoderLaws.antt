@@ -1,44 +1,43 @@
 -- What a decoder knows after one more byte, or a run of them.
-use Rattle.uip_slip.proofs.Prelude.{◌≡◌, ℕ, ◌+◌, ◌≤◌, ◌<◌, Bool, true, false, cond, eqb, nat_lt, List, [], ◌∷◌, ◌++◌, take, length, get_or, refl, sym, ap, subst, ◌-◌, ◌∙◌, append-nil, append_assoc, arith, length-take, length-append, length-drop, drop, min, ◌||◌, list_all, get_or-drop, get_or-take, take_all, take-append-le, take-take, length-take-le, take_more, take-add, take-append-add, ltb-false, ltb-true, le-ltb, lt-ltb, le-leb, lt-leb, Frame, meant, unescaped, frame_of, open_part, frames, Datagram, Overlong, is_plain, Fed, EndsFrame, State, WasFed, waits_after, open_bytes, reported_by, reopened, pushed, taken, joined_parts, Closes}
+use Rattle.uip_slip.proofs.Prelude.{◌≡◌, ℕ, ◌+◌, ◌≤◌, ◌<◌, Bool, true, false, cond, eqb, nat_lt, List, [], ◌∷◌, ◌++◌, take, length, get_or, refl, sym, ap, subst, ◌-◌, ◌∙◌, append-nil, append_assoc, arith, length-take, length-append, length-drop, drop, min, ◌||◌, list_all, get_or-drop, get_or-take, take_all, take-append-le, take-take, length-take-le, take_more, take-add, take-append-add, ltb-false, ltb-true, le-ltb, lt-ltb, le-leb, lt-leb, Frame, meant, unescaped, frame_of, open_part, frames, Datagram, Overlong, is_plain, Fed, EndsFrame, State, WasFed, waits_after, open_bytes, reported_by, reopened, pushed, taken, joined_parts, Closes, IsNoise, true≢false}
 use Rattle.uip_slip.specs.declared.fed.Fed.TheVariants as fed
 use Rattle.uip_slip.proofs.PartLaws.{frames-end, open_part-end, frames-plain, open_part-plain, parts-byte}
-use Rattle.uip_slip.proofs.PlainLaws.{adds, unescaped-push, waits_after-push, parts-plain, plain_joined}
+use Rattle.uip_slip.proofs.PlainLaws.{adds, both_true, plain_byte, unescaped-push, waits_after-push, parts-plain, plain_joined}
 
 -- a state represents the bytes u of a part
 pub record Holds (u : List ℕ) (w : Bool) (s : State) : Type 0 where
-  pub prefix : s.bytes ≡ take 1500 u
+  pub prefix : s.over ≡ false → s.bytes ≡ u
   pub over : s.over ≡ nat_lt 1500 (length u)
   pub waits : s.waits ≡ w
   pub reported : s.reported ≡ false
 
-room_left : (n : ℕ) (u t : List ℕ) (c : ℕ) → t ≡ take n u → length t < n
-    → (t ++ c ∷ [] ≡ take n (u ++ c ∷ [])) × (nat_lt n (length u) ≡ nat_lt n (length (u ++ c ∷ [])))
-room_left n u t c e h =
-    let len : length t ≡ min n (length u) = ap length e ∙ length-take n u in
-    let short : length u < n = omega arith in
-    let grown : length (u ++ c ∷ []) ≤ n = omega (arith, length-append u (c ∷ [])) in
-    let whole : t ≡ u = e ∙ take_all n u (omega arith) in (
-      ap (λ l. l ++ c ∷ []) whole ∙ sym (take_all n (u ++ c ∷ []) grown),
-      le-ltb n (length u) (omega arith) ∙ sym (le-ltb n (length (u ++ c ∷ [])) grown),
-    )
+-- a part that is too long stays so
+stays_long : (u more : List ℕ) → true ≡ nat_lt 1500 (length u) → true ≡ nat_lt 1500 (length (u ++ more))
+stays_long u more e = (let long : 1500 < length u = ltb-true _ _ (sym e) in sym (lt-ltb 1500 (length (u ++ more)) (omega (arith, length-append u more, long))))
 
-no_room : (n : ℕ) (u t : List ℕ) (c : ℕ) → t ≡ take n u → n ≤ length t
-    → (t ≡ take n (u ++ c ∷ [])) × (true ≡ nat_lt n (length (u ++ c ∷ [])))
-no_room n u t c e h =
-    let len : length t ≡ min n (length u) = ap length e ∙ length-take n u in
-    let long : n ≤ length u = omega arith in
-    let grown : n < length (u ++ c ∷ []) = omega (arith, length-append u (c ∷ [])) in
-    (e ∙ sym (take-append-le n u (c ∷ []) long), sym (lt-ltb n (length (u ++ c ∷ [])) grown))
+over_room : (u : List ℕ) (w : Bool) (s : State) (c : ℕ) → Holds u w s → length s.bytes < 1500 → s.over ≡ nat_lt 1500 (length (u ++ c ∷ []))
+over_room u w s c h less =
+    elim s.over as (λ v. s.over ≡ v → v ≡ nat_lt 1500 (length (u ++ c ∷ []))) [
+      | true ↦ λ o. stays_long u (c ∷ []) (sym o ∙ h.over)
+      | false ↦ λ o. (let size : length s.bytes ≡ length u = ap (λ l. length l) (h.prefix o) in
+          sym (le-ltb 1500 (length (u ++ c ∷ [])) (omega (arith, size, less, length-append u (c ∷ [])))))
+    ] refl
+
+over_full : (u : List ℕ) (w : Bool) (s : State) (c : ℕ) → Holds u w s → 1500 ≤ length s.bytes → true ≡ nat_lt 1500 (length (u ++ c ∷ []))
+over_full u w s c h full =
+    elim s.over as (λ v. s.over ≡ v → true ≡ nat_lt 1500 (length (u ++ c ∷ []))) [
+      | true ↦ λ o. stays_long u (c ∷ []) (sym o ∙ h.over)
+      | false ↦ λ o. (let size : length s.bytes ≡ length u = ap (λ l. length l) (h.prefix o) in
+          sym (lt-ltb 1500 (length (u ++ c ∷ [])) (omega (arith, size, full, length-append u (c ∷ [])))))
+    ] refl
 
 pushed_holds : (u : List ℕ) (w : Bool) (s : State) (c : ℕ) → Holds u w s → Holds (u ++ c ∷ []) false (pushed s c)
 pushed_holds u w s c h =
     elim (nat_lt (length s.bytes) 1500) as (λ v. nat_lt (length s.bytes) 1500 ≡ v → Holds (u ++ c ∷ []) false
     (cond v (record { bytes = s.bytes ++ c ∷ []; over = s.over; waits = false; reported = false })
     (record { bytes = s.bytes; over = true; waits = false; reported = false }))) [
-      | true ↦ λ e. let g = room_left 1500 u s.bytes c h.prefix (ltb-true _ _ e) in
-          record { prefix = g.0; over = h.over ∙ g.1; waits = refl; reported = refl }
-      | false ↦ λ e. let g = no_room 1500 u s.bytes c h.prefix (ltb-false _ _ e) in
-          record { prefix = g.0; over = g.1; waits = refl; reported = refl }
+      | true ↦ λ e. record { prefix = λ o. ap (λ l. l ++ c ∷ []) (h.prefix o); over = over_room u w s c h (ltb-true _ _ e); waits = refl; reported = refl }
+      | false ↦ λ e. record { prefix = λ o. absurd (true≢false o); over = over_full u w s c h (ltb-false _ _ e); waits = refl; reported = refl }
     ] refl
 
 taken_holds : (p : List ℕ) (s : State) (b : ℕ) → Holds (unescaped p) (waits_after p) s
@@ -54,39 +53,27 @@ taken_holds p s b h = rw (unescaped-push p b, waits_after-push p b, h.waits)
           ]
     ])
 
--- more bytes after the first n of a list
-prefix_joined : (n : ℕ) (u t run : List ℕ) → t ≡ take n u
-    → (take n (t ++ run) ≡ take n (u ++ run)) × ((nat_lt n (length u) || nat_lt n (length t + length run)) ≡ nat_lt n (length (u ++ run)))
-prefix_joined n u t run e =
-    elim (nat_lt n (length u)) as (λ v. nat_lt n (length u) ≡ v
-    → (take n (t ++ run) ≡ take n (u ++ run)) × ((v || nat_lt n (length t + length run)) ≡ nat_lt n (length (u ++ run)))) [
-      | true ↦ λ q.
-          let long : n ≤ length u = omega (arith, ltb-true _ _ q) in
-          let full : length t ≡ n = ap length e ∙ length-take-le n u long in
-          let grown : n < length (u ++ run) = omega (arith, length-append u run, ltb-true _ _ q) in (
-            take-append-le n t run (omega (arith, full)) ∙ ap (λ l. take n l) e ∙ take-take n n u (omega arith) ∙ sym (take-append-le n u run long),
-            sym (lt-ltb n (length (u ++ run)) grown),
-          )
-      | false ↦ λ q.
-          let whole : t ≡ u = e ∙ take_all n u (ltb-false _ _ q) in (
-            ap (λ l. take n (l ++ run)) whole,
-            ap (λ l. nat_lt n (length l + length run)) whole ∙ ap (λ k. nat_lt n k) (sym (length-append u run)),
-          )
-    ] refl
-
 joined_holds : (u : List ℕ) (s : State) (run : List ℕ) → Holds u false s → Holds (u ++ run) false (joined_parts s run)
 joined_holds u s run h =
-    let both = prefix_joined 1500 u s.bytes run h.prefix in
-    record { prefix = both.0; over = ap (λ v. v || nat_lt 1500 (length s.bytes + length run)) h.over ∙ both.1; waits = h.waits; reported = h.reported }
+    elim s.over as (λ v. s.over ≡ v → Holds (u ++ run) false (record s { bytes = take 1500 (s.bytes ++ run); over = v || nat_lt 1500 (length s.bytes + length run) })) [
+      | true ↦ λ o. record { prefix = λ x. absurd (true≢false x); over = stays_long u run (sym o ∙ h.over); waits = h.waits; reported = h.reported }
+      | false ↦ λ o. (let same : s.bytes ≡ u = h.prefix o in let size : length s.bytes ≡ length u = ap (λ l. length l) same in record {
+        prefix = λ x. (let most : length s.bytes + length run ≤ 1500 = ltb-false _ _ x in
+            ap (λ l. take 1500 (l ++ run)) same ∙ take_all 1500 (u ++ run) (omega (arith, length-append u run, size, most)));
+        over = ap (λ k. nat_lt 1500 (k + length run)) size ∙ ap (λ k. nat_lt 1500 k) (sym (length-append u run));
+        waits = h.waits;
+        reported = h.reported;
+      })
+    ] refl
 
-open_again : (u : List ℕ) (w : Bool) (s : State) → Holds u w s → open_bytes s ≡ take 1500 u
-open_again u w s h = rw h.reported h.prefix
+open_again : (u : List ℕ) (w : Bool) (s : State) → Holds u w s → s.over ≡ false → open_bytes s ≡ u
+open_again u w s h o = rw h.reported (h.prefix o)
 
 -- a decoder that was opened again, and was then fed to a state that holds the longer part
 held : (bytes more : List ℕ) (s new : State) → open_part (bytes ++ more) ≡ open_part bytes ++ more
     → Holds (unescaped (open_part bytes ++ more)) (waits_after (open_part bytes ++ more)) new → WasFed (bytes ++ more) new
 held bytes more s new longer h = record {
-  prefix = rw longer (open_again _ _ new h);
+  prefix = λ o. rw longer (open_again _ _ new h o);
   over = rw longer h.over;
   waits = rw longer h.waits;
 }
@@ -115,28 +102,45 @@ pub fed_end : (bytes : List ℕ) (s : State) (b : ℕ) (answer : Fed) (new : Sta
 fed_end bytes s b fed.More new end f c =
     let shut : open_part (bytes ++ b ∷ []) ≡ [] = open_part-end bytes b end in
     let u = unescaped (open_part bytes) in
-    let small : length u ≤ 1500 = ltb-false _ _ (sym f.over ∙ c.0) in
-    let none : u ≡ [] = sym (take_all 1500 u small) ∙ sym f.prefix ∙ c.1 in (
-      record { prefix = rw (shut, c.2) refl; over = rw (shut, c.2) refl; waits = rw (shut, c.2) refl },
+    let none : u ≡ [] = sym (f.prefix c.0) ∙ c.1 in (
+      record { prefix = λ o. rw (shut, c.2) refl; over = rw (shut, c.2) refl; waits = rw (shut, c.2) refl },
       frames-end bytes b end ∙ ap (λ l. frames bytes ++ frame_of l) none,
     )
 fed_end bytes s b fed.Overlong new end f c =
     let shut : open_part (bytes ++ b ∷ []) ≡ [] = open_part-end bytes b end in
     let u = unescaped (open_part bytes) in
     let long : 1500 < length u = ltb-true _ _ (sym f.over ∙ c.0) in (
-      record { prefix = rw (shut, c.1) refl; over = rw (shut, c.1) refl; waits = rw (shut, c.1) refl },
+      record { prefix = λ o. rw (shut, c.1) refl; over = rw (shut, c.1) refl; waits = rw (shut, c.1) refl },
       frames-end bytes b end ∙ ap (λ l. frames bytes ++ l) (frame_of-overlong u long),
     )
 fed_end bytes s b (fed.Datagram n) new end f c =
     let shut : open_part (bytes ++ b ∷ []) ≡ [] = open_part-end bytes b end in
     let u = unescaped (open_part bytes) in
     let small : length u ≤ 1500 = ltb-false _ _ (sym f.over ∙ c.0) in
-    let same : open_bytes s ≡ u = f.prefix ∙ take_all 1500 u small in
+    let same : open_bytes s ≡ u = f.prefix c.0 in
     let whole : new.bytes ≡ u = rw c.3 same in
     let some : u ≡ [] → ⊥ = λ e. let z : length (open_bytes s) ≡ 0 = ap (λ l. length l) (same ∙ e) in omega arith in (
-      record { prefix = rw (shut, c.3) refl; over = rw (shut, c.3) refl; waits = rw (shut, c.3) refl },
+      record { prefix = λ o. rw (shut, c.3) refl; over = rw (shut, c.3) refl; waits = rw (shut, c.3) refl },
       frames-end bytes b end ∙ ap (λ l. frames bytes ++ l) (frame_of-datagram u some small ∙ ap (λ l. Datagram l ∷ []) (sym whole)),
     )
+
+-- noise within a part leaves nothing of it
+pub fed_noise : (before noise : List ℕ) (s new : State) → IsNoise noise → new.over ≡ true → new.waits ≡ false → WasFed before s → WasFed (before ++ noise) new
+fed_noise before [] s new n over rests f = absurd (let long = n.long in omega (arith, long))
+fed_noise before (b ∷ rest) s new n over rests f =
+    let p = open_part before in
+    let each = both_true (is_plain b) (list_all is_plain rest) n.plain in
+    let no_esc : eqb b 219 ≡ false = (plain_byte b each.0).1 in
+    let one : waits_after (p ++ b ∷ []) ≡ false = waits_after-push p b ∙ elim (waits_after p) as (λ v. cond v false (eqb b 219) ≡ false) [ true ↦ refl | false ↦ no_esc ] in
+    let more = plain_joined (p ++ b ∷ []) rest each.1 one in
+    let at : open_part (before ++ b ∷ rest) ≡ (p ++ b ∷ []) ++ rest = open_part-plain before (b ∷ rest) (parts-plain (b ∷ rest) n.plain) ∙ sym (append_assoc p (b ∷ []) rest) in
+    let size : length (unescaped ((p ++ b ∷ []) ++ rest)) ≡ length (unescaped (p ++ b ∷ [])) + length rest = ap (λ l. length l) more.0 ∙ length-append (unescaped (p ++ b ∷ [])) rest in
+    let long : 1501 < length (b ∷ rest) = n.long in
+    record {
+      prefix = λ o. absurd (true≢false (sym over ∙ o));
+      over = rw at (over ∙ sym (lt-ltb 1500 (length (unescaped ((p ++ b ∷ []) ++ rest))) (omega (arith, size, long))));
+      waits = rw at (rests ∙ sym more.1);
+    }
 
 -- a run of plain bytes, which is empty where an ESC waits
 pub fed_run : (before bytes : List ℕ) (n : ℕ) (s mid new : State) → mid ≡ reopened s → list_all is_plain (take n bytes) ≡ true

@@ -1,7 +1,7 @@
 -- Bytes without END and ESC.
 use Rattle.uip_slip.proofs.Prelude.{◌≡◌, ℕ, ◌≤◌, ◌<◌, Bool, true, false, cond, eqb, List, [], ◌∷◌, ◌++◌, take, length, get_or, refl, sym, ap, ◌∙◌, arith, ◌&&◌, ◌||◌, append_assoc, append-nil, zero, suc, add-one, list_all, list_all_more, is_mark, is_plain, meant, unescaped, parts, waits_after, escaped}
 
-both_true : (a b : Bool) → (a && b) ≡ true → (a ≡ true) × (b ≡ true)
+pub both_true : (a b : Bool) → (a && b) ≡ true → (a ≡ true) × (b ≡ true)
 both_true true b e = (refl, e)
 both_true false b e = absurd (cc e)
 
@@ -17,7 +17,7 @@ none_marked (suc n) bytes h none =
     [ true ↦ λ e. absurd (none n (omega arith) e) | false ↦ λ e. refl ] refl in
     rw (← add-one n) (list_all_more is_plain bytes n 0 here ∙ rw (prefix, byte) refl)
 
-plain_byte : (b : ℕ) → is_plain b ≡ true → (eqb b 192 ≡ false) × (eqb b 219 ≡ false)
+pub plain_byte : (b : ℕ) → is_plain b ≡ true → (eqb b 192 ≡ false) × (eqb b 219 ≡ false)
 plain_byte b =
     elim (eqb b 192) as (λ v. cond (v || eqb b 219) false true ≡ true → (v ≡ false) × (eqb b 219 ≡ false)) [
       | true ↦ λ e. absurd (cc e)

@@ -13,6 +13,6 @@ pub use Rattle.std.specs.Prelude.{nat_eq, slice_index, slice_range}
 pub use Rattle.uip_edge.proofs.Reported.{Appends-none, Appends-then, appends_by, moved_on}
 pub use Rattle.uip_edge.proofs.Writes.{writes_broken, writes_by, writes_then}
 pub use Rattle.uip_edge.specs.Prelude.{sink_view}
-pub use Rattle.uip_slip.specs.Prelude.{Closes, Datagram, EndsFrame, Frame, IsPlainPrefix, Leaves, Overlong, State, WasFed, all_but_last, completed, escaped, escaped_byte, frame_of, frames, is_mark, is_plain, joined_parts, last_of, meant, open_bytes, open_part, parts, pushed, reopened, reported_by, slip_text, taken, unescaped, waits_after}
+pub use Rattle.uip_slip.specs.Prelude.{Closes, Datagram, EndsFrame, Frame, IsNoise, IsPlainPrefix, Leaves, Overlong, PartState, State, WasFed, all_but_last, completed, escaped, escaped_byte, frame_of, frames, is_mark, is_plain, joined_parts, last_of, meant, open_bytes, open_part, parts, pushed, reopened, reported_by, slip_text, state_in, taken, unescaped, waits_after}
 pub use Rattle.uip_slip.specs.declared.fed.Fed.{Fed}
 pub use Rattle.uip_slip.specs.declared.slip_text.TheConstants.{TEXTS}

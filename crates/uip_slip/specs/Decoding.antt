@@ -1,8 +1,9 @@
 -- What a decoder knows of the bytes that it was fed, and what its results state.
-use Rattle.std.specs.Prelude.{◌≡◌, ◌<◌, ◌≤◌, ℕ, ◌-◌, ◌==◌, nat_lt, if◌then◌else◌, List, []}
+use Rattle.std.specs.Prelude.{◌≡◌, ◌<◌, ◌≤◌, ℕ, ◌+◌, ◌-◌, ◌==◌, ◌||◌, nat_lt, if◌then◌else◌, List, []}
 use Rattle.std.specs.Prelude.{◌∷◌, ◌++◌, take, length, slice_index, Bool, true, false, ⊤}
 use Rattle.uip_wire.specs.declared.sizes.TheConstants.{LARGEST_DATAGRAM}
-use Rattle.uip_slip.specs.Frames.{Frame, Datagram, Overlong, frames, unescaped, open_part}
+use Rattle.uip_slip.specs.Frames.{Frame, Datagram, Overlong, frames, is_plain, unescaped, open_part}
+use Rattle.std.specs.List.{list_all}
 use Rattle.uip_slip.specs.declared.fed.Fed.{Fed}
 use Rattle.uip_slip.specs.declared.fed.FedRun.{FedRun}
 use Rattle.uip_slip.specs.declared.fed.Fed.TheVariants as fed
@@ -15,6 +16,26 @@ pub record State : Type 0 where
   pub waits : Bool
   pub reported : Bool
 
+-- What a decoder knows besides its area: the number of bytes so far, and the rest of its state.
+pub record PartState : Type 0 where
+  pub len : ℕ
+  pub over : Bool
+  pub waits : Bool
+  pub reported : Bool
+
+-- a decoder with this area
+abbrev pub state_in : List ℕ → PartState → State
+state_in area p = record { bytes = take p.len area; over = p.over; waits = p.waits; reported = p.reported }
+
+-- The area has no byte of an open frame that can still become a datagram.
+abbrev pub is_free : PartState → Bool
+is_free p = p.over || p.reported || (p.len == 0)
+
+-- Bytes of a line that spoil the frame within which they come: they are too many for a datagram, and have no END and no ESC.
+pub record IsNoise (bytes : List ℕ) : Type 0 where
+  pub long : LARGEST_DATAGRAM + 1 < length bytes
+  pub plain : list_all is_plain bytes ≡ true
+
 -- An ESC at the end of a part waits for its second byte.
 abbrev pub waits_after : List ℕ → Bool
 waits_after [] = false
@@ -25,9 +46,9 @@ waits_after (a ∷ b ∷ rest) = if a == 219 then waits_after rest else waits_af
 abbrev pub open_bytes : State → List ℕ
 open_bytes s = if s.reported then [] else s.bytes
 
--- The decoder was fed these bytes.
+-- The decoder was fed these bytes. Of an open part that is too long, it has no bytes.
 pub record WasFed (bytes : List ℕ) (s : State) : Type 0 where
-  pub prefix : open_bytes s ≡ take LARGEST_DATAGRAM (unescaped (open_part bytes))
+  pub prefix : s.over ≡ false → open_bytes s ≡ unescaped (open_part bytes)
   pub over : s.over ≡ nat_lt LARGEST_DATAGRAM (length (unescaped (open_part bytes)))
   pub waits : s.waits ≡ waits_after (open_part bytes)
 

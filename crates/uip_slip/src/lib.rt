@@ -6,6 +6,7 @@ mod decoder;
 mod encoder;
 mod fed;
 mod marks;
+mod part;
 mod slip_text;
 mod text_area;
 
@@ -13,4 +14,5 @@ pub use decoder::Decoder;
 pub use encoder::{Encoder, encode, encoded_len, text_is_one_frame};
 pub use fed::{Fed, FedRun};
 pub use marks::END;
+pub use part::Part;
 pub use slip_text::{put_escaped, text_into};

@@ -4,8 +4,8 @@ use Rattle.uip_node.proofs.Finishing.{finished}
 use Rattle.uip_node.proofs.Stepping.{next_first, rests_at, slice_get-element}
 use Rattle.uip_node.proofs.node.Node.periodic.Goals as goal
 
-pub returns-then-not-is_live_in : goal.returns-then-not-is_live_in
-returns-then-not-is_live_in g c = rw (← c.self.view_is) (record {
+pub returns-then-not-is_live_in-clause-refines : goal.returns-then-not-is_live_in-clause-refines
+returns-then-not-is_live_in-clause-refines g c = rw (← c.self.view_is) (record {
   same = search rules;
   step = λ n h.
       let now = c.self.inside in
@@ -42,8 +42,8 @@ pub ask_app-answer-requires-clause-others : goal.ask_app-answer-requires-clause-
 ask_app-answer-requires-clause-others g c = λ j d other h.
     (c.self.invariant.kept j d (subst (λ (cs : List (Conn g.row.A.Denot)). slice_get cs j ≡ Some d) c.next_iss.ensures.conns (c.take_tick-step.ensures.took.others j d other h))).busy
 
-pub returns : goal.returns
-returns g c = rw (← c.self.view_is) (record {
+pub returns-clause-refines : goal.returns-clause-refines
+returns-clause-refines g c = rw (← c.self.view_is) (record {
   same = search rules;
   step = λ n h.
       let app = g.A.App in
