@@ -22,6 +22,9 @@ definition rests on, in this form.
 """
 # The transition of a node. The trace is that of `step`, whatever it does, and the conclusion names no transition.
 CLOSED = ("uip_node.specs.Node.step",)
+# What is printed first of what a statement rests on: its conclusion, before its hypotheses.
+FIRST = {"node_laws.specs.TraceConforms.EveryTraceOfPagesConforms": ("node_laws.specs.TraceConforms.TraceConforms",
+                                                                     "app_events.specs.Pages.IsPaged", "uip_node.specs.Laws.HasBytes")}
 # The sections: the heading, the statements, and a sentence about them.
 SECTIONS = (
     ("The guarantee on every trace", ("node_laws.specs.TraceConforms.EveryTraceOfPagesConforms",),
@@ -46,7 +49,8 @@ def page(sources):
     gone = [f"dev/definitions.py:1: no definition {it}" for _, names, _ in SECTIONS for it in names if sources.resolve(it) is None]
     for number, (heading, names, about) in enumerate(SECTIONS, 1):
         roots = [it for it in map(sources.resolve, names) if it]
-        found = sources.closure(roots, closed)
+        firsts = [sources.resolve(it) for name in names for it in FIRST.get(name, ())]
+        found = dict.fromkeys((roots[:1] if firsts else []) + sources.closure([it for it in firsts if it] + roots, closed))
         out += [f"## {number} {heading}", "", prose(f"{about} They rest on {counted(sources.closure(roots))}."), ""]
         out += blocks([it for it in found if it not in seen])
         seen.update(dict.fromkeys(found))

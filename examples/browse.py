@@ -69,7 +69,7 @@ BOARD_MEMORY = (0x40000000, 0x10000)
 PATIENCE = 0.25
 QUEUE = 16384      # bytes that may wait for the line before datagrams wait in the interface
 HELD = 0.1         # seconds for which a datagram is held that is to be reordered
-SOCKET_ROOM = 8192
+SOCKET_ROOM = 65536
 LINK_TYPES = {False: 101, True: 1}    # of a capture file: raw IP, and Ethernet
 # The exit statuses of uipd (docs/uipd.1).
 STATUSES = {
@@ -348,7 +348,6 @@ def stream_pair():
     """Two connected sockets, of which the first holds little of what is sent to the second. They are TCP's, which joins what is written: a
     UNIX socket has room for some 280 writes, and most of qemu's ports write single bytes, and some drop what the socket does not take."""
     with socket.create_server(("127.0.0.1", 0)) as server:
-        server.setsockopt(socket.SOL_SOCKET, socket.SO_RCVBUF, SOCKET_ROOM)
         line = socket.create_connection(server.getsockname())
         port = server.accept()[0]
     line.setsockopt(socket.SOL_SOCKET, socket.SO_SNDBUF, SOCKET_ROOM)

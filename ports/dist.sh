@@ -5,7 +5,9 @@
 #     sh ports/run.sh dist-compare                     makes it elsewhere, twice, and compares it with dist/ byte for byte
 #     sh ports/run.sh c same [CALLS [SEED [HOST ..]]]  makes CALLS random calls of the library for this machine, and the same with uip.c, by each
 #                                                      compiler and processor of hosts.sh (or these): none may differ
-#     sh ports/run.sh dist-test                        compiles it without a warning, and runs the tests of the translation
+#     sh ports/run.sh dist-test [MODULES [SEED]]       compiles it without a warning, and translates MODULES random modules (20) and those of
+#                                                      c_test/cases, which must then do what they do
+#     sh ports/run.sh dist-planted [MODULES]           plants faults in the translation: at most MODULES random modules must find each
 #
 # SET=serial, app or both: another set of calls than that of uip.h (c same). SOURCE names another uip.c.
 ports=$(cd "$(dirname "$0")" && pwd)
@@ -17,11 +19,15 @@ fail() { echo "ports: $1" >&2; exit 1; }
 for part in hosts.sh same/run.sh; do . "$ports/$part"; done
 modules=${MODULES:-$out}
 
+find_clang() {
+    clang=$(dirname "$(dirname "$(readlink -f "$(command -v rt)")")")/toolchain/bin/clang
+    [ -x "$clang" ] || fail "no kit of rt here"
+    mkdir -p "$out/tools" && ln -sf "$(readlink -f "$clang")" "$out/tools/clang"
+}
+
 # make_dist FOLDER: the files of dist/ that are made.
 make_dist() {
-    clang=${CLANG:-$out/kit/toolchain/bin/ld.lld}
-    [ -x "$clang" ] || clang=$(dirname "$(dirname "$(readlink -f "$(command -v rt)")")")/toolchain/bin/clang
-    mkdir -p "$1" "$out/tools" && ln -sf "$(readlink -f "$clang")" "$out/tools/clang"
+    find_clang && mkdir -p "$1"
     python3 "$ports/to_c.py" "$modules" "$out/tools/clang" "$1/uip.c" || exit 1
     { echo '#ifndef UIP_SOURCE              /* the library is uip.c, compiled with the program */'; echo '#define UIP_SOURCE'; echo '#endif'
         cat "$top/include/uip.h"; } >"$1/uip.h"
@@ -41,12 +47,31 @@ compare() {
     echo "dist/ is what ports/ makes of the modules"
 }
 
+# Each compiler that is here takes each set of calls without a warning.
+# shellcheck disable=SC2086
+warnings() {
+    words="-pedantic -Wall -Wextra -Wconversion -Werror -O2 -I$top/dist"
+    for set in "" -DUIP_NO_ETHERNET -DUIP_APP -DUIP_BOTH; do
+        for compiler in "gcc -std=c99" "gcc -m32 -std=c99" "clang -std=c99" "g++ -std=c++11 -x c++" "clang++ -std=c++11 -x c++" "tcc -Wall -Werror -I$top/dist"; do
+            command -v "${compiler%% *}" >/dev/null || continue
+            case "$compiler" in tcc*) more=;; *) more=$words;; esac
+            case "$compiler" in *-m32*) echo | gcc -m32 -x c -include stddef.h -c - -o /dev/null 2>/dev/null || continue;; esac
+            $compiler $more $set -c "$top/dist/uip.c" -o "$out/warnings.o" || fail "$compiler $set: a warning"
+            echo "no warning: $compiler $set"
+        done
+    done
+    if command -v cppcheck >/dev/null; then
+        cppcheck --quiet --error-exitcode=1 --enable=warning,portability -I"$top/dist" "$top/dist/uip.c" || fail "cppcheck has something to say"
+        echo "no warning: cppcheck"
+    fi
+}
+
 # built HOST: the program that makes the recorded calls again.
 # shellcheck disable=SC2086
 built() {
     choose_host "$1" || exit 1
     source=${SOURCE:-$top/dist/uip.c}
-    words="-w -DUIP_OWN_HEAP $define -I$top/dist -I$ports/same"
+    words="-w $define -I$top/dist -I$ports/same"
     objects=''
     if [ -n "$bare" ]; then
         words="$words -nostdlib"
@@ -104,8 +129,10 @@ same_on_hosts() {
 case "$1" in
 dist) make_dist "$top/dist" && echo "$top/dist/uip.c: $(wc -c <"$top/dist/uip.c") bytes";;
 dist-compare) compare;;
+dist-test) mkdir -p "$out" && warnings && find_clang && exec python3 "$ports/c_test/run.py" "$out/tools/clang" "${2:-20}" "${3:-1}";;
+dist-planted) find_clang && exec python3 "$ports/c_test/planted.py" "$out/tools/clang" "${2:-20}";;
 c) [ "$2" = same ] || fail "no work $2 for c: sh ports/run.sh c same [CALLS [SEED [HOST ..]]]"
     shift 2
     same_on_hosts "$@";;
-*) sed -n '2,12s/^# \{0,1\}//p' "$0"; exit 2;;
+*) sed -n '2,15s/^# \{0,1\}//p' "$0"; exit 2;;
 esac

@@ -1,5 +1,5 @@
 #!/bin/sh
-# Builds the library, and a firmware with it, for another processor from the proved module, and tests both.
+# Builds the library for a processor from dist/uip.c, and a firmware with it, and tests both. Makes dist/ from the proved modules.
 #
 #     sh ports/run.sh TARGET                       builds the library and the firmware, and prints what flash and memory they need
 #     sh ports/run.sh TARGET fetch                 runs the firmware under qemu; Linux's TCP fetches every file of the site
@@ -16,8 +16,6 @@
 #     sh ports/run.sh TARGET same-both [CALLS [SEED]]   the same for the library of uip_both.h
 #     sh ports/run.sh TARGET speed                 counts the instructions of pings, ARP, a small file and ticks on each link, of full segments
 #                                                  and of opening (not for wasm)
-#     sh ports/run.sh TARGET planted [CALLS [SAME]]     plants faults in the conversion of the module: each must be found, by `same` or by
-#                                                  SAME, which is same-app or same-both
 #     sh ports/run.sh m4 app                       builds a firmware with an application of its own (uip_app.h), and runs it: four clients of
 #                                                  its console compare each reply (root)
 #     sh ports/run.sh m4 both                      builds a firmware with pages and such an application (uip_both.h), and tries it as `ether`
@@ -27,19 +25,22 @@
 #     sh ports/run.sh TARGET app-library           builds the library of uip_app.h alone: ports/out/TARGET/libuip_app_c.a
 #     sh ports/run.sh TARGET both-library          builds that of uip_both.h alone: ports/out/TARGET/libuip_both_c.a
 #     sh ports/run.sh targets                      lists the targets
+#     sh ports/run.sh dist                         makes dist/ from the proved modules; dist-compare compares it with what is there, and
+#                                                  dist-test tests it
+#     sh ports/run.sh c same [CALLS [SEED [HOST ..]]]   the same random calls with dist/uip.c, by each compiler and processor of hosts.sh
 #
-# TARGET is m0 (Cortex-M0+), m4, m7, m33, rv32 (rv32imac), rv64 (rv64imac), aarch64-small (compiled for size, beside the library of `rt lib`)
-# or wasm (WebAssembly of 32 bits, for a browser or node).
+# TARGET is m0 (Cortex-M0+), m3, m4, m7, m33, rv32 (rv32imac), rv64 (rv64imac), aarch64-small (compiled for size, beside the library of
+# `rt lib`) or wasm (WebAssembly of 32 bits, for a browser or node).
 # `sh ports/run.sh --toolchain DIR TARGET ..` compiles with the programs of DIR/bin: clang, ld.lld, wasm-ld, llvm-ar, llvm-nm and llvm-objdump
 # of LLVM 22; without it with those of the kit.
 #
-# Variables: OPT holds the optimization words for clang; VECTORS=1 keeps the functions with vectors (scalar.py); CHECKED=1 compiles the
-# run-time checks of retarget.py; FLOAT names another floating-point ABI than -mfloat-abi=soft; SITE another image; TO another folder.
+# Variables: LIBRARY_CC names another compiler for the library, with its words for the target; OPT its words for optimization; FLOAT
+# another floating-point ABI than -mfloat-abi=soft; SITE another image; TO another folder; SOURCE another uip.c.
 #
-# The first run proves the library (module.sh). Needs python3 and the kit of `rt`; for fetch, usage and state qemu-system-arm or
-# qemu-system-misc, `ip` and /dev/net/tun; for same and planted qemu-user and a C compiler for this machine; for wasm node.
+# Needs python3; for `same` and for dist the kit of `rt`, whose first run proves the library (module.sh); for fetch, usage and state
+# qemu-system-arm or qemu-system-misc, `ip` and /dev/net/tun; for same qemu-user and a C compiler for this machine; for wasm node.
 case "$1" in
--h|--help|"") sed -n '2,43s/^# \{0,1\}//p' "$0"; exit 0;;
+-h|--help|"") sed -n '2,44s/^# \{0,1\}//p' "$0"; exit 0;;
 dist*|c) exec sh "$(dirname "$0")/dist.sh" "$@";;
 esac
 ports=$(cd "$(dirname "$0")" && pwd)
@@ -59,83 +60,54 @@ target=$1
 choose_target "$target"
 work=${2:-build}
 case "$work" in
-build|library|app-library|both-library|fetch|usage|state|ether|ether-usage|calls|app-calls|both-calls|app|both|same|same-app|same-both|speed|planted) ;;
+build|library|app-library|both-library|fetch|usage|state|ether|ether-usage|calls|app-calls|both-calls|app|both|same|same-app|same-both|speed) ;;
 *) fail "no work $work; --help lists what there is";;
 esac
 case "$work-$target" in ether-usage-wasm|*calls-wasm) fail "no $work for wasm";; esac
 
-# ---- the module and the tools
+# ---- the tools
 
-case "$work-$4" in
-app-*|same-app-*|planted-same-app) crate=uip_app_c;;
-both-*|same-both-*|planted-same-both) crate=uip_both_c;;
+case "$work" in
+app*|same-app) crate=uip_app_c;;
+both*|same-both) crate=uip_both_c;;
 *) crate=uip_c;;
 esac
-if [ ! -f "$out/$crate.ll" ] || [ -n "$(find "$top/crates" -name '*.rt' -newer "$out/$crate.ll" | head -1)" ]; then
-    sh "$ports/module.sh" "$crate" || exit 1
-fi
 mkdir -p "$out/tools"
 if [ -z "$toolchain" ]; then
-    real=$(readlink -f "$out/kit/toolchain/bin/ld.lld") || exit 1
-    for tool in clang ld.lld wasm-ld llvm-ar llvm-nm llvm-objdump; do ln -sf "$real" "$out/tools/$tool"; done
+    real=$(command -v rt) && real=$(dirname "$(dirname "$(readlink -f "$real")")")/toolchain/bin/ld.lld
+    [ -x "$real" ] || fail "no kit of rt here: --toolchain DIR names another LLVM 22"
+    for tool in clang ld.lld wasm-ld llvm-ar llvm-nm llvm-objdump; do ln -sf "$(readlink -f "$real")" "$out/tools/$tool"; done
     toolchain=$out/tools
 fi
 PATH=$toolchain:$PATH
-to=${TO:-$out/$target${VECTORS:+-vectors}${CHECKED:+-checked}}
+to=${TO:-$out/$target}
 mkdir -p "$to"
 
 # ---- the library
 
-opt=${OPT:--Os -mllvm -force-attribute=optsize}    # a module has no attribute of its own that asks for small code
+opt=${OPT:--Os}
+source=${SOURCE:-$top/dist/uip.c}
 sections="-ffunction-sections -fdata-sections -fomit-frame-pointer"
 # shellcheck disable=SC2086
 c_code() {
-    clang $words $c_words -ffreestanding -fno-builtin $sections -Wall -Wextra -I"$top/include" -I"$to" -I"$ports/same" \
+    clang $words $c_words -ffreestanding -fno-builtin $sections -Wall -Wextra -DUIP_SOURCE -I"$top/include" -I"$to" -I"$ports/same" \
         -I"$example" -idirafter "$example/fallback" -c "$@" || fail "clang failed"
 }
-# convert MODULE NAME HEADER: writes the converted module, NAME.ll, and the header of its calls.
-# shellcheck disable=SC2086
-convert() {
-    clang $words -S -emit-llvm -x c /dev/null -o "$to/layout.ll" || fail "clang failed"
-    python3 "${RETARGET:-$ports/retarget.py}" "$1" "$to/layout.ll" "$to/$2.ll" "$to/$3" ${CHECKED:+--checked} || fail "the module was not converted"
-}
-# without_vectors NAME: sets `module` to that of the crate, in which no function with vectors is called, except with VECTORS.
-without_vectors() {
-    module=$out/$crate.ll
-    [ -z "$VECTORS" ] || return
-    python3 "$ports/scalar.py" "$module" "$top/crates" "$to/$1.ll" || exit 1
-    module=$to/$1.ll
-}
-library() {
-    without_vectors scalar
-    convert "$module" module calls.h
-    # The calls for Ethernet share functions with uip_open. A firmware without Ethernet has them built in only if its module has no such call.
-    sed -E 's/^define ([a-z0-9]+) @port_uip_(open_ether|input_frame_area|periodic_frame)\(/define internal \1 @port_uip_\2(/' \
-        "$to/module.ll" >"$to/serial.ll" || fail "the calls for Ethernet were not removed"
-    [ "$(cmp -l "$to/module.ll" "$to/serial.ll" 2>/dev/null | head -1)" ] || fail "there was no call for Ethernet to remove"
-    c_code -Os "$ports/uip_calls.c" -o "$to/module_calls.o"
-    c_code -Os -DUIP_NO_ETHERNET "$ports/uip_calls.c" -o "$to/serial_calls.o"
-    archive module libuip_c_ether.a
-    archive serial libuip_c.a
-}
-app_library() {
-    convert "$out/uip_app_c.ll" app_module app_calls.h
-    c_code -Os "$ports/uip_app_calls.c" -o "$to/app_module_calls.o"
-    archive app_module libuip_app_c.a
-}
-both_library() {
-    without_vectors both_scalar
-    convert "$module" both_module both_calls.h
-    c_code -Os -DUIP_BOTH "$ports/uip_calls.c" -o "$to/both_module_calls.o"
-    archive both_module libuip_both_c.a
-}
+# archive NAME OBJECT WORD ..: the library of one set of calls.
 # shellcheck disable=SC2086
 archive() {
-    clang $words $opt -ffreestanding -fno-builtin $sections -c -x ir "$to/$1.ll" -o "$to/$1.o" || fail "clang failed"
-    rm -f "$to/$2"
-    llvm-ar rcsD "$to/$2" "$to/$1.o" "$to/$1_calls.o" || fail "llvm-ar failed"
+    name=$1 object=$2
+    shift 2
+    ${LIBRARY_CC:-clang $words -idirafter $example/fallback} $c_words $opt -ffreestanding $sections -Wall -Wextra -I"$(dirname "$source")" "$@" \
+        -c "$source" -o "$to/$object.o" || fail "$source was not compiled"
+    rm -f "$to/$name"
+    llvm-ar rcsD "$to/$name" "$to/$object.o" || fail "llvm-ar failed"
 }
-case "$crate" in uip_c) library;; uip_app_c) app_library;; *) both_library;; esac
+case "$crate" in
+uip_c) archive libuip_c_ether.a module && archive libuip_c.a serial -DUIP_NO_ETHERNET;;
+uip_app_c) archive libuip_app_c.a app_module -DUIP_APP;;
+*) archive libuip_both_c.a both_module -DUIP_BOTH;;
+esac
 # How much stack each call needs. The heap and the copies are linked as a firmware has them.
 # shellcheck disable=SC2086
 calls() {
@@ -202,7 +174,6 @@ browse() {
 case "$work" in
 same|same-app|same-both) same "${3:-1000000}" "${4:-1}"; exit;;
 speed) speed; exit;;
-planted) exec python3 "$ports/planted.py" "$target" "${3:-1000000}" "${4:-same}";;
 esac
 case "$target" in
 wasm) wasm "$work"; exit;;

@@ -8,7 +8,7 @@
 #     machine           the words that start qemu; {} is replaced by the firmware
 #     memory_at         the address of the memory as qemu's monitor sees it
 #     user              what runs a program that is made for it, and the package that has it
-TARGETS="m0 m4 m7 m33 rv32 rv64 aarch64-small wasm"
+TARGETS="m0 m3 m4 m7 m33 rv32 rv64 aarch64-small wasm"
 
 choose_cortex_m() {
     triple=$1; words="-mcpu=$2 ${FLOAT:--mfloat-abi=soft}"; c_words="-fshort-enums${FLOAT:+ -DUIP_HARD_FLOAT}"
@@ -27,6 +27,7 @@ choose_target() {
     c_words='' memory_at=''
     case "$1" in
     m0) choose_cortex_m thumbv6m-none-eabi cortex-m0plus mps2-an386;;    # a Cortex-M4, which runs the code of an M0+
+    m3) choose_cortex_m thumbv7m-none-eabi cortex-m3 mps2-an385;;
     m4) choose_cortex_m thumbv7em-none-eabi cortex-m4 mps2-an386;;
     m7) choose_cortex_m thumbv7em-none-eabi cortex-m7 mps2-an500;;
     m33) choose_cortex_m thumbv8m.main-none-eabi cortex-m33+nodsp mps2-an505

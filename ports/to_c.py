@@ -25,7 +25,7 @@ import scalar
 from to_c import prepare
 from to_c.forms import Unsupported
 from to_c.module import Module
-from to_c.names import Names, Quoted
+from to_c.names import EXPORTS, Names, Quoted
 from to_c.translation import File, Translation
 
 HERE = os.path.dirname(os.path.abspath(__file__))
@@ -51,10 +51,10 @@ def source_of(parts):
 
 
 def layers(crates):
-    """These crates in the order of crates.txt, those of the kit first."""
+    """These crates in the order of crates.txt, those of the kit first, and the exports last."""
     order = [line.split(":")[0].split()[0] for line in read(os.path.join(HERE, "..", "crates.txt")).split("\n") if ":" in line]
     known = list(dict.fromkeys(crates))
-    return sorted((it for it in known if it not in order)) + [it for it in order if it in known]
+    return sorted(it for it in known if it not in (*order, EXPORTS)) + [it for it in (*order, EXPORTS) if it in known]
 
 
 def prepared(folder, crate, left_out, clang):

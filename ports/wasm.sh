@@ -11,7 +11,7 @@ node_wasm() {
     c_code -Os "$example/runtime.c" -o "$to/runtime.o"
     exports=$(for call in $UIP_CALLS; do printf ' --export=uip_%s' "$call"; done)
     for name in image device in out own result; do exports="$exports --export=$name"; done
-    wasm_link -z stack-size=16384 $exports "$to/serial.o" "$to/serial_calls.o" "$to/wasm.o" "$to/runtime.o" -o "$to/node.wasm"
+    wasm_link -z stack-size=16384 $exports "$to/serial.o" "$to/wasm.o" "$to/runtime.o" -o "$to/node.wasm"
 }
 
 wasm() {

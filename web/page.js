@@ -71,8 +71,9 @@ function shown(now) {
 }
 // A link that leads away from the device opens in a tab of its own if it was clicked.
 function left(url) {
-  const isOpened = navigator.userActivation?.isActive && open(url, "_blank", "noopener") !== undefined;
-  notice(isOpened ? `${url} is not a page of the device: it opens in a tab of its own`
+  const isClicked = navigator.userActivation?.isActive ?? true;
+  if (isClicked) open(url, "_blank", "noopener");
+  notice(isClicked ? `${url} is not a page of the device: it opens in a tab of its own`
     : `the device's page leads away, to ${url}: it stays here`, "left");
 }
 const dragged = () => { $("drop").hidden = false; };
@@ -231,7 +232,8 @@ const openRules = options => openBy(() => {
   rows.clear();
   const { line, stop } = serverByUipsRules({ clock });
   device = "rules";
-  begin(line, { name: "a server by uIP's rules, not Lowunbisa", kind: "bad", leave: stop, mss: SMALL, faultOf, first: "/meter.shtml", ...options });
+  const name = "a server by uIP's rules, not Lowunbisa";
+  begin(line, { name, kind: "bad", leave: stop, mss: SMALL, faultOf, first: "/meter.shtml", ...options });
 }, "starting a server by uIP's rules");
 
 const openSerial = known => openBy(async () => {
@@ -325,7 +327,8 @@ function showVerdicts() {
   $("verdict-head").textContent = verdict.head;
   $("verdict-more").textContent = verdict.more;
   const counts = [["Datagrams", sums.datagrams], ["Hit", sums.hit], ["Device again", sums.retransmissions], ["Page again", sums.repeated],
-    ["Different", sums.different, 1], ["Complete", sums.complete], ["Wrong", sums.wrong, 1], ["Truncated", sums.truncated], ["Retried", sums.retried]];
+    ["Different", sums.different, 1], ["Complete", sums.complete], ["Wrong", sums.wrong, 1], ["Truncated", sums.truncated],
+    ["Retried", sums.retried]];
   $("counts").replaceChildren(...counts.map(([name, count, isBad]) => {
     const group = document.createElement("div");
     const value = Object.assign(document.createElement("dd"), { textContent: count.toLocaleString("en") });
@@ -423,7 +426,8 @@ async function until(isSo, milliseconds = 20000) {
 
 const panel = new DevicePanel($("panel"), guard);
 const tour = new Tour($("tour"), stepsOf({
-  rows, panel, load, until, setFaults, openSensor, openMeter, openRules, session: () => session, device: () => device, target: () => target,
+  rows, panel, load, until, setFaults, showResult, openSensor, openMeter, openRules,
+  session: () => session, device: () => device, target: () => target,
   visit: path => frame().visit(path), verdictAt: path => verdicts.get(path)?.kind,
   isComplete: path => target === path && verdicts.get(path)?.kind === "complete" && !frame().isLoading,
   endTour: () => { $("tour").hidden = true; followAddress(); },

@@ -90,6 +90,7 @@ function lineOf(row) {
   label.append(Object.assign(document.createElement("b"), { textContent: what }));
   if (numbers) label.append(" ", Object.assign(document.createElement("i"), { textContent: numbers }));
   arrow.append(label);
-  line.append(cell("number", number), cell("time", time), cell("who", bad || isEcho(row) ? "–" : who.slice(1)), arrow, cell("note", wordsOf(row)));
+  const connection = bad || isEcho(row) ? "–" : who.slice(1);
+  line.append(cell("number", number), cell("time", time), cell("who", connection), arrow, cell("note", wordsOf(row)));
   return line;
 }

@@ -52,9 +52,10 @@ export function stepsOf(page) {
     page.setFaults({ loss: 30, speed: 10 });
     const done = await page.load("/", 20);
     if (!done) return {};
+    page.showResult("", "");   // the tour has its own
     const { retransmissions, different } = page.session().sums, kind = done.wrong ? "bad" : "good";
-    const words = `${done.complete} pages complete, ${done.wrong} wrong. ${retransmissions} retransmissions by the device, ${different} different.`;
-    return { kind, words };
+    const pages = `${done.complete} pages complete, ${done.wrong} wrong`;
+    return { kind, words: `${pages}. ${retransmissions} retransmissions by the device, ${different} different.` };
   }
 
   async function capture() {
@@ -66,7 +67,8 @@ export function stepsOf(page) {
     if (!lost || !again) return { kind: "warn", words: "The line was busy: try it again." };
     page.rows.mark([lost.number, again.number]);
     const wait = (again.time - lost.time).toFixed(1);
-    return { kind: "good", words: `Datagram ${lost.number} was lost. ${wait} s later, number ${again.number} has the same bytes: identical.` };
+    const words = `Datagram ${lost.number} was lost. ${wait} s later, number ${again.number} has the same bytes: identical.`;
+    return { kind: "good", words };
   }
 
   // How many of the meter's pages have two readings, or null if the line was closed.
@@ -76,7 +78,9 @@ export function stepsOf(page) {
     await page.until(() => page.session() !== own || page.verdictAt(PATH));
     if (page.session() !== own) return null;
     own.atOnce = 1;
-    return (await page.load(PATH, TIMES))?.wrong ?? null;
+    const done = await page.load(PATH, TIMES);
+    page.showResult("", "");
+    return done?.wrong ?? null;
   }
 
   async function meter() {

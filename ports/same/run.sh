@@ -14,6 +14,9 @@ wrapped() {
 }
 
 recorder() {
+    if [ ! -f "$out/$crate.a" ] || [ -n "$(find "$top/crates" -name '*.rt' -newer "$out/$crate.a" | head -1)" ]; then
+        sh "$ports/module.sh" "$crate" || exit 1
+    fi
     record=$out/record-$crate
     if [ -x "$record" ] && [ -z "$(find "$ports/same" "$top/fuzz" "$top/include" "$out/$crate.a" -name '*.[ach]' -newer "$record")" ]; then
         return
@@ -40,20 +43,20 @@ recorder() {
 
 replayer() {
     case "$crate" in
-    uip_c) source=replay module=module;;
-    uip_app_c) source=replay_app module=app_module;;
-    uip_both_c) source=replay_both module=both_module;;
+    uip_c) replay_source=replay module=module;;
+    uip_app_c) replay_source=replay_app module=app_module;;
+    uip_both_c) replay_source=replay_both module=both_module;;
     esac
-    case "$source" in
-    replay_both) c_code -O2 -DBOTH "$ports/same/replay.c" -o "$to/$source.o";;
-    *) c_code -O2 "$ports/same/$source.c" -o "$to/$source.o";;
+    case "$replay_source" in
+    replay_both) c_code -O2 -DBOTH "$ports/same/replay.c" -o "$to/$replay_source.o";;
+    *) c_code -O2 "$ports/same/$replay_source.c" -o "$to/$replay_source.o";;
     esac
     c_code -O2 "$example/runtime.c" -o "$to/replay_runtime.o"
-    set -- "$to/$source.o" "$to/replay_runtime.o" "$to/$module.o" "$to/${module}_calls.o"
+    set -- "$to/$replay_source.o" "$to/replay_runtime.o" "$to/$module.o"
     case "$target" in
-    wasm) replay=$to/$source.wasm
+    wasm) replay=$to/$replay_source.wasm
         wasm_link --export=main --allow-undefined --initial-memory=67108864 "$@" -o "$replay";;
-    *) replay=$to/$source
+    *) replay=$to/$replay_source
         ld.lld -e _start "$@" -o "$replay" || fail "ld.lld failed";;
     esac
 }

@@ -143,6 +143,8 @@ class Branches(Arithmetic):
 
     def end_by_switch(self, at, it, follow, loop, _):
         text, labels = self.value(it.value, it.kind), {}
+        if text.is_size and any(case % 2**64 >= 2**32 for case, _ in it.cases):
+            text = text.cast("u64")
         for case, target in it.cases:
             shown = number(case, bits(it.kind)) if case < 0 or case > 2**31 else str(case)
             labels.setdefault(target, []).append(f"case {shown}:")

@@ -1,13 +1,13 @@
 
-/* ---- the memory under an operating system for PCs */
+/* ---- the memory by malloc: for a program on a PC that has no functions `rattle_..` of its own */
 
-#if !defined(UIP_OWN_HEAP) && (defined(__unix__) || defined(__APPLE__) || defined(_WIN32)) && (!defined(__STDC_HOSTED__) || __STDC_HOSTED__)
-#include <stdlib.h>
-#if defined(__GNUC__) && !defined(_WIN32)
-#define OF_PROGRAM __attribute__((weak))    /* the program may have its own */
-#else
-#define OF_PROGRAM
+#if defined(UIP_MALLOC)
+#define OF_LIBRARY
+#elif (defined(__unix__) || defined(__APPLE__)) && (defined(__GNUC__) || defined(__TINYC__)) && (!defined(__STDC_HOSTED__) || __STDC_HOSTED__)
+#define OF_LIBRARY __attribute__((weak))    /* those of the program take its place */
 #endif
+#ifdef OF_LIBRARY
+#include <stdlib.h>
 
 static uip_block given(void *at) {
     static unsigned char none[16];
@@ -17,14 +17,14 @@ static uip_block given(void *at) {
     return block;
 }
 
-OF_PROGRAM uip_block rattle_alloc(size_t len, size_t align) { return given(malloc(len ? len : align)); }
+OF_LIBRARY uip_block rattle_alloc(size_t len, size_t align) { return given(malloc(len ? len : align)); }
 
-OF_PROGRAM uip_block rattle_realloc(void *block, size_t kept, size_t len, size_t align) {
+OF_LIBRARY uip_block rattle_realloc(void *block, size_t kept, size_t len, size_t align) {
     (void)kept;
     return given(realloc(block, len ? len : align));
 }
 
-OF_PROGRAM void rattle_dealloc(void *block) { free(block); }
+OF_LIBRARY void rattle_dealloc(void *block) { free(block); }
 #endif
 
 /* ---- the calls of the headers over those of the module: a handle of 16 bytes is copied in and out, and a struct is returned through memory */

@@ -117,7 +117,7 @@ def c_type(kind):
     if is_struct(kind):
         return "pair_" + "_".join(parts_of(kind))
     if kind in ("ptr", "void", "i1", "size"):
-        return {"ptr": "u8 *", "void": "void", "i1": "bool", "size": "size_t"}[kind]
+        return {"ptr": "u8 *", "void": "void", "i1": "flag", "size": "size_t"}[kind]
     require(bits(kind) <= 64 or bits(kind) == 128, f"a number of type {kind}")
     return f"u{next(width for width in (8, 16, 32, 64, 128) if width >= bits(kind))}"
 

@@ -10,9 +10,10 @@
  *     UIP_APP            those of uip_app.h: your own TCP protocol on Ethernet, without the web server
  *     UIP_BOTH           those of uip_both.h: your own TCP protocol and the web server, on Ethernet
  *
- * The memory: under an operating system for PCs the file takes it from malloc, unless the program defines UIP_OWN_HEAP or, with a compiler
- * that is compatible with gcc, has the three functions `rattle_..` of uip.h. A firmware has heap.c. The file needs memcpy, memmove, memset,
- * and what the compiler needs for numbers of 64 bits.
+ * The memory: the program has the three functions `rattle_..` of uip.h; heap.c is these for a firmware. On Linux and macOS, with gcc, clang or
+ * tcc, a program needs none: the file then calls malloc. With another compiler UIP_MALLOC lets it do so.
+ *
+ * The file needs memcpy, memmove, memset, and what the compiler needs for numbers of 64 bits.
  *
  * ports/to_c.py made this file from the proved library. Do not edit it. The library's source is proved; this translation is tested.
  *
@@ -38,10 +39,12 @@
 #define IS_WHOLE (SET == 2)
 #define IS_APP (SET == 4)
 #define IS_BOTH (SET == 8)
-#ifndef __cplusplus
-#include <stdbool.h>
-#endif
 
+#ifdef __cplusplus
+typedef bool flag;
+#else
+typedef _Bool flag;
+#endif
 typedef unsigned char u8;
 typedef unsigned short u16;
 typedef unsigned u32;

@@ -60,10 +60,11 @@ class Memory(Values):
             self.values[name] = Text(base, unit == 1, base=base, is_unary=True)
 
     def load(self, it):
-        kind = it.kind
+        kind = "i64" if it.result in self.wide else it.kind
         if it.base in self.promoted:
             local = self.values[it.base].text
-            self.give(it, kind, Text(local, True, frozenset({local})))
+            text = Text(local, True, frozenset({local}))
+            self.give(it, kind, text.cast("size_t").cast("u64") if kind != it.kind else text)
             return
         address = self.value(it.base, "ptr")
         if not is_struct(kind):

@@ -19,6 +19,7 @@ class Quoted:
             return self.plain.setdefault(found[1], f"hidden.{len(self.plain)}")
         text = re.sub(r'(?<=[@%])"([^"]*)"', of, text)
         text = re.sub(r'^"([^"]*)"(?=:)', of, text, flags=re.M)
+        text = re.sub(rf"inttoptr \(i64 ptrto(?:int|addr) \(ptr ({GLOBAL}) to i64\) to ptr\)", r"\1", text)
         # the address of a part of a constant becomes a name
         return re.sub(rf"getelementptr {FLAGS}\(i8, ptr ({GLOBAL}), i64 (\d+)\)", r"\1.plus.\2", text)
 
@@ -44,8 +45,12 @@ def short_name(path):
     return "_".join(words)
 
 
+EXPORTS = "the exports"
+
+
 def crate_of(path):
-    return path.split("::")[0]
+    """The crate of a function; a path of one word is that of an export."""
+    return path.split("::")[0] if "::" in path else EXPORTS
 
 
 class Names:

@@ -17,7 +17,7 @@ def signature(result, name, parameters):
 
 
 def shown_byte(byte):
-    return f"'{chr(byte)}'" if chr(byte).isascii() and chr(byte).isprintable() and chr(byte) not in "'\\" else str(byte)
+    return f"'{chr(byte)}'" if chr(byte).isascii() and chr(byte).isprintable() and chr(byte) not in " '\\" else str(byte)
 
 
 def constant(name, data, align):

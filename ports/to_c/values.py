@@ -121,7 +121,7 @@ class Values:
         if name.startswith(("@", "ptrto")):
             return self.global_value(name)
         if name in ("true", "false"):
-            return Text(name, True)
+            return Text("1" if name == "true" else "0", True)
         if is_struct(kind):
             return Text(self.struct(kind, name), True)
         if name in ("null", "poison"):    # any value will do

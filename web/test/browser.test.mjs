@@ -260,12 +260,13 @@ inBrowser("a report of a replay is drawn", () => withBridge(startServe("--page")
   const { nodeId } = await tab.call("DOM.querySelector", { nodeId: root.nodeId, selector: "#report" });
   await tab.call("DOM.setFileInputFiles", { nodeId, files: [report] });
   await tab.until(`document.getElementById("drawing").open && document.getElementById("picture").naturalWidth > 0`);
-  assert.equal(await tab.run(`return document.getElementById("picture").alt`), `page.report: ${noProgram ? 4 : 9} datagrams between a client and the node`);
+  assert.equal(await tab.run(`return document.getElementById("picture").alt`), `page.report: ${noProgram ? 4 : 9} datagrams between this page and the device`);
   await tab.picture(join(PICTURES, "report.png"));
 }));
 
 inBrowser("the page is used by the keyboard, has labels, and fits 390 and 360 pixels", () => withBridge(startServeOfSite(), async tab => {
   await tab.until(shows("Lowunbisa"));
+  await tab.run(`for (const it of document.querySelectorAll("details:not(.menu)")) it.open = true`);
   const { nodes } = await tab.call("Accessibility.getFullAXTree");
   const fields = nodes.filter(it => ["button", "textbox", "slider", "checkbox", "combobox", "spinbutton"].includes(it.role?.value));
   assert.ok(fields.length > 20);
@@ -276,11 +277,12 @@ inBrowser("the page is used by the keyboard, has labels, and fits 390 and 360 pi
   await tab.until(shows("What it counts"));
   const reached = new Set();
   await tab.run(`document.querySelector(".menu").open = true; document.querySelector(".menu summary").focus()`);
-  for (let n = 0; n < 40; n++) {
+  for (let n = 0; n < 50; n++) {
     reached.add(await tab.run(`return document.activeElement.id || document.activeElement.className`));
     await tab.key("Tab");
   }
-  for (const id of ["fill", "apart", "close", "back", "address", "target", "loss", "speed", "no-faults", "ping", "many", "count", "draw", "save-capture", "diagram"])
+  for (const id of ["help", "fill", "apart", "close", "back", "address", "target", "draw", "save-capture", "save-plain", "diagram", "loss", "fast", "speed",
+    "seed", "copy-link", "no-faults", "count", "many", "ping"])
     assert.ok(reached.has(id), `${id} is not reached: ${[...reached]}`);
   for (const width of [390, 360]) {
     await tab.size(width, 740);
