@@ -10,7 +10,7 @@ SERVE     = out/uip
 ARCHIVES  = out/libuip_c.a out/libuip_app_c.a out/libuip_both_c.a
 PROGRAM   = crates/uipd/out/uipd
 LIBRARIES = $(foreach name,uip_c uip_app_c uip_both_c,crates/$(name)/out/lib$(name).a)
-STACK     = dist/uip.c dist/uip.h dist/heap.c
+STACK     = dist/uip.c dist/uip.h
 
 help:
 	@echo "Without the Rattle kit, with a C compiler and Python 3:"

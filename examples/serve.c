@@ -31,10 +31,6 @@
 #include <time.h>
 #include <unistd.h>
 #include "../dist/uip.h"
-#ifndef UIP_HEAP_SIZE
-#define UIP_HEAP_SIZE UIP_MEMORY(1024)      /* a site has at most 1,024 files */
-#endif
-#include "../dist/heap.c"
 
 enum { BAD_WORDS = 1, NO_FILE, BAD_READ, BAD_WRITE, BAD_IMAGE = 6, NO_MEMORY = 8 };
 enum { TICK = 500 };                        /* milliseconds */

@@ -38,9 +38,9 @@ compiles() {
 compiles "$cc" c c90 gnu90 c99 c11 c17
 "$cc" -std=c99 $strict -I"$top/include" -fsyntax-only "$top/support/step.c" || fail "support/step.c does not compile"
 ! command -v "$cxx" >/dev/null || compiles "$cxx" c++ c++98 c++11 c++14 c++17
-# build NAME HEAP OUTPUT WORDS: a program, with the words for its compiler. serve.c brings a heap of its own.
-build() { "$cc" -O2 -Wall -Wextra -I"$top/include" $4 "$here/$1.c" ${2:+"$2"} "$library" -o "$here/out/$3" || fail "$3 was not built"; }
-build ../serve "" uip_serve
+# build NAME HEAP OUTPUT WORDS: a program, with the words for its compiler.
+build() { "$cc" -O2 -Wall -Wextra -I"$top/include" $4 "$here/$1.c" "$2" "$library" -o "$here/out/$3" || fail "$3 was not built"; }
+build ../serve "$here/heap.c" uip_serve
 build state "$here/heap.c" uip_state
 "$cc" -O2 -Wall -Wextra -I"$top/include" "$here/text_test.c" -o "$here/out/text_test" && "$here/out/text_test" || fail "support/text.h does not do what it states"
 "$cc" -O2 -Wall -Wextra -I"$top/include" "$here/token_test.c" -o "$here/out/token_test" && "$here/out/token_test" || fail "support/token.h does not do what it states"
@@ -62,8 +62,8 @@ else
 fi
 # The site in an array of UIP_MEMORY bytes, and of 64 bytes less.
 files=$(od -An -j8 -N2 -tu1 "$site" | awk '{ print $1 * 256 + $2 }')
-build ../serve "" uip_serve_array "-DUIP_HEAP_SIZE=UIP_MEMORY($files)"
-build ../serve "" uip_serve_short "-DUIP_HEAP_SIZE=UIP_MEMORY($files)-64"
+build ../serve "$top/support/heap.c" uip_serve_array "-DUIP_HEAP_SIZE=UIP_MEMORY($files)"
+build ../serve "$top/support/heap.c" uip_serve_short "-DUIP_HEAP_SIZE=UIP_MEMORY($files)-64"
 "$here/out/uip_serve_short" serve "$site" 10.0.0.1 </dev/null 2>"$here/out/short" && fail "a device was opened in 64 bytes less than UIP_MEMORY"
 
 if [ ! -x "$uipd" ]; then

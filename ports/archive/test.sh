@@ -106,7 +106,7 @@ serves() { python3 "$top/examples/browse.py" "$1" web/site.img -- python3 "$top/
 with_pkg_config() {
     words=$(PKG_CONFIG_PATH=$1/pkgconfig pkg-config --cflags --libs uip_c) || return 1
     # shellcheck disable=SC2086
-    cc -O2 examples/serve.c $words -o by_pkg_config && serves "$PWD/by_pkg_config" || return 1
+    cc -O2 examples/serve.c examples/linux/heap.c $words -o by_pkg_config && serves "$PWD/by_pkg_config" || return 1
     words=$(PKG_CONFIG_PATH=$1/pkgconfig pkg-config --define-variable=libdir="$PWD/lib/m4" --define-variable=library=uip_c_ether --libs uip_c)
     case "$words " in "-L$PWD/lib/m4 -luip_c_ether "*) ;; *) echo "$words"; return 1;; esac
     words=$(PKG_CONFIG_PATH=$1/pkgconfig pkg-config --define-variable=library=uip_both_c --cflags --libs uip_c) || return 1
@@ -120,7 +120,7 @@ with_cmake() {
 cmake_minimum_required(VERSION 3.10)
 project(serve C)
 find_package(uip_c CONFIG REQUIRED)
-add_executable(serve ../examples/serve.c)
+add_executable(serve ../examples/serve.c ../examples/linux/heap.c)
 target_link_libraries(serve uip_c::uip_c)
 add_executable(tap ../examples/linux/tap.c ../examples/linux/heap.c)
 target_link_libraries(tap uip_c::uip_c_ether)

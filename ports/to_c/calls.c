@@ -3,7 +3,7 @@
 
 #if defined(UIP_MALLOC)
 #define OF_LIBRARY
-#elif (defined(__unix__) || defined(__APPLE__)) && (defined(__GNUC__) || defined(__TINYC__)) && (!defined(__STDC_HOSTED__) || __STDC_HOSTED__)
+#elif (defined(__unix__) || defined(__APPLE__)) && defined(__GNUC__) && !defined(__TINYC__) && (!defined(__STDC_HOSTED__) || __STDC_HOSTED__)
 #define OF_LIBRARY __attribute__((weak))    /* those of the program take its place */
 #endif
 #ifdef OF_LIBRARY

@@ -10,8 +10,8 @@
  *     UIP_APP            those of uip_app.h: your own TCP protocol on Ethernet, without the web server
  *     UIP_BOTH           those of uip_both.h: your own TCP protocol and the web server, on Ethernet
  *
- * The memory: the program has the three functions `rattle_..` of uip.h; heap.c is these for a firmware. On Linux and macOS, with gcc, clang or
- * tcc, a program needs none: the file then calls malloc. With another compiler UIP_MALLOC lets it do so.
+ * The memory: the program has the three functions `rattle_..` of uip.h; heap.c is these for a firmware. On Linux and macOS, with gcc or clang, a
+ * program needs none: the file then calls malloc. With another compiler UIP_MALLOC lets it do so.
  *
  * The file needs memcpy, memmove, memset, and what the compiler needs for numbers of 64 bits.
  *
