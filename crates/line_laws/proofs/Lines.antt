@@ -96,5 +96,5 @@ every_line_arrives w decodes m pages lawful made served numbers words own is pac
     let speaks : HasOutputModel m (at_every_port pages) = paged_everywhere m pages lawful in (
       every_line w decodes m (at_every_port pages) steady bytes speaks served numbers words own is pace items low,
       subst (λ (turns : List TraceEntry). ArrivesIn m pages turns) (sym (line_turns w decodes m (at_every_port pages) steady bytes speaks served numbers words own is pace items low))
-      (arrives_under_loss m pages lawful served own is numbers words (events_among (station_events_of_line w own pace items)) (events_of_line w decodes own pace items low)),
+          (arrives_under_loss m pages lawful served own is numbers words (events_among (station_events_of_line w own pace items)) (events_of_line w decodes own pace items low)),
     )

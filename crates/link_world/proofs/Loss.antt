@@ -41,7 +41,7 @@ rises : (numbers : List ℕ) (p : HistoryEntry) (history : List HistoryEntry) (n
 rises numbers p history n zero e = refl
 rises numbers p history n (suc k) e =
     let rest = rises numbers p history (n + 1) k e in
-    let iss : wrap (times (raises n) (p ∷ history)) ≡ (if list_any (λ j. j == n) numbers then wrap (wrap (times (raises n) history) + 1) else wrap (times (raises n) history)) =
+    let first : wrap (times (raises n) (p ∷ history)) ≡ (if list_any (λ j. j == n) numbers then wrap (wrap (times (raises n) history) + 1) else wrap (times (raises n) history)) =
     one_more (raises n p) (times (raises n) history) ∙ ap (λ (ns : List ℕ). if list_any (λ j. j == n) ns then wrap (wrap (times (raises n) history) + 1) else wrap (times (raises n) history)) e in
     cc
 

@@ -84,12 +84,12 @@ module _ (m : AppSpec) (served : ℕ → Bool) where
       ≡ Ok (under_way d (only_side c opened) (before ++ sent_by (FromClient 1) tick false id s ∷ []) (sent_by (FromNode 1) (ticks_of d.history) again number t))
   node_answers n d c opened before tick id number again s t room e =
       let side : Side = only_side c opened in
-      let iss : Sent = sent_by (FromClient 1) tick false id s in
-      let all : List Sent = before ++ iss ∷ [] in
+      let datagram : Sent = sent_by (FromClient 1) tick false id s in
+      let all : List Sent = before ++ datagram ∷ [] in
       let own : same_sockets (client_sockets side) (client_sockets side) ≡ true = same_self (client_sockets side) in
-      round_of_one n side before iss room
-      ∙ ap (λ (r : NodeStep). Ok (record (node_stepped (under_way n side before iss) r) { mark = length all })) e
-      ∙ ap (λ b. Ok (record (posts (record (under_way n side before iss) { node = d }) (FromNode (if b then 1 else 0)) again (OfSegment number t)) { mark = length all })) own
+      round_of_one n side before datagram room
+      ∙ ap (λ (r : NodeStep). Ok (record (node_stepped (under_way n side before datagram) r) { mark = length all })) e
+      ∙ ap (λ b. Ok (record (posts (record (under_way n side before datagram) { node = d }) (FromNode (if b then 1 else 0)) again (OfSegment number t)) { mark = length all })) own
 
   -- What a delivery to the client leaves, where it answers, and where it is silent.
   pub client_answers : (n : AbstractNode) (c d : AbstractClient) (opened : Option ℕ) (before : List Sent) (tick id : ℕ) (again : Bool) (s t : PlainSegment) → suc (length before) + 1 ≤ 65535 →
@@ -98,9 +98,9 @@ module _ (m : AppSpec) (served : ℕ → Bool) where
       ≡ Ok (under_way n (only_side d (if becomes_opened c.state d.state then Some 0 else opened)) (before ++ sent_by (FromNode 1) tick again id s ∷ []) (sent_by (FromClient 1) (ticks_of n.history) false 0 t))
   client_answers n c d opened before tick id again s t room e =
       let side : Side = only_side c opened in
-      let iss : Sent = sent_by (FromNode 1) tick again id s in
-      round_of_one n side before iss room
-      ∙ ap (λ (r : ClientStep). Ok (record (client_stepped (under_way n side before iss) 1 side r) { mark = length (before ++ iss ∷ []) })) e
+      let datagram : Sent = sent_by (FromNode 1) tick again id s in
+      round_of_one n side before datagram room
+      ∙ ap (λ (r : ClientStep). Ok (record (client_stepped (under_way n side before datagram) 1 side r) { mark = length (before ++ datagram ∷ []) })) e
 
   pub client_is_silent : (n : AbstractNode) (c d : AbstractClient) (opened : Option ℕ) (before : List Sent) (tick id : ℕ) (again : Bool) (s : PlainSegment) → suc (length before) + 1 ≤ 65535 →
       client_takes c s ≡ record { client = d; sent = None } →
@@ -108,6 +108,6 @@ module _ (m : AppSpec) (served : ℕ → Bool) where
       ≡ Ok (at_rest n (only_side d (if becomes_opened c.state d.state then Some 0 else opened)) (before ++ sent_by (FromNode 1) tick again id s ∷ []))
   client_is_silent n c d opened before tick id again s room e =
       let side : Side = only_side c opened in
-      let iss : Sent = sent_by (FromNode 1) tick again id s in
-      round_of_one n side before iss room
-      ∙ ap (λ (r : ClientStep). Ok (record (client_stepped (under_way n side before iss) 1 side r) { mark = length (before ++ iss ∷ []) })) e
+      let datagram : Sent = sent_by (FromNode 1) tick again id s in
+      round_of_one n side before datagram room
+      ∙ ap (λ (r : ClientStep). Ok (record (client_stepped (under_way n side before datagram) 1 side r) { mark = length (before ++ datagram ∷ []) })) e

@@ -1,5 +1,5 @@
 -- A cooperating peer of a node has its page, whatever other peers do and the link loses, repeats or reorders: the run.
-use Rattle.node_laws.proofs.Prelude.{All, All-cons, All-head, All-nil, option_map_or, ◌≡◌, ℕ, zero, suc, ◌+◌, ◌<◌, ◌≤◌, ◌==◌, Bool, true, false, not, ◌&&◌, ◌||◌, ◌⊎◌, inl, inr, List, [], ◌∷◌, ◌++◌, length, set, drop, refl, sym, ap, ◌∙◌, subst, arith, Option, Some, None, is_some, slice_get, eqb, ltb, length-append, if◌then◌else◌, eq-eqb, All-tail, wrap, Addr, SYN, PlainSegment, has_syn, has_fin, has_rst, has_ack, AppState, AppSpec, IsPrefixOf, Pages, SynRcvd, Now, Sockets, Connection, closed, is_live, same_sockets, rows_from, row_of, is_plain_syn, occupies_sequence_space, segment_of, bare_ack, fin_of, is_acked, reset_for_no_connection, reset_of, snd_una, syn_ack, text_segment, Outcome, leaves, Step, asked, accepted, first_mss, on_segment, on_tick, Event, Periodic, called_by, AbstractNode, NodeStep, snapshot, initial_node, step, serving, IsEvent, and_true, both_ways, choose, eqb-eq, ltb-zero, only_some, wrap_wrap, append_nothing, get_set_same, is_served, served, free, on_segment_fits, on_tick_fits, node_snapshot, Asker, Arrives, HasAcknowledged, IsWithoutReset, Moves, asked_moves, segment_moves, tick_moves, ReceivesStale, acknowledges_new, awaits_ack, expected_next, fresh, in_handshake, is_stale, retransmission_limit, retransmissions, sent_at, sent_next, with_fresh, text_received, bare_acks, receives_all, SendsSyn, SendsNext, calls_of, HasItsPage, Exchange, TraceEntry, exchange, exchanges_onto, exchanges_with}
+use Rattle.node_laws.proofs.Prelude.{All, All-cons, All-nil, option_map_or, ◌≡◌, ℕ, zero, suc, ◌+◌, ◌<◌, ◌≤◌, ◌==◌, Bool, true, false, not, ◌&&◌, ◌||◌, ◌⊎◌, inl, inr, List, [], ◌∷◌, ◌++◌, length, set, drop, refl, sym, ap, ◌∙◌, subst, arith, Option, Some, None, is_some, slice_get, eqb, ltb, length-append, if◌then◌else◌, eq-eqb, All-tail, wrap, Addr, SYN, PlainSegment, has_syn, has_fin, has_rst, has_ack, AppState, AppSpec, IsPrefixOf, Pages, SynRcvd, Sockets, Connection, closed, is_live, same_sockets, rows_from, row_of, is_plain_syn, occupies_sequence_space, segment_of, bare_ack, fin_of, is_acked, reset_for_no_connection, reset_of, snd_una, syn_ack, text_segment, Outcome, Step, asked, accepted, first_mss, on_segment, on_tick, Event, Periodic, called_by, AbstractNode, NodeStep, snapshot, step, serving, IsEvent, and_true, both_ways, choose, eqb-eq, ltb-zero, only_some, wrap_wrap, append_nothing, get_set_same, is_served, served, free, on_segment_fits, on_tick_fits, node_snapshot, Asker, Arrives, HasAcknowledged, IsWithoutReset, Moves, asked_moves, segment_moves, tick_moves, ReceivesStale, acknowledges_new, awaits_ack, expected_next, fresh, in_handshake, is_stale, retransmission_limit, retransmissions, sent_at, sent_next, with_fresh, text_received, bare_acks, receives_all, SendsSyn, SendsNext, calls_of, HasItsPage, Exchange, TraceEntry, exchange, exchanges_onto, exchanges_with}
 use Rattle.node_laws.proofs.GoodNodes.{Good, good_on}
 use Rattle.node_laws.proofs.HonestConnections.{conn_at, Counts, AtSyn, Stage, Snapshots, both_no, stage_quiet, answered, called, stage_serves, stage_stays, runs_out, keeps_in_time, discards, stage_at, syn_out, syn_stays}
 use Rattle.node_laws.proofs.HonestConnections.Stage.{at_syn}
@@ -53,7 +53,7 @@ GoesOn a [] = ⊥
 GoesOn a (x ∷ []) = SendsSyn a x
 GoesOn a (x ∷ y ∷ older) = Goes a x (fresh a (y ∷ older)) × GoesOn a (y ∷ older)
 
--- the exchanges before went on so too
+-- the same holds of the exchanges before
 pub goes_before : (a : Asker) (p : Sockets) (turns : List TraceEntry) (y : Exchange) (older : List Exchange) → GoesOn a (exchanges_onto p turns (y ∷ older)) → GoesOn a (y ∷ older)
 goes_before a p [] y older h = h
 goes_before a p (t ∷ turns) y older h = (goes_before a p turns _ (y ∷ older) h).1
@@ -690,7 +690,7 @@ module _ (m : AppSpec) (pages : Pages) (here : AppState → Bool) (serves_port :
       | arrived reported ↦ arrived reported
     ]
 
-    -- the handshake went on before
+    -- it was in the handshake before
     limit_before : (x y : Exchange) (older : List Exchange) → in_handshake (fresh a (x ∷ y ∷ older)) ≡ true → in_handshake (fresh a (y ∷ older)) ≡ true
     limit_before x y older h = by_kept (fresh a (y ∷ older)) h
       where

@@ -1,5 +1,5 @@
 -- A cooperating peer of a node has its page, whatever other peers do: with no loss, and with loss.
-use Rattle.node_laws.proofs.Prelude.{All, map, Bool, ◌≡◌, ℕ, ◌+◌, ◌<◌, ◌≤◌, ◌⊎◌, inl, inr, List, [], ◌∷◌, ◌++◌, refl, sym, ap, ◌∙◌, subst, arith, Option, Some, None, first_mss, AnswersPolled, AppSpec, AppState, Event, IsOfLine, trace_of, Arrives, AsksOverLoss, IsSteady, steady_of, IsPaged, IsU32, Pages, Addr, Sockets, AbstractNode, initial_node, Asker, ArrivesIn, ArrivesUnderLoss, IsLossy, IsOverLoss, fresh, with_fresh, text_received, bare_acks, SendsSyn, SendsNext, IsWaitedFor, IsHonest, HasItsPage, HonestPeer, Exchange, TraceEntry, exchange, exchanges_onto, exchanges_with}
+use Rattle.node_laws.proofs.Prelude.{All, map, Bool, ◌≡◌, ℕ, ◌+◌, ◌<◌, inl, inr, List, [], ◌∷◌, ◌++◌, refl, sym, ap, ◌∙◌, subst, arith, Option, first_mss, AnswersPolled, AppSpec, AppState, Event, IsOfLine, trace_of, Arrives, AsksOverLoss, IsSteady, steady_of, IsPaged, IsU32, Pages, Addr, Sockets, AbstractNode, initial_node, Asker, ArrivesIn, ArrivesUnderLoss, IsLossy, IsOverLoss, fresh, with_fresh, text_received, bare_acks, IsHonest, HonestPeer, Exchange, TraceEntry, exchange, exchanges_onto, exchanges_with}
 use Rattle.node_laws.proofs.Arriving.{Goes, GoesOn, from_before, goes_before, keeps_fresh, keeps_quiet}
 use Rattle.node_laws.proofs.Arriving.Goes.{brings_next, brings_stale, waits_for}
 use Rattle.node_laws.proofs.Arriving.InTime.{kept_on, tries_left}

@@ -1,5 +1,5 @@
 -- A peer on a link that loses and repeats, computed from the definitions alone: a lost SYN-ACK, and a lost text.
-use Rattle.node_laws.proofs.Prelude.{◌≡◌, ◌+◌, ℕ, false, List, [], ◌∷◌, map, is_some, length, refl, arith, Some, None, PlainSegment, has_rst, SYN, PSH, ACK, hello, idles, peer_closes, stays_established, in_established, fin_acked, fin_waits, on_segment, rests_on, ticks_established, Periodic, happened, opens_in, for_no_connection, only_some, Asker, IsLossy, fresh, retransmissions, text_received, bare_acks, receives_all, Exchange}
+use Rattle.node_laws.proofs.Prelude.{◌≡◌, ◌+◌, ℕ, List, [], ◌∷◌, length, refl, arith, Some, None, PlainSegment, SYN, ACK, hello, idles, peer_closes, stays_established, in_established, fin_acked, fin_waits, on_segment, rests_on, ticks_established, Periodic, happened, opens_in, for_no_connection, Asker, IsLossy, fresh, text_received, bare_acks, receives_all, Exchange}
 use Rattle.node_laws.specs.LossyPeers.IsOverLoss.{receives_next, receives_nothing, receives_stale}
 use Rattle.node_laws.proofs.Rows.{says, session_over, reported}
 

@@ -26,7 +26,7 @@ four_do_not h = elim h [
       | inl l ↦ (let w : q.0.window ≡ 3 = only_some (λ t. t.window ≡ 3) (narrow 1002 4 []) q.0 q.1 refl in omega (arith, l, w))
       | inr more ↦ elim more [
         | inl z ↦ absurd (let w : q.0.window ≡ 3 = only_some (λ t. t.window ≡ 3) (narrow 1002 4 []) q.0 q.1 refl in omega (arith, z, w))
-        | inr iss ↦ absurd (let z : false ≡ true = (iss.syn_alone 0 (segment 1 1002 (ACK + PSH) (104 ∷ 101 ∷ 108 ∷ [])) refl refl).0 in cc)
+        | inr first ↦ absurd (let z : false ≡ true = (first.syn_alone 0 (segment 1 1002 (ACK + PSH) (104 ∷ 101 ∷ 108 ∷ [])) refl refl).0 in cc)
       ]
     ]
   ]
