@@ -34,8 +34,8 @@ SECTIONS = (
     ("The page of the web server", ("web_pages.specs.Pages.pages_of",),
      "The pages of a site, for which `page_laws` and `pages_are_bytes` of `web_pages` prove the hypotheses of that theorem."),
     ("Arrival, retransmission and windows",
-     ("node_laws.specs.HonestPeers.HonestPeer", "node_laws.specs.Timers.RetransmitsOrResets", "node_laws.specs.Windows.WindowsAreRespected"),
-     "The laws are `honest_peer`, `retransmits_or_resets` and `windows_are_respected` of `node_laws`."),
+     ("node_laws.specs.LossyPeers.ArrivesUnderLoss", "node_laws.specs.Timers.RetransmitsOrResets", "node_laws.specs.Windows.WindowsAreRespected"),
+     "The laws are `arrives_under_loss`, `retransmits_or_resets` and `windows_are_respected` of `node_laws`."),
     ("Calls from C", ("uip_device.specs.Keeping.CallsConform", "frame_device.specs.FrameKeeping.FramesConform"),
      "The laws `calls_from_c_keep_the_promise` and `frames_from_c_keep_the_promise` of `uip_c` conclude these two of the calls on a"
      " handle: the first on a serial line and for datagrams, the second on Ethernet."),

@@ -40,6 +40,7 @@ COMMANDS = (
 LAWS = (
     "node_laws.specs.TraceConforms.EveryTraceOfPagesConforms", "node_laws.specs.TraceConforms.EveryTraceConforms",
     "node_laws.specs.TraceConforms.TraceConforms", "line_laws.specs.Lines.EveryLineConforms", "node_laws.specs.HonestPeers.HonestPeer",
+    "node_laws.specs.LossyPeers.ArrivesUnderLoss",
     "node_laws.specs.Timers.RetransmitsOrResets", "node_laws.specs.Windows.WindowsAreRespected", "uip_c.specs.HandleLaws.CallsFromCConform",
     "uip_c.specs.HandleLaws.FramesFromCConform", "link_replay.specs.Promises.KeepsPromises", "link_world.specs.Headline.DamageIsLoss",
     "link_world.specs.Honest.HonestLink", "desk_laws.specs.DeskWorlds.DeskServes", "httpd.specs.HttpdRepresents.HttpdRepresents",

@@ -36,7 +36,7 @@
  *              uip_connection(device, slot)                the state and the peer of a connection
  *
  *   Heap       UIP_MEMORY(files), UIP_MEMORY_ETHER(files)  the bytes that a device needs
- *              rattle_alloc, rattle_realloc, rattle_dealloc               you define: support/heap.c
+ *              rattle_alloc, rattle_realloc, rattle_dealloc               you define: heap.c
  *
  *   Sections   1 Rules   2 Statuses   3 Constants   4 Types   5 Open and close   6 Serial line
  *              7 Datagrams   8 Ethernet   9 Pages   10 State   11 Heap   12 Inline functions
@@ -137,8 +137,8 @@ typedef char uip_needs_unsigned_of_32_bits[sizeof(unsigned) == 4 ? 1 : -1];
  *                 library reads it only during a call: between calls the flash may be off, or be erased.
  *  7 INPUT        During a call everything else that you pass stays unchanged. After the call it is yours
  *                 again.
- *  8 LINK         The program defines the three functions of section 11, and memcpy, memmove and memset (of
- *                 a C library, for example). On 32 bits it links libgcc or compiler-rt. Header and library
+ *  8 LINK         The program has the three functions of section 11, and memcpy, memmove and memset (of a C
+ *                 library, for example). On 32 bits it links libgcc or compiler-rt. Header and library
  *                 are of one version. Do not compile with -fpcc-struct-return or -freg-struct-return.
  *  9 STACK        There is room for the stack of each call, below that of its caller: more than the 1 kB of
  *                 many start-up files. ports/README.md, "Figures", has the bytes for each call and target:
@@ -205,7 +205,7 @@ enum uip_status {
 enum uip_counter_id {
     UIP_DATAGRAMS_IN = 1,      /* reached IP, also if they were dropped later */
     UIP_DATAGRAMS_OUT = 2,
-    UIP_OVERLONG_FRAMES = 3,   /* SLIP frames of more than 1500 bytes, dropped; also those lost to a call that sent within them */
+    UIP_OVERLONG_FRAMES = 3,   /* SLIP frames of more than 1500 bytes, dropped; and those lost to a call that sent within them */
     /* 4 to 10: dropped by IP */
     UIP_IP_SHORT = 4,          /* shorter than a header */
     UIP_IP_VERSION = 5,        /* another version, or with options */
@@ -381,9 +381,9 @@ uip_result uip_feed(uip_device *device, const unsigned char *bytes, size_t len, 
 /* Runs the timers of one slot, 0 to 9, and may write the start of a frame. A tick is one call for each slot,
  * in any order; other calls may come between them. `out`, `room` and the status are as for uip_feed.
  *
- *   Result    `consumed` is 0. While `pending` is 1, send and call uip_drain. The device has one
- *             packet for both directions: if `written` is not 0 and a frame is partly fed, that
- *             frame is lost, as if by noise on the line, and counted as UIP_OVERLONG_FRAMES
+ *   Result    `consumed` is 0. While `pending` is 1, send and call uip_drain. The device has one packet for
+ *             both directions: if `written` is not 0 and a frame is partly fed, that frame is lost, as if by
+ *             noise on the line, and counted as UIP_OVERLONG_FRAMES; TCP sends its data again
  */
 uip_result uip_periodic(uip_device *device, size_t slot, unsigned char *out, size_t room);
 
@@ -554,8 +554,9 @@ uip_row uip_connection(uip_device *device, size_t slot);
 
 /* ---- 11 Heap -----------------------------------------------------------------------------------
  *
- * Your program defines these three functions. Take support/heap.c, which has them over one array, or write
- * them. Opening allocates six blocks, and uip_close frees them. No other call allocates (tested, not proved).
+ * Your program defines these three functions. Take heap.c (in support/ and dist/), which has them over one
+ * array, or write them. On Linux and macOS, or compiled with UIP_MALLOC, uip.c defines them itself, over malloc.
+ * Opening allocates six blocks, and uip_close frees them. No other call allocates (tested, not proved).
  *
  *   rattle_alloc      returns a block of `len` bytes (of `align` bytes if `len` is 0), at a multiple of
  *                     `align`, which is 1, 2, 4 or 8. `ok` is 1, and `block` its address. If there is no
