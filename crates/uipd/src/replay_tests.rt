@@ -59,13 +59,6 @@ const HONEST: &[u8] =
     b"client 10.0.0.2 1025 0 536 get /\nopen 1\nround\nround\nround\nround\nround\nround\nround\nround\n\
     round\nround\nround\nround\nround\nround\nround\nround\n";
 
-// Four copies of the answer to the SYN are lost in a row, and seven of the page and of the FIN: 28, 151 and 151 ticks.
-const LOST_COPIES: &[u8] =
-    b"client 10.0.0.2 1025 0 536 get /\nopen 1\nround\nlose\ntick 4\nlose\ntick 4\nlose\ntick 7\n\
-    lose\ntick 13\nround\nround\nlose\ntick 4\nlose\ntick 4\nlose\ntick 7\nlose\ntick 13\nlose\n\
-    tick 25\nlose\ntick 49\nlose\ntick 49\nround\nround\nlose\ntick 4\nlose\ntick 4\nlose\ntick 7\n\
-    lose\ntick 13\nlose\ntick 25\nlose\ntick 49\nlose\ntick 49\nround\nround\n";
-
 // The client closes first.
 const CLIENT_FIRST: &[u8] =
     b"client 10.0.0.2 1025 0 536 get /\nopen 1\nround\nround\nround\nround\nclose 1\ngive 6\ngive 7\ngive 8\n\
@@ -143,11 +136,6 @@ fn replays_a_page(rt: HostRuntime) -> Result<(), Fail> {
             IMAGE,
             LOST_SYN_ACKS,
             b"client 1 closed 86 clean\nticks 102 datagrams 16\n",
-        ),
-        replaying(
-            IMAGE,
-            LOST_COPIES,
-            b"client 1 closed 86 clean\nticks 330 datagrams 26\n",
         ),
         replaying(
             IMAGE,
