@@ -405,7 +405,7 @@ for (const browser of browsers)
       await tab.run(`node.visit("/lamp-on.html")`);
       await tab.until(`document.getElementById("target").value === "/lamp-on.html"`);
       await tab.until(`document.getElementById("target").value === "/"`);   // as its page asks for, after a second
-      await tab.until(`document.querySelector('.value input[aria-label^="lamp"]').value === "on"`);
+      await tab.until(`document.querySelector('.value [type=text][aria-label^="lamp"]').value === "on"`);
       assert.deepEqual(await tab.run(`return performance.getEntriesByType("resource").map(it => it.name).filter(it => /^(http|ftp)/.test(it))`), []);
     });
   });
