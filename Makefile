@@ -16,7 +16,7 @@ help:
 	@echo "Without the Rattle kit, with a C compiler and Python 3:"
 	@echo "  make run [SITE=FOLDER] [PORT=8080]   serves the pages of a folder to a browser; some 5 seconds"
 	@echo "  make run-tun [SITE=FOLDER]           the same over Linux's own TCP, at http://10.0.0.1/; needs root"
-	@echo "  make test                            the tests that need no kit; some 5 minutes"
+	@echo "  make test                            the tests that need no kit; some minutes"
 	@echo "  make install [PREFIX=/usr/local] [DESTDIR=ROOT]   the C library with its headers and manual pages"
 	@echo "  make deb, arduino, platformio, reference          packages of it, and its reference as HTML, into out/"
 	@echo "With the kit (its command rt on the path):"
@@ -73,7 +73,7 @@ test:
 		sh .ci/run; status=$$?; \
 		if [ $$status = 0 ]; then echo "make test: the gate passed"; else echo "make test: the gate FAILED with status $$status"; fi; exit $$status; \
 	else \
-		echo "The kit is not here (no command rt on the path), so nothing is proved. What needs no kit is tested: some 5 minutes."; \
+		echo "The kit is not here (no command rt on the path), so nothing is proved. What needs no kit is tested, in some minutes."; \
 		sh dev/tests.sh; \
 	fi
 

@@ -2,14 +2,14 @@
 # Tries Linux's own SLIP (slip.ko, slattach) against the firmware of a board: Debian's kernel and the board, each under qemu, joined by a serial
 # line. Linux pings the board, and fetches every file of the site, with an MTU of 1006 and of 296.
 #
-#     sh boards/slip.sh [BOARD]         BOARD is microbit if none is given
+#     sh boards/slip.sh [BOARD]         BOARD is lm3s6965evb if none is given
 #
 # Needs qemu-system-x86_64, the qemu of the board, slattach (net-tools) and what the Makefile needs. It downloads the packages of the kernel and of
 # busybox by `apt-get download` into boards/out/slip, and installs none. X86 names another qemu-system-x86_64, and LIMIT the seconds for
 # each boot (300).
 case "$1" in -h|--help) sed -n '2,10s/^# \{0,1\}//p' "$0"; exit 0;; esac
 here=$(cd "$(dirname "$0")" && pwd)
-board=${1:-microbit}
+board=${1:-lm3s6965evb}
 out=$here/out/slip
 site=$here/../examples/site
 x86=${X86:-qemu-system-x86_64}

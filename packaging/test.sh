@@ -84,7 +84,7 @@ calls() {
             grep -q "\b$call(" "$room/root/usr/include/${pair#*:}" "$room/root/usr/include/uip.h" || { echo "$call is not in ${pair#*:}"; return 1; }
         done
     done
-    nm "$room/root/usr/lib/libuip_app_c.a" | grep -q ' T uip_app_open' && nm "$room/root/usr/lib/libuip_both_c.a" | grep -q ' T uip_both_open'
+    nm "$room/root/usr/lib/libuip_app_c.a" | grep -q ' T uip_app_open$' && nm "$room/root/usr/lib/libuip_both_c.a" | grep -q ' T uip_listen$'
 }
 packs() {
     "$room/root/usr/bin/uip-pack" examples/site "$room/site.img" && "$room/root/usr/bin/uip-pack" check "$room/site.img" | grep -q '^files 6$'

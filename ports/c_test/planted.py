@@ -45,7 +45,7 @@ FAULTS = [    # the fault, the file in to_c/, its text, and the text that replac
     ("a load of 64 bits is below 2^32", "narrow.py", "        return FULL\n\n    @staticmethod\n    def of_binary", "        return SIZE\n\n    @staticmethod\n    def of_binary"),
     ("a shift to the right needs no upper half", "narrow.py", 'MODULAR = ("add",', 'MODULAR = ("lshr", "add",'),
     ("a comparison needs no upper half", "narrow.py", 'if it.form == "offset" or', 'if it.form in ("offset", "compare") or'),
-    ("slots that are in use at once share memory", "slots.py", "if not self.conflicts[name] & set(group):", "if True:"),
+    ("slots that are in use at once share memory", "slots.py", "if not any(conflicts[name] & self.bit[other] for other in group):", "if True:"),
     ("an address has the alignment of its best choice", "alignment.py", "modulus = min(one[0], other[0])", "modulus = max(one[0], other[0])\n    return modulus, 0"),
     ("an offset does not change an alignment", "alignment.py", "return fact and (fact[0], (fact[1] + by) % fact[0])", "return fact"),
     ("a big-endian processor keeps its order", "head.c", "__builtin_bswap##bits(n)", "(n)"),

@@ -96,7 +96,7 @@ class Arithmetic(Memory):
         new = c_type(it.new)
         require(not is_odd(it.kind) and not is_odd(it.new), "a signed number of odd width")
         if it.kind == "i1":
-            self.give(it, it.new, Text(f"({new})(0u - {text.operand()})", False, text.reads, is_unary=True))
+            self.give(it, it.new, Text(f"({new})(({new})0 - {text.operand()})", False, text.reads, is_unary=True))
             return
         half, wide = number(2**(bits(it.kind) - 1), bits(it.new)), text.cast(new)
         self.give(it, it.new, Text(f"({new})(({wide.text} ^ {half}) - {half})", False, text.reads, is_unary=True))

@@ -224,6 +224,7 @@ inEach("the device's address", {}, async tab => {
 inEach("values are sliders and fields, hits are lamps, the last query and the slots are shown", {}, async tab => {
   await openState(tab);
   await tab.until(shows("The device"));
+  await tab.run(`document.querySelector("#panel details").open = true`);   // it is closed if the window is low
   assert.deepEqual(await tab.run(`return [...document.querySelectorAll(".value span")].map(it => it.innerText)`), [0, 1, 2, 3, 4, 5, 6].map(n => `value ${n}`));
   await tab.run(`
     const set = (n, type, value) => { const it = document.querySelectorAll(".value")[n].querySelector("[type=" + type + "]"); if (it.hidden) throw new Error("hidden"); it.value = value; it.dispatchEvent(new Event("input")); };
@@ -404,7 +405,7 @@ for (const browser of browsers)
       await tab.run(`node.visit("/lamp-on.html")`);
       await tab.until(`document.getElementById("target").value === "/lamp-on.html"`);
       await tab.until(`document.getElementById("target").value === "/"`);   // as its page asks for, after a second
-      await tab.until(`document.querySelector('.value input[aria-label^="lamp"]').value === "on"`);
+      await tab.until(`document.querySelector('.value [type=text][aria-label^="lamp"]').value === "on"`);
       assert.deepEqual(await tab.run(`return performance.getEntriesByType("resource").map(it => it.name).filter(it => /^(http|ftp)/.test(it))`), []);
     });
   });
