@@ -14,8 +14,8 @@
  *   uip_app_close(device)                                    frees its memory
  *   UIP_APP_MEMORY                                           the bytes of heap that a device needs
  *
- *   Library     libuip_app_c.a. It has the calls of this header, and none of uip.h. A program links one
- *               library of Lowunbisa.
+ *   Library     libuip_app_c.a, or uip.c compiled with UIP_APP. It has the calls of this header, and none of
+ *               uip.h. A program links one library of Lowunbisa.
  *   Programs    examples/firmware/lines.c answers lines; examples/linux-app/ is a console and Modbus/TCP for
  *               Linux, and examples/board/app.c a firmware for qemu.
  *   Proved      Of the source, if you keep the rules: memory safety, and that each call writes exactly the

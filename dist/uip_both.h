@@ -10,7 +10,7 @@
  *   uip_write(device, slot, taken, text, len, last, frame, room)      answers it by one message
  *   UIP_BOTH_MEMORY(files)                         the bytes of heap that a device needs
  *
- *   Library     libuip_both_c.a, in the place of libuip_c.a. It has these calls of uip.h: uip_open_ether,
+ *   Library     libuip_both_c.a, or uip.c with UIP_BOTH. It has these calls of uip.h: uip_open_ether,
  *               uip_input_frame, uip_periodic_frame, uip_tick_frames, uip_set_value, uip_hits, uip_query, uip_ticks,
  *               uip_is_idle, uip_needs_ticks, uip_counter, uip_connection and uip_close. It has no call for a serial
  *               line or for datagrams, and none of uip_app.h.

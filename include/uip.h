@@ -36,7 +36,7 @@
  *              uip_connection(device, slot)                the state and the peer of a connection
  *
  *   Heap       UIP_MEMORY(files), UIP_MEMORY_ETHER(files)  the bytes that a device needs
- *              rattle_alloc, rattle_realloc, rattle_dealloc               you define: support/heap.c
+ *              rattle_alloc, rattle_realloc, rattle_dealloc               you define: heap.c
  *
  *   Sections   1 Rules   2 Statuses   3 Constants   4 Types   5 Open and close   6 Serial line
  *              7 Datagrams   8 Ethernet   9 Pages   10 State   11 Heap   12 Inline functions
@@ -137,8 +137,8 @@ typedef char uip_needs_unsigned_of_32_bits[sizeof(unsigned) == 4 ? 1 : -1];
  *                 library reads it only during a call: between calls the flash may be off, or be erased.
  *  7 INPUT        During a call everything else that you pass stays unchanged. After the call it is yours
  *                 again.
- *  8 LINK         The program defines the three functions of section 11, and memcpy, memmove and memset (of
- *                 a C library, for example). On 32 bits it links libgcc or compiler-rt. Header and library
+ *  8 LINK         The program has the three functions of section 11, and memcpy, memmove and memset (of a C
+ *                 library, for example). On 32 bits it links libgcc or compiler-rt. Header and library
  *                 are of one version. Do not compile with -fpcc-struct-return or -freg-struct-return.
  *  9 STACK        There is room for the stack of each call, below that of its caller: more than the 1 kB of
  *                 many start-up files. ports/README.md, "Figures", has the bytes for each call and target:
@@ -552,8 +552,9 @@ uip_row uip_connection(uip_device *device, size_t slot);
 
 /* ---- 11 Heap -----------------------------------------------------------------------------------
  *
- * Your program defines these three functions. Take support/heap.c, which has them over one array, or write
- * them. Opening allocates six blocks, and uip_close frees them. No other call allocates (tested, not proved).
+ * Your program defines these three functions. Take heap.c (in support/ and dist/), which has them over one
+ * array, or write them. On Linux and macOS, or compiled with UIP_MALLOC, uip.c defines them itself, over malloc.
+ * Opening allocates six blocks, and uip_close frees them. No other call allocates (tested, not proved).
  *
  *   rattle_alloc      returns a block of `len` bytes (of `align` bytes if `len` is 0), at a multiple of
  *                     `align`, which is 1, 2, 4 or 8. `ok` is 1, and `block` its address. If there is no
