@@ -26,7 +26,9 @@ define i64 @uip_x(ptr %p, i64 %n) {
   %more = call i8 @llvm.uadd.sat.i8(i8 %x, i8 %y)
   %d = zext i8 %less to i64
   %e = zext i8 %more to i64
-  %shifted = lshr i64 %all, 37
+  %r = getelementptr i8, ptr %p, i64 8
+  %again = load i64, ptr %r, align 8
+  %shifted = lshr i64 %again, 37
   %index = and i64 %shifted, 31
   %at = getelementptr i8, ptr %p, i64 %index
   %byte = load i8, ptr %at, align 1
