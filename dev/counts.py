@@ -7,8 +7,8 @@ import re
 
 from repository import read, tracked
 
-MOST_IMPORTS = 9.0          # of 100 lines
-MOST_LONG_CLAUSES = 36
+MOST_IMPORTS = 9.1          # of 100 lines
+MOST_LONG_CLAUSES = 38
 LONG = 200                  # characters of a clause
 IMPORT = re.compile(r"(?:unfoldable )?(?:pub(?:\(\w+\))? )?(?:unfoldable )?use ")
 CLAUSE = re.compile(r"\b(?:requires|ensures)\b\s*(\w*)\*?\s*\{")
