@@ -116,9 +116,9 @@ export function labelOf(row) {
   if (isEcho(row)) return { what: PING[flags] ?? flags, numbers: "" };
   if (flags === "A" && !len) return { what: ack === undefined ? "ACK" : `ACK ${ack}`, numbers: "" };
   const bytes = `bytes ${seq} to ${seq + len - 1}`, end = flags.includes("F") ? "FIN" : "";
-  const numbers = [len ? bytes : "", end && !len ? `seq ${seq}` : "", acked];
+  const numbers = [len && carries ? bytes : "", end && !len ? `seq ${seq}` : "", acked];
   const what = !len ? names.replace(/^ACK (?=FIN)/, "") : [carries || bytes, end].filter(Boolean).join(" + ");
-  return { what, numbers: numbers.filter(it => it && it !== what).join(", ") };
+  return { what, numbers: numbers.filter(Boolean).join(", ") };
 }
 
 // A row's last column in a report: whether it is a retransmission, and which faults hit it.
