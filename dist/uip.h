@@ -208,7 +208,7 @@ enum uip_status {
 enum uip_counter_id {
     UIP_DATAGRAMS_IN = 1,      /* reached IP, also if they were dropped later */
     UIP_DATAGRAMS_OUT = 2,
-    UIP_OVERLONG_FRAMES = 3,   /* SLIP frames of more than 1500 bytes, dropped */
+    UIP_OVERLONG_FRAMES = 3,   /* SLIP frames of more than 1500 bytes, dropped; and those lost to a call that sent within them */
     /* 4 to 10: dropped by IP */
     UIP_IP_SHORT = 4,          /* shorter than a header */
     UIP_IP_VERSION = 5,        /* another version, or with options */
@@ -384,7 +384,9 @@ uip_result uip_feed(uip_device *device, const unsigned char *bytes, size_t len, 
 /* Runs the timers of one slot, 0 to 9, and may write the start of a frame. A tick is one call for each slot,
  * in any order; other calls may come between them. `out`, `room` and the status are as for uip_feed.
  *
- *   Result    `consumed` is 0. While `pending` is 1, send and call uip_drain
+ *   Result    `consumed` is 0. While `pending` is 1, send and call uip_drain. The device has one packet for
+ *             both directions: if `written` is not 0 and a frame is partly fed, that frame is lost, as if by
+ *             noise on the line, and counted as UIP_OVERLONG_FRAMES; TCP sends its data again
  */
 uip_result uip_periodic(uip_device *device, size_t slot, unsigned char *out, size_t room);
 
@@ -579,8 +581,8 @@ void rattle_dealloc(void *block);
  */
 #define UIP_ROUNDED(len) (((size_t)(len) + 15) / 16 * 16)
 #define UIP_MEMORY(files) \
-    (UIP_ROUNDED(28 * (size_t)(files)) + UIP_ROUNDED(2 * (size_t)(files)) + UIP_ROUNDED(4 * (size_t)(files)) + 5504)
-#define UIP_MEMORY_ETHER(files) (UIP_MEMORY(files) - 1424)
+    (UIP_ROUNDED(28 * (size_t)(files)) + UIP_ROUNDED(2 * (size_t)(files)) + UIP_ROUNDED(4 * (size_t)(files)) + 4000)
+#define UIP_MEMORY_ETHER(files) (UIP_MEMORY(files) + 80)
 
 /* ---- 12 Inline functions ----------------------------------------------------------------------- */
 

@@ -578,8 +578,8 @@ void rattle_dealloc(void *block);
  */
 #define UIP_ROUNDED(len) (((size_t)(len) + 15) / 16 * 16)
 #define UIP_MEMORY(files) \
-    (UIP_ROUNDED(28 * (size_t)(files)) + UIP_ROUNDED(2 * (size_t)(files)) + UIP_ROUNDED(4 * (size_t)(files)) + 5504)
-#define UIP_MEMORY_ETHER(files) (UIP_MEMORY(files) - 1424)
+    (UIP_ROUNDED(28 * (size_t)(files)) + UIP_ROUNDED(2 * (size_t)(files)) + UIP_ROUNDED(4 * (size_t)(files)) + 4000)
+#define UIP_MEMORY_ETHER(files) (UIP_MEMORY(files) + 80)
 
 /* ---- 12 Inline functions ----------------------------------------------------------------------- */
 

@@ -144,7 +144,7 @@ END
 
 reference() { sh packaging/reference.sh "$room/reference" && grep -q 'uip_set_value' "$room"/reference/html/group__section*.html; }
 fuzzes() {
-    clang -O1 -fsanitize=fuzzer,address fuzz/libfuzzer.c dist/uip.c -o "$room/libfuzzer" || return 1
+    clang -O1 -fsanitize=fuzzer,address fuzz/libfuzzer/entry.c dist/uip.c -o "$room/libfuzzer" || return 1
     (cd "$room" && ./libfuzzer -max_len=2048 -len_control=10 -max_total_time="${FUZZ_SECONDS:-10}" -print_final_stats=1)
 }
 # The program of README compiles, and links with the C file.

@@ -1,6 +1,6 @@
 // An entry for libFuzzer, over the C file: a device on a serial line, with datagrams or on Ethernet, by the first byte of the input.
 //
-//     clang -g -O1 -fsanitize=fuzzer,address,undefined fuzz/libfuzzer.c dist/uip.c -o out/libfuzzer
+//     clang -g -O1 -fsanitize=fuzzer,address,undefined fuzz/libfuzzer/entry.c dist/uip.c -o out/libfuzzer
 //     out/libfuzzer -max_len=2048 -len_control=10 out/corpus
 //
 // The rest of the input is a row of pieces: two bytes with a length, and that number of bytes. A piece without bytes is a tick. Else, if
@@ -9,11 +9,11 @@
 #include <stdint.h>
 #include <stdlib.h>
 #include <string.h>
-#include "../dist/uip.h"
+#include "../../dist/uip.h"
 #ifndef UIP_HEAP_SIZE
 #define UIP_HEAP_SIZE UIP_MEMORY(2)
 #endif
-#include "../dist/heap.c"
+#include "../../dist/heap.c"
 
 // A site of /index.html and of a script: docs/FORMATS.md.
 static const unsigned char image[] = "UIPSITE1\0\2"
