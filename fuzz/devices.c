@@ -103,6 +103,16 @@ static void hear_one(const byte *datagram, size_t len) {
     take_sent(datagram, len, room, sent.len);
 }
 
+// Whether a frame is partly fed: a serial device has it in its packet.
+static int has_open_frame(void) {
+    return line.len > 0;
+}
+
+// A call that sends, or that takes or sends datagrams, loses the frame that is partly fed. It is dropped as one that is too long.
+static void lose_open_frame(void) {
+    if (has_open_frame()) line.is_over = 1;
+}
+
 static unsigned hear_frames(const byte *bytes, size_t len) {
     unsigned events = 0;
     for (size_t at = 0; at < len; at++) {
@@ -196,7 +206,7 @@ void devices_hear(const byte *bytes, size_t len) {
 void devices_hear_datagram(const byte *datagram, size_t len) {
     static byte room[LARGEST];
     byte frame[2 * LARGEST + 2];
-    if (!how.is_mixed || chance(70)) {
+    if (!how.is_mixed || has_open_frame() || chance(70)) {
         devices_hear(frame, write_frame(frame, datagram, len));
         return;
     }
@@ -222,6 +232,7 @@ static void speaks(unsigned slot, const byte *datagram, size_t len) {
 void devices_tick(unsigned slot) {
     static byte room[LARGEST], sent_room[LARGEST];
     text sent = {room, 0}, one = {sent_room, 0};
+    if (has_open_frame() && !how.may_be_overlong) return;      // a lost frame would be counted in the pages of one device alone
     int was_idle = chance(5) && call_idle(&under_test);
     is_last = 1;
     counted.ticks += slot == 0;
@@ -229,7 +240,8 @@ void devices_tick(unsigned slot) {
     frames_tick(slot, sent_room, one.len);
     take_sent(0, 0, sent_room, one.len);
     WANT(!was_idle || one.len == 0, "an idle device sent a datagram for a tick");
-    if (how.is_mixed && chance(30)) {
+    if (one.len) lose_open_frame();
+    if (how.is_mixed && !has_open_frame() && chance(30)) {
         call_slot_datagram(&under_test, slot, &sent);
         said.len += sent.len ? write_frame(said.bytes + said.len, room, sent.len) : 0;
     } else {
