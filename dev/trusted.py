@@ -179,6 +179,10 @@ def cited_elsewhere():
     return cited
 
 
+# Names that two crates define: the same relation at two levels, or words of the guard's crates and of arrival that wait for their own.
+KNOWN_NAMESAKES = {"Refines", "sent_at", "fresh", "is_of", "on_wire", "passes"}
+
+
 def namesakes(sources):
     """The names that two crates define, of which one is cited from another crate, with the files that define them. Operators, which go by
     the type of what they are between, are left out."""
@@ -188,7 +192,7 @@ def namesakes(sources):
             places[definition.name][definition.module.split(".")[0]] = definition.path
     cited = cited_elsewhere()
     twice = {name: found for name, found in places.items() if len(found) > 1 and any((crate, name) in cited for crate in found)}
-    return [f"{name}: " + ", ".join(sorted(found.values())) for name, found in sorted(twice.items())]
+    return [f"{name}: " + ", ".join(sorted(found.values())) for name, found in sorted(twice.items()) if name not in KNOWN_NAMESAKES]
 
 
 # ---- the commands
