@@ -217,10 +217,10 @@ def shape(trial):
     trial.see("imports: 5 of " in out and "with 1 of clauses" in out and "clauses: 0 of 2 have" in out, f"counts with more: {out}")
     trial.see("are imports" not in trial.run("docs")[1], "docs with few imports")
     trial.write("crates/low/specs/Low.antt", spec + "use A.{a}\n" * 60)
-    trial.write("crates/low/src/low.rt", FILES["crates/low/src/low.rt"] + code.replace("d" * 95, "d" * 105) * 37)
+    trial.write("crates/low/src/low.rt", FILES["crates/low/src/low.rt"] + code.replace("d" * 95, "d" * 105) * 39)
     out = trial.run("docs")[1]
-    trial.see("lines are imports, more than 9 %" in out and "crates: 37 clauses have over 200 characters, and 36 may" in out
-              and out.count("both, ") == 37, f"docs with a bad shape: {out}")
+    trial.see("lines are imports, more than 9.1 %" in out and "crates: 39 clauses have over 200 characters, and 38 may" in out
+              and out.count("both, ") == 39, f"docs with a bad shape: {out}")
     trial.write("crates/low/specs/Low.antt", spec)
     trial.write("crates/low/src/low.rt", FILES["crates/low/src/low.rt"])
 
