@@ -1,16 +1,20 @@
 -- What each peer reads.
-use Rattle.node_laws.proofs.Prelude.{All, option_map, ◌≡◌, ℕ, ◌<◌, Bool, true, false, ◌&&◌, inr, List, [], ◌∷◌, position, replicate, refl, sym, ap, ◌∙◌, subst, arith, Option, Some, None, if◌then◌else◌, All-head, All-tail, Addr, IsReadBack, head_of, PlainSegment, Datagram, datagram_bytes, has_rst, AppSpec, IsAddr, IsByte, IsU32, Sockets, Connection, closed, is_live, serves, same_sockets, is_again, is_plain_syn, reset_for_no_connection, segment_of, Outcome, asked, accepted, on_segment, on_tick, Step, by_head, by_segment, datagram_to, Event, Reply, HistoryEntry, IpRefused, IcmpRefused, TcpRefused, EchoAsked, Arrived, Overlong, Periodic, TcpReply, ident_of, serving, IsSteady, SendsBytes, DeliveredBytes, asked_bytes, on_segment_bytes, on_tick_bytes, both_ways, choose, only_some, wrap_low, FitConn, FitOut, all_nil, all_cons, asked_fits, on_segment_fits, on_tick_fits, FitNode, closed_fits, event_fits, none_serves, all_closed, Single, serving_free, same_is, same_self, closed_lens, Lens, accepted_lens, asked_lens, on_segment_lens, on_tick_lens, IsSoundSegment, sent_sound, IsPlace, datagram_back, datagram_short, Exchange, received_from, exchange, sent_to, IsOfLine, IsDecoded, IsDecodedAt, seen_from_peer}
+use Rattle.node_laws.proofs.Prelude.{All, option_map, ◌≡◌, ℕ, ◌<◌, Bool, true, false, ◌&&◌, inr, List, [], ◌∷◌, position, replicate, refl, sym, ap, ◌∙◌, subst, arith, Option, Some, None, if◌then◌else◌, All-head, All-tail, Addr, IsReadBack, head_of, PlainSegment, Datagram, datagram_bytes, has_rst, AppSpec, IsAddr, IsByte, IsU32, Sockets, Connection, closed, is_live, serves, same_sockets, is_again, is_plain_syn, reset_for_no_connection, segment_of, Outcome, asked, accepted, on_segment, on_tick, Step, by_head, by_segment, datagram_to, Event, Reply, HistoryEntry, IpRefused, IcmpRefused, TcpRefused, EchoAsked, Arrived, Overlong, Periodic, TcpReply, ident_of, serving, IsSteady, SendsBytes, DeliveredBytes, asked_bytes, on_segment_bytes, on_tick_bytes, both_ways, choose, only_some, wrap_low, FitConn, FitOut, all_nil, all_cons, asked_fits, on_segment_fits, on_tick_fits, FitNode, closed_fits, event_fits, none_serves, all_closed, Single, serving_free, serving_is, same_is, same_self, closed_lens, Lens, accepted_lens, asked_lens, on_segment_lens, on_tick_lens, IsSoundSegment, sent_sound, IsPlace, datagram_back, datagram_short, Exchange, received_from, exchange, sent_to, IsOfLine, IsDecoded, IsDecodedAt, seen_from_peer}
 use Rattle.uip_node.specs.Node.{AbstractNode, NodeStep, arrives_at, for_no_connection, happened, initial_node, opens as opens_at, opens_in, refuses, slot_for_syn, step}
 use Rattle.node_laws.proofs.Lines.{OfMedium, Comes, comes, left_of}
 use Rattle.node_laws.proofs.Lines.OfMedium.{passes_by, evicted, unanswered, refused, born, delivers_text, ticks}
 use Rattle.node_laws.proofs.Steps.{LineStep, OfNode, Changes, IsStep, changed, trace_over}
 use Rattle.node_laws.proofs.Wire.{IsWire, line_wire, wire_event}
+use Rattle.node_laws.specs.Wire.IsOfLine.{of_bytes}
+use Rattle.std.specs.Prelude.{slice_get}
+use Rattle.uip_node.proofs.DatagramsBack.{bytes_low}
+use Rattle.uip_node.specs.Edge.{reply_bytes}
 
 -- sockets whose numbers fit their types
-record Fits (p : Sockets) : Type 0 where
-  addr : IsAddr p.peer
-  peer_port : p.peer_port.0 < 65536
-  own_port : p.own_port.0 < 65536
+pub record Fits (p : Sockets) : Type 0 where
+  pub addr : IsAddr p.peer
+  pub peer_port : p.peer_port.0 < 65536
+  pub own_port : p.own_port.0 < 65536
 
 -- what was received from a peer shows that its sockets fit
 record MediumInput (p : Sockets) (s : PlainSegment) : Type 0 where
@@ -77,12 +81,35 @@ module _ (m : AppSpec) (served : ℕ → Bool) where
   step_low n (TcpRefused fate) p id again t e = absurd (cc)
   step_low n Overlong p id again t e = absurd (cc)
 
+-- ---- its bytes
+
+place_of_reply : (own : Addr) (p : Sockets) (id : ℕ) (s : PlainSegment) → IsAddr own → Fits p → id < 65536 → IsPlace (datagram_to own p id s)
+place_of_reply own p id s a f l = record { source = a.four; target = f.addr.four; source_bytes = a.all_bytes; target_bytes = f.addr.all_bytes; from = f.own_port; to = f.peer_port; id = l }
+
+read_there : (own : Addr) (p : Sockets) (id : ℕ) (again : Bool) (s : PlainSegment) → IsAddr own → Fits p → id < 65536 → IsSoundSegment s → IsDecodedAt own p id again s
+read_there own p id again s a f l h =
+    let d : Datagram = datagram_to own p id s in
+    let place : IsPlace d = place_of_reply own p id s a f l in
+    let b : IsReadBack d = datagram_back d place h in
+    record {
+      read = ap (by_head (datagram_bytes d)) b.head ∙ ap (by_segment (head_of d) (datagram_bytes d)) b.fields ∙ ap (λ x. Arrived (seen_from_peer own p) x) b.segment;
+      size = datagram_short d place h;
+    }
+
+-- Every sound segment to the own address can come on a line.
+pub comes_on_line : (own : Addr) (p : Sockets) (s : PlainSegment) → IsAddr own → Fits p → IsSoundSegment s → IsOfLine own (Arrived p s)
+comes_on_line own p s a f h =
+    let there : Sockets = seen_from_peer own p in
+    let fits : Fits there = record { addr = a; peer_port = f.own_port; own_port = f.peer_port } in
+    let is : IsDecodedAt p.peer there 0 false s = read_there p.peer there 0 false s f.addr fits (omega arith) h in
+    of_bytes (reply_bytes p.peer (TcpReply there 0 false s)) (bytes_low (datagram_to p.peer there 0 s) (place_of_reply p.peer there 0 s f.addr fits (omega arith)) h) (sym is.read)
+
 -- ---- what is sent is sound
 
-record SoundConn (p : Sockets) (c : Connection) : Type 0 where
-  fits : Fits p
-  lens : Lens c
-  input : DeliveredBytes c
+pub record SoundConn (p : Sockets) (c : Connection) : Type 0 where
+  pub fits : Fits p
+  pub lens : Lens c
+  pub input : DeliveredBytes c
 
 record SoundOutput (p : Sockets) (s : PlainSegment) : Type 0 where
   fits : Fits p
@@ -137,25 +164,31 @@ module _ (m : AppSpec) (steady : IsSteady m) (bytes : SendsBytes m) where
             step_does p d x (asked m at o) (h alive).fits (asked_fits m steady at is o fo).conn (asked_lens m at o (on_tick_lens m c numbers (h alive).lens)) (asked_bytes m bytes at o (on_tick_bytes m bytes c numbers (h alive).input)) (ap (λ y. y.output) q.0) q.1)
       ]
 
-  record SoundAll (n : AbstractNode) : Type 0 where
-    single : Single n.connections
-    fit : FitNode n
-    each : (p : Sockets) → is_live (serving p n.connections).state ≡ true → SoundConn p (serving p n.connections)
+  pub record SoundAll (n : AbstractNode) : Type 0 where
+    pub single : Single n.connections
+    pub fit : FitNode n
+    pub each : (p : Sockets) → is_live (serving p n.connections).state ≡ true → SoundConn p (serving p n.connections)
 
-  -- ---- its bytes
+  -- its numbers are changed
+  pub changed_sound : (n : AbstractNode) (change : List ℕ → List ℕ) → All IsU32 (change n.numbers) → SoundAll n → SoundAll (changed change n)
+  changed_sound n change words g = record { single = g.single; fit = record { size = g.fit.size; conns = g.fit.conns; numbers = words }; each = g.each }
 
-  read_there : (own : Addr) (p : Sockets) (id : ℕ) (again : Bool) (s : PlainSegment) → IsAddr own → Fits p → id < 65536 → IsSoundSegment s → IsDecodedAt own p id again s
-  read_there own p id again s a f l h =
-      let d : Datagram = datagram_to own p id s in
-      let place : IsPlace d = record { source = a.four; target = f.addr.four; source_bytes = a.all_bytes; target_bytes = f.addr.all_bytes; from = f.own_port; to = f.peer_port; id = l } in
-      let b : IsReadBack d = datagram_back d place h in
-      record {
-        read = ap (by_head (datagram_bytes d)) b.head ∙ ap (by_segment (head_of d) (datagram_bytes d)) b.fields ∙ ap (λ x. Arrived (seen_from_peer own p) x) b.segment;
-        size = datagram_short d place h;
-      }
+  pub starts_sound : (own : Addr) (numbers : List ℕ) → All IsU32 numbers → SoundAll (initial_node own numbers)
+  starts_sound own numbers w = record {
+    single = λ q i j x y a b u v. absurd (let z = none_serves 10 q i x a in cc);
+    fit = record { size = omega arith; conns = λ i x y. subst FitConn (all_closed 10 i x y) closed_fits; numbers = w };
+    each = λ p l. absurd (let z : is_live (serving p (replicate 10 closed)).state ≡ false = ap (λ c. is_live c.state) (serving_free (replicate 10 closed) p (none_serves 10 p)) in cc);
+  }
+
+  -- the sockets of a connection fit
+  pub live_fits : (n : AbstractNode) (slot : ℕ) (c : Connection) → SoundAll n → slice_get n.connections slot ≡ Some c → is_live c.state ≡ true → Fits c.sockets
+  live_fits n slot c g at live =
+      let serves_it : serves c.sockets c ≡ true = ap (λ b. b && same_sockets c.sockets c.sockets) live ∙ same_self c.sockets in
+      let is : serving c.sockets n.connections ≡ c = serving_is n.connections c.sockets slot c g.single at serves_it in
+      (g.each c.sockets (ap (λ x. is_live x.state) is ∙ live)).fits
 
   module _ (served : ℕ → Bool) (own : Addr) (is_own : IsAddr own) where
-    step_all : (n : AbstractNode) (event : Event) → IsOfLine own event → SoundAll n → SoundAll (step m served n event).node × IsDecoded own (record { event = event; sent = (step m served n event).sent })
+    pub step_all : (n : AbstractNode) (event : Event) → IsOfLine own event → SoundAll n → SoundAll (step m served n event).node × IsDecoded own (record { event = event; sent = (step m served n event).sent })
     step_all n event of g =
         let w : IsWire event = line_wire own event of in
         let r : NodeStep = step m served n event in
@@ -174,14 +207,9 @@ module _ (m : AppSpec) (steady : IsSteady m) (bytes : SendsBytes m) where
         all_cons (IsDecoded own) _ _ x.1 (all_read steps (step m served n e).node (All-tail (IsStep own) (OfNode e) steps a) x.0)
     all_read (Changes change ∷ steps) n a g =
         let words = All-head (IsStep own) (Changes change) steps a in
-        let fit : FitNode (changed change n) = record { size = g.fit.size; conns = g.fit.conns; numbers = words n.numbers g.fit.numbers } in
-        all_read steps (changed change n) (All-tail (IsStep own) (Changes change) steps a) (record { single = g.single; fit = fit; each = g.each })
+        all_read steps (changed change n) (All-tail (IsStep own) (Changes change) steps a) (changed_sound n change (words n.numbers g.fit.numbers) g)
 
 pub every_peer_reads : (m : AppSpec) → IsSteady m → SendsBytes m → (served : ℕ → Bool) (own : Addr) → IsAddr own → (numbers : List ℕ) → All IsU32 numbers
     → (steps : List LineStep) → All (IsStep own) steps → All (IsDecoded own) (trace_over m served steps (initial_node own numbers))
 every_peer_reads m steady bytes served own a numbers w steps of =
-    all_read m steady bytes served own a steps (initial_node own numbers) of record {
-      single = λ q i j x y a b u v. absurd (let z = none_serves 10 q i x a in cc);
-      fit = record { size = omega arith; conns = λ i x y. subst FitConn (all_closed 10 i x y) closed_fits; numbers = w };
-      each = λ p l. absurd (let z : is_live (serving p (replicate 10 closed)).state ≡ false = ap (λ c. is_live c.state) (serving_free (replicate 10 closed) p (none_serves 10 p)) in cc);
-    }
+    all_read m steady bytes served own a steps (initial_node own numbers) of (starts_sound m steady bytes own numbers w)
