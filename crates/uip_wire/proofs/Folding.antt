@@ -1,5 +1,5 @@
 -- Sums that differ by carries have the same folded value, and sums that differ by one byte have another.
-use Rattle.uip_wire.proofs.Prelude.{◌≡◌, ◌≢◌, ℕ, ◌+◌, ◌-◌, ◌*◌, ◌/◌, ◌%◌, ◌<◌, ◌≤◌, ◌⊎◌, inl, inr, List, [], ◌∷◌, ◌++◌, sym, ap, ◌∙◌, refl, arith, common_steps, checksum_of, folded, word_sum, OneByteDetected}
+use Rattle.uip_wire.proofs.Prelude.{◌≡◌, ◌≢◌, ℕ, ◌+◌, ◌-◌, ◌*◌, ◌/◌, ◌%◌, ◌^◌, ◌<◌, ◌≤◌, ◌⊎◌, inl, inr, List, [], ◌∷◌, ◌++◌, sym, ap, ◌∙◌, refl, arith, common_steps, checksum_of, folded, word_sum, OneByteDetected}
 
 pub folded_zero : folded 0 ≡ 0
 unfolding folded
@@ -23,6 +23,31 @@ folded_halves s =
       | inl e ↦ ap folded (omega arith)
       | inr h ↦ sym (same_folded (s / 18446744073709551616 + s % 18446744073709551616) s (281479271743489 * (s / 18446744073709551616)) (omega arith) (omega arith))
     ]
+
+-- the upper 32 bits
+pub folded_words : (s : ℕ) → folded (s / 4294967296 + s % 4294967296) ≡ folded s
+folded_words s =
+    elim (zero_or_more s) [
+      | inl e ↦ ap folded (omega arith)
+      | inr h ↦ sym (same_folded (s / 4294967296 + s % 4294967296) s (65537 * (s / 4294967296)) (omega arith) (omega arith))
+    ]
+
+-- the upper 16 bits
+pub folded_shorts : (s : ℕ) → folded (s / 65536 + s % 65536) ≡ folded s
+folded_shorts s =
+    elim (zero_or_more s) [
+      | inl e ↦ ap folded (omega arith)
+      | inr h ↦ sym (same_folded (s / 65536 + s % 65536) s (s / 65536) (omega arith) (omega arith))
+    ]
+
+-- the carry of a sum of 64 bits, and of 32, added to what is left of it
+pub folded_long : (one other : ℕ) → one < 2 ^ 64 → other < 2 ^ 64 → (one + other) % 2 ^ 64 < one
+    → folded ((one + other) % 2 ^ 64 + 1) ≡ folded (one + other)
+folded_long one other p q less = sym (same_folded ((one + other) % 2 ^ 64 + 1) (one + other) 281479271743489 (omega arith) (omega arith))
+
+pub folded_word : (one other : ℕ) → one < 2 ^ 32 → other < 2 ^ 32 → (one + other) % 2 ^ 32 < one
+    → folded ((one + other) % 2 ^ 32 + 1) ≡ folded (one + other)
+folded_word one other p q less = sym (same_folded ((one + other) % 2 ^ 32 + 1) (one + other) 65537 (omega arith) (omega arith))
 
 pub folded_cases : (s : ℕ) → ((s ≡ 0) × (folded s ≡ 0)) ⊎ ((0 < s) × (folded s ≡ (s - 1) % 65535 + 1))
 folded_cases s =

@@ -159,17 +159,36 @@ fn block_sum(bytes: &[u8]) -> u128
 
 const WORD64: u128 = 0x1_0000_0000_0000_0000;
 
-/// Adds the carries of a sum back to it.
+const WORD32: u64 = 0x1_0000_0000;
+
+const WORD16: u32 = 0x1_0000;
+
+/// Adds the carries of a sum back to it. Its halves are added at each width, so nothing is divided: a processor of 32 bits has no division
+/// of 64.
 #[inline(always)]
 fn fold(sum: u128) -> u16
-    requires { sum < 2 ^ 125 }
     ensures { result ≡ folded sum }
 {
-    let once = sum / WORD64 + sum % WORD64;
-    let twice = (once / WORD64 + once % WORD64) as u64;
-    if twice == 0 {
-        0
-    } else {
-        ((twice - 1) % 65535 + 1) as u16
-    }
+    let long = add_long((sum / WORD64) as u64, (sum % WORD64) as u64);
+    let word = add_word((long / WORD32) as u32, (long % WORD32) as u32);
+    let most = word / WORD16 + word % WORD16;
+    (most / WORD16 + most % WORD16) as u16
+}
+
+/// Adds two numbers, and the carry to their sum.
+#[inline(always)]
+fn add_long(one: u64, other: u64) -> u64
+    ensures { folded result ≡ folded (one + other) }
+{
+    let sum = one.wrapping_add(other);
+    if sum < one { sum + 1 } else { sum }
+}
+
+/// The same for numbers of 32 bits.
+#[inline(always)]
+fn add_word(one: u32, other: u32) -> u32
+    ensures { folded result ≡ folded (one + other) }
+{
+    let sum = one.wrapping_add(other);
+    if sum < one { sum + 1 } else { sum }
 }
