@@ -67,10 +67,9 @@ fn script_len<F: Calls>(
     requires table { IsIndex image.now files.now order.now }
     requires image_fits { length image.now ≤ LONGEST_IMAGE }
     requires script_fits { length script.now ≤ LONGEST_IMAGE }
-    ensures missing { MatchOption result
-        (list_any (λ found. misses (files_in image.now files.now) script.now found.piece) (pieces_by F.calling.named script.now 0) ≡ true)
-        (λ _. list_any (λ found. misses (files_in image.now files.now) script.now found.piece)
-        (pieces_by F.calling.named script.now 0) ≡ false) }
+    ensures missing { let pieces = pieces_by F.calling.named script.now 0 in
+        let is_missed = list_any (λ found. misses (files_in image.now files.now) script.now found.piece) pieces in
+        MatchOption result (is_missed ≡ true) (λ _. is_missed ≡ false) }
     ensures len { IfSome result (λ n. n
         ≡ sum_by (λ found. piece_length_by F.calling (files_in image.now files.now) script.now found.piece)
         (pieces_by F.calling.named script.now 0)) }
