@@ -89,6 +89,11 @@ abbrev pub client_hands : AbstractClient → Option PlainSegment → ClientStep
 client_hands c None = keeps c
 client_hands c (Some s) = client_takes c s
 
+-- a call did this step, and a client with this request accepted these bytes
+abbrev pub DidAccepting : (AbstractClient → ClientStep) → List ℕ → List ℕ → Client → Client → Option ℕ → List ℕ → Type 0
+DidAccepting f request accepted old new answer area =
+    (received : List ℕ) → Did (f (abstract_client old request received)) (abstract_client new request (received ++ accepted)) answer area
+
 -- the bytes that it accepted before, and the text if it accepts that too
 abbrev pub received_with : Bool → List ℕ → List ℕ → List ℕ
 received_with true received text = received ++ text

@@ -152,6 +152,10 @@ abbrev pub is_reset_by : ClientState → AbstractClient → PlainSegment → Boo
 is_reset_by Opening c s = has_ack s.flags && (s.ack == wrap (own_first c + 1))
 is_reset_by state c s = is_receiving state && (s.seq == c.expected)
 
+-- the client after a RST
+abbrev pub reset_by : AbstractClient → PlainSegment → AbstractClient
+reset_by c s = if is_reset_by c.state c s then record c { state = Reset } else c
+
 unfoldable pub takes_by : ClientState → AbstractClient → PlainSegment → ClientStep
 takes_by Idle c s = keeps c
 takes_by Reset c s = keeps c
@@ -163,7 +167,7 @@ takes_by _ c s = takes_in_order (receives_ack c s) s
 -- the step on a segment of the server
 unfoldable pub client_takes : AbstractClient → PlainSegment → ClientStep
 client_takes c s =
-    if has_rst s.flags then keeps (if is_reset_by c.state c s then record c { state = Reset } else c)
+    if has_rst s.flags then keeps (reset_by c s)
     else takes_by c.state c s
 
 -- Its own acts.

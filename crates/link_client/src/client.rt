@@ -1,7 +1,7 @@
 //! The calls of a client (RFC 793).
 
-ghost use Rattle.std.specs.Prelude.{◌≡◌, ◌+◌, ◌≤◌, ◌++◌, ◌&&◌, ℕ, [], List, Some, is_some, length, slice_range};
-ghost use Rattle.link_client.specs.Calls.{Did, FitsRequest, KeepsAfter, can_abort, has_more_to_send};
+ghost use Rattle.std.specs.Prelude.{◌≡◌, ◌+◌, ◌≤◌, ◌&&◌, ℕ, [], List, Some, is_some, length, slice_range};
+ghost use Rattle.link_client.specs.Calls.{Did, DidAccepting, FitsRequest, KeepsAfter, can_abort, has_more_to_send};
 ghost use Rattle.link_client.specs.Calls.{has_spoken, client_receives, is_opened, abstract_client, client_hands};
 ghost use Rattle.link_client.specs.Client.{client_aborts, client_again, client_closes, client_opens, idle, advertises_window};
 
@@ -103,9 +103,9 @@ impl Client {
         ensures trailing { KeepsAfter result.sent area.old area.new }
         ensures inside { result.fresh_at + result.fresh_len ≤ length datagram.now }
         ensures none { result.fresh_len ≡ 0 → result.fresh_at ≡ 0 }
-        ensures step { (received : List ℕ) → Did (client_hands (abstract_client self.old request.now received)
-            (client_receives self.old.setup datagram.now)) (abstract_client self.new request.now
-            (received ++ slice_range datagram.now result.fresh_at (result.fresh_at + result.fresh_len))) result.sent area.new }
+        ensures step { let fresh = slice_range datagram.now result.fresh_at (result.fresh_at + result.fresh_len) in
+            DidAccepting (λ c. client_hands c (client_receives self.old.setup datagram.now)) request.now fresh
+            self.old self.new result.sent area.new }
     {
         let Some(segment) = receive(&self.setup, datagram) else {
             return Took {

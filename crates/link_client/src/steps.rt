@@ -5,7 +5,7 @@ ghost use Rattle.std.specs.Prelude.{nat_lt, ℕ, [], List, true, if◌then◌els
 ghost use Rattle.tcp_segment.specs.Prelude.{plain_of};
 ghost use Rattle.tcp_machine.specs.Prelude.{occupies_sequence_space, plain};
 ghost use Rattle.link_client.specs.Calls.{Did, DidAtText, FitsRequest, KeepsAfter, has_more_to_send, received_with, abstract_client};
-ghost use Rattle.link_client.specs.Client.{after_fin, client_takes, fin_out, fin_sent, receives_ack, is_receiving, is_reset_by};
+ghost use Rattle.link_client.specs.Client.{after_fin, client_takes, fin_out, fin_sent, receives_ack, is_receiving, is_reset_by, reset_by};
 ghost use Rattle.link_client.specs.Client.{may_finish, sends_next, takes_by, takes_in_order, takes_text, has_outstanding};
 
 use crate::client::Client;
@@ -267,9 +267,8 @@ impl Client {
     fn take_reset(&mut self, segment: &Segment)
         ensures setup { self.new.setup ≡ self.old.setup }
         ensures fits { (request : List ℕ) → FitsRequest self.old request → FitsRequest self.new request }
-        ensures reset { (request received text : List ℕ) → (if is_reset_by self.old.state (abstract_client self.old request received)
-            (plain segment.now text) then record (abstract_client self.old request received) { state = ClientState.Reset }
-            else abstract_client self.old request received) ≡ abstract_client self.new request received }
+        ensures reset { (request received text : List ℕ) → reset_by (abstract_client self.old request received)
+            (plain segment.now text) ≡ abstract_client self.new request received }
     {
         if self.is_reset_by(segment) {
             self.state = ClientState::Reset;
