@@ -29,7 +29,7 @@ pub mod WorkedSummaries
 pub mod HexBytes
 pub mod Honest
 mod HonestPeers
-mod LossyPeers
+pub mod LossyPeers
 pub mod Kept
 pub mod PlayedText
 pub mod Quads

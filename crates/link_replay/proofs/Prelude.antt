@@ -13,7 +13,7 @@ unfoldable pub use Rattle.link_client.specs.Prelude.{aborts_by, again_by, client
 pub use Rattle.link_client.specs.declared.client_state.ClientState.{ClientState}
 pub use Rattle.link_client.specs.declared.client_state.ClientState.TheVariants.{Idle}
 pub use Rattle.link_client.specs.declared.setup.Setup.{Setup}
-pub use Rattle.link_replay.specs.Prelude.{AbortAndCloseApart, ActSteps, ActsEnd, AnswersTo, AppendsShown, AreFresh, AreTo, AreWorkedReplays, AreWorkedReports, AreWorkedSummaries, ClosesInTime, CodeSent, CodeSide, CodeWorld, DamageLoses, EndsReport, EndsWith, Follows, FromHere, HasReached, HitsAreCounted, HonestPages, HonestReplay, HonestWebPeer, LossyWebPeer, IsAt, IsAtLast, IsFresh, IsHonest, IsLink, IsLoadText, IsPlayDue, IsReplayText, IsShort, IsTextDue, IsTo, KeepsPromises, LacksEither, LinesEnd, Link, LinkRepresents, LoadEnds, LoadIsReported, Matched, OnlyEpoch, OnlyFull, PagesAreReceived, PlaysSchedule, PostsOfClient, PostsReply, Reaches, Refuses, ReplayEnds, ReplayIsReported, SentRepresents, ServesHonest, ShownSide, SideRepresents, Stepped, Stops, StopsAt, WritesFault, WorldRepresents, WritesDue, WritesText, Wrote, WroteDue, bad_schedule, becomes_hit, buried, client_line, client_reported, code_side_shown, column, counts_line, datagram_line, digits_or_dash, event_at, gone_pair, hits_over, is_at_end, is_place, is_sent_again, kind_sent, line_of_datagram, lines_of_client, link_of, lost, lost_at, most_of, numbered_texts, one_hits, opening_for, or_pair, outcome, own_step, owner, owner_in, pair_at, pair_at_side, parts_of, pieces_for, plan_from, planned, refusal_at, report, resent, rounds_for, sees, segment_kind, server, side_shown, sockets_at, sockets_for, summary_of, tally_line, tally_of, text_line, texts_for, texts_of, reported_of}
+pub use Rattle.link_replay.specs.Prelude.{AbortAndCloseApart, ActSteps, ActsEnd, AnswersTo, AppendsShown, AreFresh, AreTo, AreWorkedReplays, AreWorkedReports, AreWorkedSummaries, ClosesInTime, CodeSent, CodeSide, CodeWorld, DamageLoses, EndsReport, EndsWith, Follows, FromHere, HasReached, HitsAreCounted, HonestPages, HonestReplay, HonestWebPeer, LossyWebPeer, WebPeersArrive, IsAt, IsAtLast, IsFresh, IsHonest, IsLink, IsLoadText, IsPlayDue, IsReplayText, IsShort, IsTextDue, IsTo, KeepsPromises, LacksEither, LinesEnd, Link, LinkRepresents, LoadEnds, LoadIsReported, Matched, OnlyEpoch, OnlyFull, PagesAreReceived, PlaysSchedule, PostsOfClient, PostsReply, Reaches, Refuses, ReplayEnds, ReplayIsReported, SentRepresents, ServesHonest, ShownSide, SideRepresents, Stepped, Stops, StopsAt, WritesFault, WorldRepresents, WritesDue, WritesText, Wrote, WroteDue, bad_schedule, becomes_hit, buried, client_line, client_reported, code_side_shown, column, counts_line, datagram_line, digits_or_dash, event_at, gone_pair, hits_over, is_at_end, is_place, is_sent_again, kind_sent, line_of_datagram, lines_of_client, link_of, lost, lost_at, most_of, numbered_texts, one_hits, opening_for, or_pair, outcome, own_step, owner, owner_in, pair_at, pair_at_side, parts_of, pieces_for, plan_from, planned, refusal_at, report, resent, rounds_for, sees, segment_kind, server, side_shown, sockets_at, sockets_for, summary_of, tally_line, tally_of, text_line, texts_for, texts_of, reported_of}
 pub use Rattle.link_replay.specs.declared.report.kind.Kind.{Kind}
 pub use Rattle.link_replay.specs.declared.report.kind.Kind.TheVariants.{EchoReply}
 pub use Rattle.link_replay.specs.declared.world.client_steps.Own.{Own}
@@ -61,7 +61,9 @@ pub use Rattle.link_world.specs.declared.step_fault.StepFault.{StepFault}
 pub use Rattle.link_world.specs.declared.step_fault.StepFault.TheVariants.{AlreadyOpen, Full, NoByte, NoDatagram, NoMemory, NotOpen}
 pub use Rattle.link_world.specs.declared.who.Who.{Who}
 pub use Rattle.link_world.specs.declared.who.Who.TheVariants.{FromClient, FromNode, Pinger}
-pub use Rattle.node_laws.proofs.HonestPeers.{arrives_under_loss, honest_peer, lossy_syn, of_syn}
+pub use Rattle.node_laws.proofs.HonestPeers.{arrives_acting_in, honest_peer, lossy_syn, of_syn}
+pub use Rattle.node_laws.proofs.Paging.{ActsAs, acts_as_itself, anywhere}
+pub use Rattle.node_laws.specs.Prelude.{Asker, IsOfLine, TraceEntry, trace_of}
 pub use Rattle.script_lang.specs.Prelude.{length_at_most, takes_capture}
 pub use Rattle.script_lang.specs.declared.function.Function.{Function}
 pub use Rattle.script_lang.specs.declared.function.Function.TheVariants.{FileStats, NetStats, TcpConnections, Ticks, Unknown}
@@ -107,7 +109,8 @@ unfoldable pub use Rattle.uip_node.proofs.Prelude.{datagram_bytes, fin_acked, fi
 pub use Rattle.uip_node.proofs.SocketPairs.{flip, not_peer, same_is, serves_dead, serves_yes}
 pub use Rattle.uip_node.proofs.SoundSegments.{first_low}
 pub use Rattle.uip_node.proofs.Stepping.{slice_get-element}
-pub use Rattle.uip_node.specs.Prelude.{AbstractNode, Node, Answer, AnswersIn, AnswersPolled, Arrived, Echo, EchoAsked, EchoReplied, Event, GoesOnBy, HasBytes, HistoryEntry, IcmpRefused, IpRefused, IsSent, NoSlot, NodeStep, Overlong, Periodic, Reply, Represents, Silent, SlotsRepresent, Spoke, TcpReply, TcpRefused, arrives_at, connection_in, datagram_to, event_of, gone_by, initial_node, initial_number, opens, passes, raised_by_answer, raises, refuses, reply_bytes, run, serving, slot_for_syn, snapshot, step, tick, ticks_of, times}
+pub use Rattle.uip_node.proofs.Steadiness.{steady_of}
+pub use Rattle.uip_node.specs.Prelude.{AbstractNode, IsSteady, Node, Answer, AnswersIn, AnswersPolled, Arrived, Echo, EchoAsked, EchoReplied, Event, GoesOnBy, HasBytes, HistoryEntry, IcmpRefused, IpRefused, IsSent, NoSlot, NodeStep, Overlong, Periodic, Reply, Represents, Silent, SlotsRepresent, Spoke, TcpReply, TcpRefused, arrives_at, connection_in, datagram_to, event_of, gone_by, initial_node, initial_number, opens, passes, raised_by_answer, raises, refuses, reply_bytes, run, serving, slot_for_syn, snapshot, step, tick, ticks_of, times}
 pub use Rattle.uip_wire.specs.Prelude.{cut_at_dot, numeral, part_number, wrap}
 unfoldable pub use Rattle.uip_wire.specs.Prelude.{quad_of}
 pub use Rattle.uip_wire.specs.declared.sizes.TheConstants.{LARGEST_DATAGRAM}

@@ -7,7 +7,7 @@ pub use Rattle.link_replay.specs.Epochs.{IsAtLast, OnlyEpoch, buried, sockets_fo
 pub use Rattle.link_replay.specs.Hits.{HitsAreCounted, becomes_hit, hits_over, is_place, one_hits}
 pub use Rattle.link_replay.specs.Honest.{IsHonest, rounds_for}
 pub use Rattle.link_replay.specs.HonestPeers.{HonestWebPeer}
-pub use Rattle.link_replay.specs.LossyPeers.{LossyWebPeer}
+pub use Rattle.link_replay.specs.LossyPeers.{LossyWebPeer, WebPeersArrive}
 pub use Rattle.link_replay.specs.Kinds.{column}
 pub use Rattle.link_replay.specs.Laws.{HonestReplay, LoadIsReported, OnlyFull, ReplayIsReported, WroteDue}
 pub use Rattle.link_replay.specs.Matched.{Matched}
