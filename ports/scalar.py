@@ -1,5 +1,5 @@
 #!/usr/bin/env python3
-"""Redirects calls of functions that examine 32 or 64 bytes at a time to functions that examine one, for a processor without vectors.
+"""Redirects calls of functions that examine 32 or 64 bytes at a time to functions without vectors, which examine eight or one.
 
     python3 ports/scalar.py MODULE.ll CRATES OUT.ll
 
@@ -11,7 +11,7 @@ import re
 import sys
 
 PAIRS = [    # the source file, the Rattle module, the function whose calls are redirected, and the function that is called instead
-    ("uip_slip/src/marks.rt", "uip_slip::marks", "plain_len", "plain_of_few"),
+    ("uip_slip/src/marks.rt", "uip_slip::marks", "plain_len", "plain_by_words"),
     ("script_lang/src/search.rt", "script_lang::search", "byte_from", "byte_one_by_one"),
 ]
 

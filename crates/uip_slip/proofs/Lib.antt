@@ -8,4 +8,5 @@ pub mod TextLaws
 pub mod FrameLaws
 pub mod Lanes
 pub mod TextTable
+pub mod Words
 mod Prelude

@@ -1,8 +1,8 @@
 //! The marks END and ESC (RFC 1055), and the search for the next one.
 
 ghost use Rattle.std.specs.Prelude.{◌≡◌, ℕ, ◌≤◌, ◌+◌, ◌*◌, length, not, true, false, ◌<◌, slice_index, slice_range};
-ghost use Rattle.std.specs.List.{prefix_len};
-ghost use Rattle.uip_slip.specs.Frames.{IsPlainPrefix, is_mark, meant as meant_of};
+ghost use Rattle.std.specs.List.{list_all, prefix_len};
+ghost use Rattle.uip_slip.specs.Frames.{IsPlainPrefix, is_mark, is_plain, meant as meant_of};
 
 use std::simd::prelude::*;
 
@@ -24,13 +24,28 @@ const LANES: usize = 32;
 /// The number of bytes of a long piece that are examined together.
 const WIDE: usize = 64;
 
+/// The number of bytes that are examined together as one number.
+const WORD: usize = 8;
+
+/// The high bit of each byte of such a number.
+const HIGHS: u64 = 0x8080_8080_8080_8080;
+
+/// The other bits.
+const LOWS: u64 = 0x7F7F_7F7F_7F7F_7F7F;
+
+/// END as each byte.
+const ENDS: u64 = 0xC0C0_C0C0_C0C0_C0C0;
+
+/// The bits in which END and ESC differ, in each byte.
+const DIFFERENCES: u64 = 0x1B1B_1B1B_1B1B_1B1B;
+
 /// Returns the length of the prefix without END and ESC. It is not inlined, since decoder and encoder both search.
 #[inline(never)]
 pub fn plain_len(bytes: &[u8]) -> usize
     ensures { IsPlainPrefix bytes.now result }
 {
     match bytes.len() {
-        0..8 => plain_of_few(bytes),
+        0..8 => plain_by_words(bytes),
         8..16 => plain_of_some::<8>(bytes),
         16..32 => plain_of_some::<16>(bytes),
         32..64 => plain_of_some::<32>(bytes),
@@ -85,17 +100,41 @@ fn plain_after(bytes: &[u8]) -> usize
     last + plain_wide(bytes, last)
 }
 
-/// The same for a few bytes, one by one.
+/// The same, eight bytes at a time and the rest one by one. A processor without vectors searches all bytes by it.
 #[inline(never)]
-fn plain_of_few(bytes: &[u8]) -> usize
+pub fn plain_by_words(bytes: &[u8]) -> usize
     ensures { IsPlainPrefix bytes.now result }
 {
-    for (at, byte) in bytes.iter().enumerate() {
-        if *byte == END || *byte == ESC {
+    let mut at = 0;
+    'words: while let Some(word) = bytes[at..].first_chunk::<WORD>() {
+        if !is_plain_word(*word) {
+            break;
+        }
+        at += WORD;
+    }
+    'rest: while at < bytes.len() {
+        if bytes[at] == END || bytes[at] == ESC {
             return at;
         }
+        at += 1;
     }
-    bytes.len()
+    at
+}
+
+/// Returns whether none of eight bytes is END or ESC. A byte below 128 is neither. Any other is one of them exactly if its low seven bits
+/// are theirs. A sum with 127 has the high bit exactly if the bits differ, and nothing is carried to the next byte.
+#[inline(always)]
+fn is_plain_word(bytes: [u8; WORD]) -> bool
+    ensures { result ≡ true → list_all is_plain bytes ≡ true }
+{
+    let word = u64::from_le_bytes(bytes);
+    if word & HIGHS == 0 {
+        return true;
+    }
+    let ends = word ^ ENDS;
+    let low = ends & LOWS;
+    let escs = low ^ DIFFERENCES;
+    (((low + LOWS) & (escs + LOWS)) | ends) & HIGHS == HIGHS
 }
 
 /// Returns how many of the lanes from an offset on are before the first END or ESC.
