@@ -16,7 +16,7 @@ pub use Rattle.rexmit_timer.specs.declared.timer.Beat.{Beat}
 pub use Rattle.std.proofs.Common.{Bool, IfSome, List, None, Option, Some, [], ap, append-nil, arith, below_more, cond, count_by, drop, eqb, false, get_or, get_or-set_other, get_or-set_same, if◌then◌else◌, inl, inr, length, length-append, length-drop, length-set, length-take, ltb, map, max, min, nat_le, nat_lt, not, position, refl, replicate, rules, set, slice_index, slice_index_or, slice_range, subst, suc, sym, take, true, zero, ℕ, ◌%◌, ◌&&◌, ◌*◌, ◌++◌, ◌+◌, ◌-◌, ◌/◌, ◌<◌, ◌==◌, ◌||◌, ◌∙◌, ◌∷◌, ◌≡◌, ◌≢◌, ◌≤◌, ◌⊎◌}
 pub use Rattle.std.proofs.Math.Nat.{mod-add-mod}
 pub use Rattle.std.proofs.Math.Seq.{take-add, take-append_seam}
-pub use Rattle.std.proofs.lemmas.Bool.{agree_below_at, and_from, and_parts, cases_eq, eq-eqb, eqb-true, lt-ltb, ltb-false, ltb-true}
+pub use Rattle.std.proofs.lemmas.Bool.{agree_below_at, and_from, and_parts, cases_eq, eq-eqb, eqb-true, lt-ltb, ne_eqb, ltb-false, ltb-true}
 pub use Rattle.std.proofs.lemmas.Grind.{common_steps}
 pub use Rattle.std.proofs.lemmas.Iterator.Adapters.{position_from-zero}
 pub use Rattle.std.proofs.lemmas.List.{drop_at, get_or-map, length-replicate, length-take-le, take-append-drop, take-append-le, take-take}

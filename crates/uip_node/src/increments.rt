@@ -1,6 +1,6 @@
 //! Raises counters of a node.
 
-ghost use Rattle.std.specs.Prelude.{◌≡◌, ◌+◌, ◌==◌, ◌||◌, if◌then◌else◌};
+ghost use Rattle.std.specs.Prelude.{◌≡◌, ◌<◌, ◌+◌, ◌==◌, ℕ, if◌then◌else◌, length, slice_index};
 ghost use Rattle.uip_wire.specs.Prelude.{wrap};
 ghost use Rattle.uip_node.specs.Prelude.{marks, raise};
 
@@ -10,21 +10,28 @@ pub(crate) fn raised(net: [u32; 20], first: usize, second: usize, third: usize) 
     ensures { result ≡ raise (marks first second third) net }
 {
     let mut net = net;
-    for place in 0..20 {
-        net[place] = next(net[place], is_one_of(place, first, second, third));
-    }
+    raise_at(&mut net, first);
+    raise_at(&mut net, apart(second, first));
+    raise_at(&mut net, apart(apart(third, first), second));
     net
 }
 
-fn is_one_of(place: usize, first: usize, second: usize, third: usize) -> bool
-    ensures { result ≡ ((place == first) || (place == second) || (place == third)) }
+/// Returns an index, or 20 if it is the other one, so that no counter rises twice.
+/// [add: counter] The length of the array.
+fn apart(place: usize, other: usize) -> usize
+    ensures { result ≡ (if place == other then 20 else place) }
 {
-    place == first || place == second || place == third
+    if place == other { 20 } else { place }
 }
 
-/// Returns the counter, with 1 added if it is marked.
-fn next(count: u32, marked: bool) -> u32
-    ensures { result ≡ (if marked then wrap (count + 1) else count) }
+/// Adds 1, modulo 2^32, to the counter at an index.
+#[tactic(auto, using(crate::proofs::Raises::risen_at, crate::proofs::Raises::stays_at))]
+fn raise_at(net: &mut [u32; 20], place: usize)
+    ensures long { length net.new ≡ length net.old }
+    ensures each { (k : ℕ) → k < length net.old → slice_index net.new k
+        ≡ (if k == place then wrap (slice_index net.old k + 1) else slice_index net.old k) }
 {
-    if marked { count.wrapping_add(1) } else { count }
+    if place < net.len() {
+        net[place] = net[place].wrapping_add(1);
+    }
 }
