@@ -1,5 +1,5 @@
 -- What a decoder knows after one more byte, or a run of them.
-use Rattle.uip_slip.proofs.Prelude.{◌≡◌, ℕ, ◌+◌, ◌≤◌, ◌<◌, Bool, true, false, cond, eqb, nat_lt, List, [], ◌∷◌, ◌++◌, take, length, get_or, refl, sym, ap, subst, ◌-◌, ◌∙◌, append-nil, append_assoc, arith, length-take, length-append, length-drop, drop, min, ◌||◌, list_all, get_or-drop, get_or-take, take_all, take-append-le, take-take, length-take-le, take_more, take-add, take-append-add, ltb-false, ltb-true, le-ltb, lt-ltb, le-leb, lt-leb, Frame, meant, unescaped, frame_of, open_part, frames, Datagram, Overlong, is_plain, Fed, EndsFrame, State, WasFed, waits_after, open_bytes, reported_by, reopened, pushed, taken, joined_parts, Closes, IsNoise, true≢false}
+use Rattle.uip_slip.proofs.Prelude.{◌≡◌, ℕ, ◌+◌, ◌≤◌, ◌<◌, Bool, true, false, cond, eqb, nat_lt, List, [], ◌∷◌, ◌++◌, take, length, get_or, refl, sym, ap, subst, ◌-◌, ◌∙◌, append-nil, append_assoc, arith, length-take, length-append, length-drop, drop, min, ◌||◌, list_all, get_or-drop, get_or-take, take_all, take_more, take-add, take-append-add, ltb-false, ltb-true, le-ltb, lt-ltb, le-leb, lt-leb, Frame, meant, unescaped, frame_of, open_part, frames, Datagram, Overlong, is_plain, Fed, EndsFrame, State, WasFed, waits_after, open_bytes, reported_by, reopened, pushed, taken, joined_parts, Closes, IsNoise, true≢false}
 use Rattle.uip_slip.specs.declared.fed.Fed.TheVariants as fed
 use Rattle.uip_slip.proofs.PartLaws.{frames-end, open_part-end, frames-plain, open_part-plain, parts-byte}
 use Rattle.uip_slip.proofs.PlainLaws.{adds, both_true, plain_byte, unescaped-push, waits_after-push, parts-plain, plain_joined}

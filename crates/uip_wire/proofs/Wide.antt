@@ -1,5 +1,5 @@
 -- Eight bytes that are added as one number of 64 bits.
-use Rattle.uip_wire.proofs.Prelude.{◌≡◌, ℕ, ◌+◌, ◌-◌, ◌*◌, ◌/◌, ◌%◌, ◌^◌, ◌<◌, ◌≤◌, ◌⊎◌, inl, inr, List, [], ◌∷◌, ◌++◌, length, drop, length-drop, slice_index, sym, ap, ◌∙◌, refl, arith, add_comm, drop-drop, little_number, folded, word_sum, swapped_sum}
+use Rattle.uip_wire.proofs.Prelude.{◌≡◌, ℕ, ◌+◌, ◌-◌, ◌*◌, ◌/◌, ◌%◌, ◌^◌, ◌<◌, ◌≤◌, ◌⊎◌, inl, inr, List, [], ◌∷◌, ◌++◌, length, drop, length-drop, sym, ap, ◌∙◌, refl, arith, add_comm, drop-drop, little_number, folded, word_sum, swapped_sum}
 use Rattle.uip_wire.proofs.Folding.{folded_add, folded_cases, folded_most, same_folded}
 
 zero_or_more : (n : ℕ) → (n ≡ 0) ⊎ (0 < n)

@@ -1,4 +1,4 @@
-use Rattle.uip_slip.proofs.Prelude.{◌∙◌, ◌≤◌, ap, arith, take, length-take-le, PartState, joined_parts, state_in}
+use Rattle.uip_slip.proofs.Prelude.{◌∙◌, ◌≤◌, ap, arith, length-take-le, PartState, joined_parts, state_in}
 use Rattle.uip_slip.proofs.DecoderLaws.{joined_is}
 use Rattle.uip_slip.proofs.part.Part.join.Goals as goal
 
