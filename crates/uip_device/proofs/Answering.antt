@@ -1,4 +1,4 @@
--- The pages of a device answer a request in as many texts as their pieces need, if no call has an empty text.
+-- The pages of a device answer a request in as many texts as their pieces need, if text follows each value.
 use Rattle.app_events.specs.Prelude.{AppState, Snapshot, IsSnapshot}
 use Rattle.site_image.specs.Prelude.{File}
 use Rattle.std.proofs.Common.{◌≡◌, ◌≢◌, ℕ, suc, ◌+◌, ◌-◌, ◌<◌, ◌≤◌, ◌==◌, min, Bool, true, false, if◌then◌else◌, ◌&&◌, not, ◌⊎◌, inl, inr, List, [], ◌∷◌, ◌++◌, length, decimal, replicate, refl, sym, ap, ◌∙◌, subst, arith, nat_lt, nat_le, length-append, true≢false}
@@ -15,12 +15,12 @@ use Rattle.web_pages.proofs.Bounds.{silent_none, text_bound}
 use Rattle.web_pages.specs.Prelude.{Wanted, wanted, NotYet, Refused, Name, name_stays, ScriptPiece, Plain, Made, hits_of, silent_text, silent_end, stopped_text, made_first, made_end, newdata_grows, with_capture}
 use Rattle.generators.specs.Prelude.{ScriptFunctions, AreShort, in_ten_places, counter_line, row_text}
 use Rattle.generators.specs.Prelude.{row_parts}
-use Rattle.std.specs.Prelude.{flat_map}
+use Rattle.std.specs.Prelude.{⊤, flat_map}
 use Rattle.script_lang.specs.declared.function.Function.{Function}
 use Rattle.script_lang.specs.declared.function.Function.TheVariants.{FileStats, TcpConnections, NetStats, Ticks, Unknown}
 use Rattle.std.proofs.lemmas.Bool.{eq-eqb}
 use Rattle.web_pages.specs.Prelude.{made_by, text_by, reach_by, page_for_by, whole_for_by, page_by, is_whole_by, web_spec_by, web_want_by, is_acknowledged_by, waits_for_capture_by, left_of_by}
-use Rattle.uip_device.specs.Answering.{NeverEmpty, UipIsNeverEmpty, ValuePagesAnswer, WebCallsArrive, most_by, answer_pieces, texts_by}
+use Rattle.uip_device.specs.Answering.{PagesWithoutValues, ValuePagesAnswer, WebCallsArrive, most_by, answer_pieces, text_follows_values, text_is_next, texts_by}
 use Rattle.uip_node.proofs.SoundSegments.{first_low}
 use Rattle.node_laws.proofs.Beating.{mss_some}
 use Rattle.node_laws.proofs.HonestPeers.{lossy_syn}
@@ -33,6 +33,14 @@ use Rattle.script_lang.specs.Prelude.{length_at_most, takes_capture}
 
 not_twenty : (n : ℕ) → n < 20 → (n == 20) ≡ false
 not_twenty n l = grind (arith, common_steps)
+
+-- After each call of these pieces the page continues or is whole: text follows the call, or its own text is never empty.
+abbrev AlwaysContinues : {F : Type 0} → ScriptFunctions F → List File → List (ScriptPiece F) → Type 0
+AlwaysContinues g files [] = ⊤
+AlwaysContinues g files (Plain text ∷ more) = AlwaysContinues g files more
+AlwaysContinues g files (Made function argument ∷ more) =
+    ((text_is_next more ≡ true) ⊎ (g.function_table.takes_capture function ≡ true → (capture : Snapshot) → IsSnapshot capture → 0 < length capture.now.rows
+    → 0 < length (made_by g files function argument capture))) × AlwaysContinues g files more
 
 -- ---- the text of a call is no longer than its greatest length
 
@@ -135,45 +143,68 @@ module _ {F : Type 0} (g : ScriptFunctions F) (are_short : AreShort g) (silent :
         (let z : a ≡ g.function_table.length_at_most function + length (text_by g files more (first ∷ later)) = omega (arith, h, ap length (silent_text g files function argument more (first ∷ later) e), silent function e) in z)
         (fewer_left more (first ∷ later) capture (length (text_by g files more (first ∷ later))) is (sym (silent_end g function argument more (first ∷ later) e) ∙ stops) refl))))
 
-    -- and the text continues
+    -- and the text continues, or the page is whole
     abbrev Longer : List (ScriptPiece F) → List Snapshot → Snapshot → Type 0
     Longer pieces captures capture = length (text_by g files pieces captures) < length (text_by g files pieces (captures ++ capture ∷ []))
 
-    text_longer : (pieces : List (ScriptPiece F)) → NeverEmpty g files pieces → (captures : List Snapshot) (capture : Snapshot) → IsSnapshot capture → 0 < length capture.now.rows → reach_by g pieces captures ≡ false → Longer pieces captures capture
-    text_longer [] never captures capture is l stops = absurd (cc)
-    text_longer (Plain text ∷ more) never captures capture is l stops =
-        omega (arith, length-append text (text_by g files more captures), length-append text (text_by g files more (captures ++ capture ∷ [])), text_longer more never captures capture is l stops)
-    text_longer (Made function argument ∷ more) never [] capture is l stops =
+    abbrev Whole : List (ScriptPiece F) → List Snapshot → Snapshot → Type 0
+    Whole pieces captures capture =
+        (length (text_by g files pieces captures) ≤ length (text_by g files pieces (captures ++ capture ∷ []))) × (reach_by g pieces (captures ++ capture ∷ []) ≡ true)
+
+    next_text : (pieces : List (ScriptPiece F)) → text_is_next pieces ≡ true → (0 < length (text_by g files pieces [])) ⊎ (reach_by g pieces [] ≡ true)
+    next_text [] e = inr refl
+    next_text (Plain [] ∷ more) e = next_text more e
+    next_text (Plain (byte ∷ text) ∷ more) e = inl (omega arith)
+    next_text (Made function argument ∷ more) e = absurd (cc)
+
+    text_continues : (pieces : List (ScriptPiece F)) → AlwaysContinues g files pieces → (captures : List Snapshot) (capture : Snapshot) → IsSnapshot capture → 0 < length capture.now.rows → reach_by g pieces captures ≡ false
+        → Longer pieces captures capture ⊎ Whole pieces captures capture
+    text_continues [] continues captures capture is l stops = absurd (cc)
+    text_continues (Plain text ∷ more) continues captures capture is l stops =
+        let before = length-append text (text_by g files more captures) in
+        let after = length-append text (text_by g files more (captures ++ capture ∷ [])) in
+        elim (text_continues more continues captures capture is l stops) [
+          | inl h ↦ inl (omega (arith, before, after, h))
+          | inr h ↦ inr (omega (arith, before, after, h.0), h.1)
+        ]
+    text_continues (Made function argument ∷ more) continues [] capture is l stops =
         both_ways (g.function_table.takes_capture function)
-        (λ e. omega (
-          arith,
-          ap length (stopped_text g files function argument more e),
-          ap length (made_first g files function argument more capture [] e),
-          length-append (made_by g files function argument capture) (text_by g files more []),
-          never.0 e capture is l,
-        ))
-        (λ e. omega (
-          arith,
-          ap length (silent_text g files function argument more [] e),
-          ap length (silent_text g files function argument more (capture ∷ []) e),
-          text_longer more never.1 [] capture is l (sym (silent_end g function argument more [] e) ∙ stops),
-        ))
-    text_longer (Made function argument ∷ more) never (first ∷ later) capture is l stops =
+        (λ e.
+        let before = ap length (stopped_text g files function argument more e) in
+        let after = ap length (made_first g files function argument more capture [] e) in
+        let parts = length-append (made_by g files function argument capture) (text_by g files more []) in
+        elim continues.0 [
+          | inl next ↦ elim (next_text more next) [
+            | inl h ↦ inl (omega (arith, before, after, parts, h))
+            | inr h ↦ inr (omega (arith, before, after, parts), made_end g function argument more capture [] e ∙ h)
+          ]
+          | inr some ↦ inl (omega (arith, before, after, parts, some e capture is l))
+        ])
+        (λ e.
+        let before = ap length (silent_text g files function argument more [] e) in
+        let after = ap length (silent_text g files function argument more (capture ∷ []) e) in
+        elim (text_continues more continues.1 [] capture is l (sym (silent_end g function argument more [] e) ∙ stops)) [
+          | inl h ↦ inl (omega (arith, before, after, h))
+          | inr h ↦ inr (omega (arith, before, after, h.0), silent_end g function argument more (capture ∷ []) e ∙ h.1)
+        ])
+    text_continues (Made function argument ∷ more) continues (first ∷ later) capture is l stops =
         both_ways (g.function_table.takes_capture function)
-        (λ e. omega (
-          arith,
-          ap length (made_first g files function argument more first later e),
-          ap length (made_first g files function argument more first (later ++ capture ∷ []) e),
-          length-append (made_by g files function argument first) (text_by g files more later),
-          length-append (made_by g files function argument first) (text_by g files more (later ++ capture ∷ [])),
-          text_longer more never.1 later capture is l (sym (made_end g function argument more first later e) ∙ stops),
-        ))
-        (λ e. omega (
-          arith,
-          ap length (silent_text g files function argument more (first ∷ later) e),
-          ap length (silent_text g files function argument more (first ∷ later ++ capture ∷ []) e),
-          text_longer more never.1 (first ∷ later) capture is l (sym (silent_end g function argument more (first ∷ later) e) ∙ stops),
-        ))
+        (λ e.
+        let before = ap length (made_first g files function argument more first later e) in
+        let after = ap length (made_first g files function argument more first (later ++ capture ∷ []) e) in
+        let parts = length-append (made_by g files function argument first) (text_by g files more later) in
+        let more_parts = length-append (made_by g files function argument first) (text_by g files more (later ++ capture ∷ [])) in
+        elim (text_continues more continues.1 later capture is l (sym (made_end g function argument more first later e) ∙ stops)) [
+          | inl h ↦ inl (omega (arith, before, after, parts, more_parts, h))
+          | inr h ↦ inr (omega (arith, before, after, parts, more_parts, h.0), made_end g function argument more first (later ++ capture ∷ []) e ∙ h.1)
+        ])
+        (λ e.
+        let before = ap length (silent_text g files function argument more (first ∷ later) e) in
+        let after = ap length (silent_text g files function argument more (first ∷ later ++ capture ∷ []) e) in
+        elim (text_continues more continues.1 (first ∷ later) capture is l (sym (silent_end g function argument more (first ∷ later) e) ∙ stops)) [
+          | inl h ↦ inl (omega (arith, before, after, h))
+          | inr h ↦ inr (omega (arith, before, after, h.0), silent_end g function argument more (first ∷ later ++ capture ∷ []) e ∙ h.1)
+        ])
 
     -- at the start
     counted_all : (pieces : List (ScriptPiece F)) → left_in mss some (sizes pieces []) 0 ≤ texts_by g mss pieces
@@ -183,7 +214,7 @@ module _ {F : Type 0} (g : ScriptFunctions F) (are_short : AreShort g) (silent :
     counted_all (Made function argument ∷ more) =
         omega (arith, counted mss some (g.function_table.length_at_most function) (sizes more []), counted_all more, sum_by-cons (λ piece. div_ceil (most_by g piece) mss) (Made function argument) more)
 
-module _ {F : Type 0} (g : ScriptFunctions F) (are_short : AreShort g) (silent : (function : F) → g.function_table.takes_capture function ≡ false → g.function_table.length_at_most function ≡ 0) (files : List File) (request : List ℕ) (decided : wanted request ≢ NotYet) (never : NeverEmpty g files (answer_pieces g files (wanted request))) (mss : ℕ) (some : 0 < mss) (low : mss ≤ 1460) where
+module _ {F : Type 0} (g : ScriptFunctions F) (are_short : AreShort g) (silent : (function : F) → g.function_table.takes_capture function ≡ false → g.function_table.length_at_most function ≡ 0) (files : List File) (request : List ℕ) (decided : wanted request ≢ NotYet) (continues : AlwaysContinues g files (answer_pieces g files (wanted request))) (mss : ℕ) (some : 0 < mss) (low : mss ≤ 1460) where
   abbrev wanted_pieces : List (ScriptPiece F)
   wanted_pieces = answer_pieces g files (wanted request)
 
@@ -285,12 +316,19 @@ module _ {F : Type 0} (g : ScriptFunctions F) (are_short : AreShort g) (silent :
         let says = sends_named p rest name joined named in
         let sends_more = sends_named q rest name joined named in
         let stops : reach_by g wanted_pieces p.snapshots ≡ false = sym says.whole ∙ not-true (is_whole_by g files p.input p.snapshots) waits in
-        let more = text_longer g are_short silent files mss some wanted_pieces never p.snapshots capture is l stops in
-        let longer : p.acked < length (page_by g files q.input q.snapshots) = omega (arith, at_end, ap length says.text, ap length sends_more.text, more) in
-        let goes : p.acked ≤ length (page_by g files q.input q.snapshots) = omega (arith, longer) in
+        let more = text_continues g are_short silent files mss some wanted_pieces continues p.snapshots capture is l stops in
+        let before : length (page_by g files p.input p.snapshots) ≡ length (text_by g files wanted_pieces p.snapshots) = ap length says.text in
+        let after : length (page_by g files q.input q.snapshots) ≡ length (text_by g files wanted_pieces q.snapshots) = ap length sends_more.text in
+        let goes : p.acked ≤ length (page_by g files q.input q.snapshots) = elim more [ inl h ↦ omega (arith, at_end, before, after, h) | inr h ↦ omega (arith, at_end, before, after, h.0) ] in
         wants_on q (left p) rest joined (as_fine q fine_p.polls goes)
         (fewer_left g are_short silent files mss some wanted_pieces p.snapshots capture p.acked is stops (at_end ∙ ap length says.text))
-        (λ z e all. let y : ⊥ = omega (arith, z, longer) in y)
+        (λ z e all. elim more [
+          | inl h ↦ (let y : ⊥ = omega (arith, z, at_end, before, after, h) in y)
+          | inr h ↦
+              let whole : is_whole_by g files q.input q.snapshots ≡ true = sends_more.whole ∙ h.1 in
+              let acked_q : is_acknowledged_by g files q ≡ true = eq-eqb q.acked (length (page_by g files q.input q.snapshots)) (omega (arith, z, goes)) in
+              true≢false (sym (ap (λ b. b && is_acknowledged_by g files q) whole ∙ acked_q) ∙ e)
+        ])
 
     pub answers : AnswersIn (web_spec_by g files) request mss (fine waited) left (texts_by g mss wanted_pieces)
     answers = record {
@@ -342,24 +380,33 @@ made_some files NetStats argument capture e is some = lines_some capture.now.net
 made_some files Ticks argument capture e is some = ten_some capture.now.ticks
 made_some files Unknown argument capture e is some = absurd (cc)
 
-pub uip_is_never_empty : UipIsNeverEmpty
-uip_is_never_empty files [] e = tt
-uip_is_never_empty files (Plain text ∷ more) e = uip_is_never_empty files more e
-uip_is_never_empty files (Made (word.Uip function) argument ∷ more) e = (λ takes capture is some. made_some files function argument capture takes is some, uip_is_never_empty files more e)
-uip_is_never_empty files (Made (word.Value spelling) argument ∷ more) e = absurd (cc)
+always_continues : (files : List File) (pieces : List (ScriptPiece Word)) → text_follows_values pieces ≡ true → AlwaysContinues words files pieces
+always_continues files [] e = tt
+always_continues files (Plain text ∷ more) e = always_continues files more e
+always_continues files (Made (word.Uip function) argument ∷ more) e = (inr (λ takes capture is some. made_some files function argument capture takes is some), always_continues files more e)
+always_continues files (Made (word.Value spelling) argument ∷ more) e =
+    let both = and_parts (text_is_next more) (text_follows_values more) e in
+    (inl both.0, always_continues files more both.1)
+
+pub pages_without_values : PagesWithoutValues
+pages_without_values [] e = refl
+pages_without_values (Plain text ∷ more) e = pages_without_values more e
+pages_without_values (Made (word.Uip function) argument ∷ more) e = pages_without_values more e
+pages_without_values (Made (word.Value spelling) argument ∷ more) e = absurd (cc)
 
 words_silent : (function : Word) → words.function_table.takes_capture function ≡ false → words.function_table.length_at_most function ≡ 0
 words_silent (word.Uip function) e = silent_none function e
 words_silent (word.Value spelling) e = absurd (cc)
 
 pub value_pages_answer : ValuePagesAnswer
-value_pages_answer files request decided never mss some low =
-    (fine words words_short words_silent files request decided never mss some low, (left words words_short words_silent files request decided never mss some low, answers_polled words words_short words_silent files request decided never mss some low))
+value_pages_answer files request decided follows mss some low =
+    let continues = always_continues files (answer_pieces words files (wanted request)) follows in
+    (fine words words_short words_silent files request decided continues mss some low, (left words words_short words_silent files request decided continues mss some low, answers_polled words words_short words_silent files request decided continues mss some low))
 
 pub web_calls_arrive : WebCallsArrive
-web_calls_arrive files served own all lefts conforms a p decided never incarnation asks few =
+web_calls_arrive files served own all lefts conforms a p decided follows incarnation asks few =
     let syn = lossy_syn a p incarnation asks.lossy in
     let some : 0 < a.mss = (let l = mss_some syn.option in let e = syn.is in omega (arith, l, e)) in
     let low : a.mss ≤ 1460 = (let l = first_low syn.option in let e = syn.is in omega (arith, l, e)) in
-    let answers = value_pages_answer files a.request decided never a.mss some low in
+    let answers = value_pages_answer files a.request decided follows a.mss some low in
     conforms.arrives a p answers.0 answers.1.0 (texts_by words a.mss (answer_pieces words files (wanted a.request))) 19 answers.1.1 incarnation asks few

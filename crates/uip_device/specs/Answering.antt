@@ -1,14 +1,14 @@
 -- The pages of a device answer a request in a number of segments that its pieces give.
 use Rattle.std.specs.Int.{div_ceil}
-use Rattle.std.specs.Prelude.{◌≡◌, ◌≢◌, ◌<◌, ◌≤◌, ◌∷◌, [], Bool, false, flat_map, length, List, sum_by, true, ℕ, ⊤}
-use Rattle.app_events.specs.Prelude.{AppState, IsSnapshot, Snapshot}
+use Rattle.std.specs.Prelude.{◌≡◌, ◌≢◌, ◌<◌, ◌≤◌, ◌∷◌, ◌&&◌, [], Bool, false, flat_map, length, List, sum_by, true, ℕ}
+use Rattle.app_events.specs.Prelude.{AppState}
 use Rattle.generators.specs.Prelude.{ScriptFunctions}
 use Rattle.site_image.specs.Prelude.{File}
 use Rattle.device_values.specs.Prelude.{words}
 use Rattle.device_values.specs.declared.word.Word.{Word}
 use Rattle.device_values.specs.declared.word.Word.TheVariants as word
 use Rattle.uip_node.specs.Prelude.{AnswersPolled}
-use Rattle.web_pages.specs.Prelude.{made_by, reply_pieces_by, ScriptPiece, Plain, Made, Wanted, wanted, Name, NotYet}
+use Rattle.web_pages.specs.Prelude.{reply_pieces_by, ScriptPiece, Plain, Made, Wanted, wanted, Name, NotYet}
 use Rattle.uip_wire.specs.declared.addr.Addr.{Addr}
 use Rattle.tcp_machine.specs.Prelude.{Sockets}
 use Rattle.node_laws.specs.Prelude.{Arrives, Asker, AsksOverLoss, TraceEntry, bare_acks, exchanges_with, fresh}
@@ -30,13 +30,19 @@ most_by g (Made function argument) = g.function_table.length_at_most function
 abbrev pub texts_by : {F : Type 0} → ScriptFunctions F → ℕ → List (ScriptPiece F) → ℕ
 texts_by g mss pieces = sum_by (λ piece. div_ceil (most_by g piece) mss) pieces
 
--- No call of these pieces has an empty text, whatever it is made from.
-abbrev pub NeverEmpty : {F : Type 0} → ScriptFunctions F → List File → List (ScriptPiece F) → Type 0
-NeverEmpty g files [] = ⊤
-NeverEmpty g files (Plain text ∷ more) = NeverEmpty g files more
-NeverEmpty g files (Made function argument ∷ more) =
-    (g.function_table.takes_capture function ≡ true → (capture : Snapshot) → IsSnapshot capture → 0 < length capture.now.rows
-    → 0 < length (made_by g files function argument capture)) × NeverEmpty g files more
+-- The next of these pieces that is not empty is text, or none is left.
+abbrev pub text_is_next : {F : Type 0} → List (ScriptPiece F) → Bool
+text_is_next [] = true
+text_is_next (Plain [] ∷ more) = text_is_next more
+text_is_next (Plain (byte ∷ text) ∷ more) = true
+text_is_next (Made function argument ∷ more) = false
+
+-- Between two calls of values there is text, so a page continues also after a value that is empty.
+abbrev pub text_follows_values : List (ScriptPiece Word) → Bool
+text_follows_values [] = true
+text_follows_values (Plain text ∷ more) = text_follows_values more
+text_follows_values (Made (word.Uip function) argument ∷ more) = text_follows_values more
+text_follows_values (Made (word.Value spelling) argument ∷ more) = text_is_next more && text_follows_values more
 
 -- Only the functions of uIP are called.
 abbrev pub calls_no_value : List (ScriptPiece Word) → Bool
@@ -45,26 +51,26 @@ calls_no_value (Plain text ∷ more) = calls_no_value more
 calls_no_value (Made (word.Uip function) argument ∷ more) = calls_no_value more
 calls_no_value (Made (word.Value spelling) argument ∷ more) = false
 
--- Then no text is empty.
-abbrev pub UipIsNeverEmpty : Type 0
-UipIsNeverEmpty = (files : List File) (pieces : List (ScriptPiece Word)) → calls_no_value pieces ≡ true → NeverEmpty words files pieces
+-- Then it holds as well.
+abbrev pub PagesWithoutValues : Type 0
+PagesWithoutValues = (pieces : List (ScriptPiece Word)) → calls_no_value pieces ≡ true → text_follows_values pieces ≡ true
 
--- The reply to a decided request needs at most this many segments, if no call of its page has an empty text, however the request is split.
+-- The reply to a decided request needs at most this many segments, if text follows each value of its page, however the request is split.
 -- While it is received the application is polled at most nineteen times.
 abbrev pub ValuePagesAnswer : Type 0
 ValuePagesAnswer =
-    (files : List File) (request : List ℕ) → wanted request ≢ NotYet → NeverEmpty words files (answer_pieces words files (wanted request))
-    → (mss : ℕ) → 0 < mss → mss ≤ 1460
+    (files : List File) (request : List ℕ) → wanted request ≢ NotYet
+    → text_follows_values (answer_pieces words files (wanted request)) ≡ true → (mss : ℕ) → 0 < mss → mss ≤ 1460
     → (fine : ℕ → AppState → Bool) × ((left : AppState → ℕ)
     × AnswersPolled (value_spec files) request mss fine left (texts_by words mss (answer_pieces words files (wanted request))) 19)
 
 -- The calls of a device that serves a site, one of whose results is `conforms`, bring a peer its page over a lossy link. Its request is
--- decided, and is received whole before any slot is called twenty times. No call of its page has an empty text.
+-- decided, and is received whole before any slot is called twenty times. Text follows each value of its page.
 abbrev pub WebCallsArrive : Type 0
 WebCallsArrive =
     (files : List File) (served : ℕ → Bool) (own : Addr) (all : List Answered) (lefts : List (List ℕ))
     → (conforms : CallsConform (value_spec files) (value_pages files) served own all lefts) → (a : Asker) (p : Sockets)
-    → wanted a.request ≢ NotYet → NeverEmpty words files (answer_pieces words files (wanted a.request)) → (incarnation : List TraceEntry)
+    → wanted a.request ≢ NotYet → text_follows_values (answer_pieces words files (wanted a.request)) ≡ true → (incarnation : List TraceEntry)
     → AsksOverLoss a p 19 (flat_map (λ it. it.turns) conforms.moves) incarnation
     → texts_by words a.mss (answer_pieces words files (wanted a.request)) < bare_acks (fresh a (exchanges_with p incarnation))
     → Arrives (value_pages files) a (exchanges_with p incarnation)

@@ -1,6 +1,6 @@
 //! The laws of any sequence of moves: calls, and values that are set between them.
 
-ghost use Rattle.uip_device.specs.Answering.{UipIsNeverEmpty, ValuePagesAnswer, WebCallsArrive};
+ghost use Rattle.uip_device.specs.Answering.{PagesWithoutValues, ValuePagesAnswer, WebCallsArrive};
 ghost use Rattle.std.specs.Prelude.{◌≡◌, ◌++◌, []};
 ghost use Rattle.uip_node.specs.Prelude.{initial_node};
 ghost use Rattle.serve_loop.specs.Prelude.{IsNode};
@@ -34,13 +34,13 @@ pub fn line_is_served<A: App>()
     ensures { EveryLineIsServed A.App }
 {}
 
-/// The pages of a device answer a decided request in a number of segments that its pieces give, if no call of the page has an empty text.
+/// The pages of a device answer a decided request in a number of segments that its pieces give, if text follows each value of the page.
 pub fn value_pages_answer()
     ensures answers { ValuePagesAnswer }
-    ensures uip { UipIsNeverEmpty }
+    ensures none { PagesWithoutValues }
 {}
 
-/// A peer of a device that serves a site has its page over a lossy link, if no call of the page has an empty text.
+/// A peer of a device that serves a site has its page over a lossy link, if text follows each value of the page.
 pub fn web_calls_arrive()
     ensures { WebCallsArrive }
 {}
