@@ -6,6 +6,7 @@ use Rattle.dns_message.specs.declared.answer.Answer.{Answer}
 use Rattle.dns_message.specs.declared.query.Asking.{Asking}
 use Rattle.rexmit_timer.specs.Prelude.{give_up_age}
 use Rattle.rexmit_timer.specs.declared.timer.TheConstants.{TEXT_LIMIT}
+use Rattle.uip_wire.specs.declared.addr.Addr.{Addr}
 use Rattle.udp_resolver.specs.LineEvents.{LineEvent, MediumInput, Silence}
 use Rattle.udp_resolver.specs.declared.fate.Fate.{Fate}
 use Rattle.udp_resolver.specs.declared.fate.Fate.TheVariants.{Answered, Open, Timeout}
@@ -24,6 +25,10 @@ next_asking asking = record asking { id = (asking.id + 1) % 65536 }
 abbrev pub questions : Asking → List (List ℕ) → List Question
 questions asking [] = []
 questions asking (text ∷ names) = record { asking = asking; text = text } ∷ questions (next_asking asking) names
+
+-- The questions of a host for names at a server, the first with this id.
+abbrev pub questions_of : Addr → Addr → ℕ → List (List ℕ) → List Question
+questions_of own server id names = questions (record { own = own; server = server; id = id }) names
 
 -- The number of silences.
 abbrev pub silences : List LineEvent → ℕ

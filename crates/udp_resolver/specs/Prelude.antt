@@ -2,7 +2,7 @@
 pub use Rattle.udp_resolver.specs.Asked.{asked_at, last_ident, line_text, next_ident, open_ones, queries, query_texts}
 pub use Rattle.udp_resolver.specs.ConstantValues.{ConstantValues}
 pub use Rattle.udp_resolver.specs.Fates.{Question, all_settled, answer_among, before_silence, fate_by, fate_of, first_answer}
-pub use Rattle.udp_resolver.specs.Fates.{is_given_up, is_settled, last_silence, next_asking, questions, silences}
+pub use Rattle.udp_resolver.specs.Fates.{is_given_up, is_settled, last_silence, next_asking, questions, questions_of, silences}
 pub use Rattle.udp_resolver.specs.FromLine.{EventsAreOfLine, came_in, carried_by, silent_items}
 pub use Rattle.udp_resolver.specs.LineEvents.{LineEvent, MediumInput, Silence, by_frame, events, received_after}
 pub use Rattle.udp_resolver.specs.Lines.{fate_text, line_of, lines}

@@ -1,7 +1,7 @@
 //! Resolves names over a line.
 
 ghost use Rattle.std.specs.Prelude.{◌≡◌, length};
-ghost use Rattle.udp_resolver.specs.Prelude.{questions, Resolves, streams};
+ghost use Rattle.udp_resolver.specs.Prelude.{questions_of, Resolves, streams};
 
 use crate::MOST_NAMES;
 use crate::lines::report_all;
@@ -28,7 +28,7 @@ pub fn resolve<L: Link, K: Sink, T: Sink>(
     items: u64,
 ) -> ServeEnd
     requires { length packet.old.area ≡ LARGEST_DATAGRAM }
-    ensures resolves { Resolves (questions (record { own = own; server = server; id = id }) names.now.items) items
+    ensures resolves { Resolves (questions_of own server id names.now.items) items
         (streams L.Link K.Sink T.Sink link.old out.old tell.old)
         (streams L.Link K.Sink T.Sink link.new out.new tell.new) result }
     ensures area { length packet.new.area ≡ LARGEST_DATAGRAM }
