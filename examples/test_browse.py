@@ -78,6 +78,29 @@ def lines(trial):
     trial.see(taken == 20000, f"a line takes 20,000 writes of one byte: {taken}")
 
 
+def hasty_lines(trial):
+    """What is unread for too long is lost, but for the time in which the board waited for a processor."""
+    near, far = browse.stream_pair()
+    own = far.dup()
+    line = browse.HastyLine(near.detach(), browse.Slip(), 115200, far.detach(), os.getpid())
+    line.is_heard = True
+    line.start -= 1
+
+    def waiting_after(seconds, held_up):
+        """How many bytes wait at the other end after this time, of which the board was held up for a part."""
+        with unittest.mock.patch.object(browse.time, "monotonic", return_value=line.start + 1 + seconds), \
+                unittest.mock.patch.object(browse, "held_up", return_value=held_up):
+            line.beat()
+            time.sleep(0.05)
+            return line.unread()
+
+    line.put(b"12345")
+    found = [waiting_after(*it) for it in ((0, 0), (0.2, 0), (1, 0.8), (1.2, 0.96), (1.3, 0.96))]
+    trial.see(found == [7, 7, 7, 7, 0] and line.lost == 7, f"a line that does not wait: {found}, {line.lost} lost")
+    own.close()
+    trial.see(0 <= browse.held_up(os.getpid()) < time.clock_gettime(time.CLOCK_BOOTTIME), "the time for which this process was held up")
+
+
 def faults(trial):
     """Each fault alone at 100 %, and their shares of many datagrams."""
     one, two = b"\0\0", b"\1\1"
@@ -241,7 +264,7 @@ def runs_elsewhere(trial, room):
 
 def main():
     trial = Trial()
-    for part in (framing, lines, faults, words, addresses, statuses):
+    for part in (framing, lines, hasty_lines, faults, words, addresses, statuses):
         part(trial)
     if shutil.which("ip") and shutil.which("curl") and os.access("/dev/net/tun", os.W_OK):
         with tempfile.TemporaryDirectory() as room:
