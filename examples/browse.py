@@ -22,7 +22,7 @@ privilege. In the second form the node is a board: the command starts qemu (`qem
     --machine WORDS      with --board: the command of another machine, in one word; {} in it represents FIRMWARE
     --qemu WORDS         further words for qemu; the variable QEMU may name its program
     --baud RATE          the board's line has RATE bits a second and does not wait: a byte that the board has not read within a
-                         quarter of a second is lost, without the time for which qemu waited for a processor of this machine.
+                         quarter of a second is lost. Time for which qemu or this script waited for a processor does not count.
                          The script prints the number of lost bytes at the end
     --memory FILE        writes 64 kB of the board's memory to FILE at the end
     --memory-at ADDRESS  the address of that memory (0x40000000)
@@ -178,7 +178,7 @@ class HastyLine(Line):
         return int.from_bytes(fcntl.ioctl(self.other, termios.FIONREAD, bytes(4)), sys.byteorder)
 
     def beat(self):
-        now = time.monotonic() - held_up(self.board)
+        now = time.monotonic() - held_up(self.board, os.getpid())
         while self.marks and self.marks[0][0] < now - PATIENCE:
             due = self.marks.pop(0)[1]
             late = min(due - self.written + self.unread(), self.unread())
@@ -193,10 +193,10 @@ class HastyLine(Line):
             self.marks.append((now, self.written))
 
 
-def held_up(process):
-    """For how many seconds the threads of a process were ready, but waited for a processor; 0 if Linux does not tell."""
+def held_up(*processes):
+    """For how many seconds the threads of these processes were ready, but waited for a processor; 0 if Linux does not tell."""
     waited = 0
-    for path in glob.glob(f"/proc/{process}/task/*/schedstat"):
+    for path in (path for process in processes for path in glob.glob(f"/proc/{process}/task/*/schedstat")):
         with contextlib.suppress(OSError), open(path) as file:
             waited += int(file.read().split()[1])
     return waited / 1e9

@@ -10,6 +10,7 @@ import io
 import os
 import re
 import shutil
+import signal
 import stat
 import struct
 import subprocess
@@ -52,14 +53,26 @@ def framing(trial):
     trial.see([frames.feed(it) for it in (b"\0\0\0\3ab", b"c\0\0")] == [[], [b"abc"]], "the frames of qemu's network")
 
 
+def end_waiting(*_):
+    raise TimeoutError
+
+
 def lines(trial):
     """A line whose other end reads nothing does not block, and loses nothing; and one-byte writes fill it only after many."""
+    signal.signal(signal.SIGALRM, end_waiting)
     near, far = browse.stream_pair()
     line = browse.Line(near.detach(), browse.Slip(), 4000000, False)
     data = bytes(range(1, 101)) * 10000
     line.put(data)
     line.start -= 1
-    line.beat()
+    signal.alarm(10)    # ends a beat that waits
+    try:
+        line.beat()
+    except TimeoutError:
+        trial.see(False, "a line that is not read blocks")
+        return
+    finally:
+        signal.alarm(0)
     trial.see(len(line.untaken) > len(data) / 2, f"of a million bytes a line that is not read takes some: {len(line.untaken)} wait")
     got = b""
     far.settimeout(5)
