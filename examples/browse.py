@@ -194,7 +194,7 @@ class HastyLine(Line):
 
 
 def held_up(*processes):
-    """For how many seconds the threads of these processes were ready, but waited for a processor; 0 if Linux does not tell."""
+    """For how many seconds the threads of these processes were ready, but waited for a processor; 0 if Linux does not count it."""
     waited = 0
     for path in (path for process in processes for path in glob.glob(f"/proc/{process}/task/*/schedstat")):
         with contextlib.suppress(OSError), open(path) as file:
