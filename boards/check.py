@@ -22,7 +22,8 @@ sys.path.insert(0, EXAMPLES)
 import fetch  # noqa: E402
 
 NODE = fetch.SERVER[0]
-FLOOD, FLOOD_LEN, FIRST_OF_FLOOD = 30, 1400, 1000
+FLOOD, FLOOD_LEN = 30, 1400
+FIRST_AT_START, FIRST_OF_FLOOD = 100, 1000    # numbers of requests; those of the pings begin at 0
 ECHO_REPLY, ECHO = 0, 8
 DAMAGED = (3, 4, 6, 8, 14, 17, 18)    # the counters of uip.h that grow if a byte of a datagram was lost
 TICKS_FOR = 5                         # seconds
@@ -54,6 +55,11 @@ def is_answered(link, number, length, patience=40):
         if packet[20] == ECHO_REPLY and struct.unpack_from(">H", packet, 26)[0] == number:
             return True
     return False
+
+
+def starts(link, patience=40):
+    """Whether the node answers within these seconds. What comes before its port is open is lost, so a request is sent each second."""
+    return any(is_answered(link, FIRST_AT_START + number, 56, 1) for number in range(patience))
 
 
 def pings(link, count=10):
@@ -92,7 +98,7 @@ class Trial:
 
 
 def try_alone(trial, folder, link):
-    answered = pings(link)
+    answered = pings(link) if starts(link) else 0
     trial.see(answered == 10, f"{answered} of 10 pings")
     good, count = files(folder)
     trial.see(good == count, f"{good} of {count} pages")
@@ -124,12 +130,15 @@ def main():
         sys.exit(__doc__)
     folder = words[0] if words else os.path.join(EXAMPLES, "site")
     trial = Trial()
-    if "--two" in sys.argv:
-        try_two(trial, folder)
-    else:
-        with socket.socket(socket.AF_INET, socket.SOCK_RAW, socket.IPPROTO_ICMP) as link:
-            link.setsockopt(socket.SOL_SOCKET, socket.SO_SNDBUF, 1 << 20)
-            try_alone(trial, folder, link)
+    try:
+        if "--two" in sys.argv:
+            try_two(trial, folder)
+        else:
+            with socket.socket(socket.AF_INET, socket.SOCK_RAW, socket.IPPROTO_ICMP) as link:
+                link.setsockopt(socket.SOL_SOCKET, socket.SO_SNDBUF, 1 << 20)
+                try_alone(trial, folder, link)
+    except OSError as error:
+        trial.see(False, f"a connection failed: {error}")
     sys.exit(0 if trial.is_good else 1)
 
 

@@ -1,13 +1,17 @@
 #!/bin/sh
 # Runs the firmware of each board under qemu, with Linux's TCP at the other end of its port: pings, every file, the rate of the ticks, a flood,
-# and two clients at once at 115,200 bits a second (check.py). A board of which this qemu has no model is only built. Without words it also tries
-# the demo of the micro:bit, and that the linker refuses a firmware that does not fit.
+# and two clients at once at 115,200 bits a second (check.py). A board of which this qemu has no model is only built.
 #
-#     sh boards/test.sh [BOARD ..]       BOARD-ether is that board on Ethernet
+#     sh boards/test.sh [NAME ..]        all, or these: BOARD; BOARD-ether, that board on Ethernet; or one of
+#
+#         full      a flood with a ring that is full at once: the port of mps2-an386 is then not deaf
+#         data      the start code gives variables their initial values
+#         small     the linker refuses a firmware that does not fit
+#         demo      the demo of the micro:bit
 #
 # Needs what the Makefile needs, qemu-system-arm or qemu-system-misc (riscv32), `ip` and /dev/net/tun. QEMU names another qemu, and WORDS has further
-# words for make.
-case "$1" in -h|--help) sed -n '2,9s/^# \{0,1\}//p' "$0"; exit 0;; esac
+# words for make. planted_test.py shows that these tests find what they are for.
+case "$1" in -h|--help) sed -n '2,14s/^# \{0,1\}//p' "$0"; exit 0;; esac
 here=$(cd "$(dirname "$0")" && pwd)
 wrong=0
 value() { sed -n "s/^$1=//p" "$here/$board/board.mk"; }
@@ -23,29 +27,39 @@ try() {
     found="$found$(echo "$told" | sed -n 's/^ok */; /p' | tr -d '\n')"
 }
 
-all=''
-[ $# -gt 0 ] || all=1
-# shellcheck disable=SC2046
-[ $# -gt 0 ] || set -- $(cd "$here" && for it in */board.mk */ether.c; do echo "$it"; done | sed 's|/board.mk||; s|/ether.c|-ether|' | sort)
-for name; do
+whole() {
     case "$name" in *-ether) board=${name%-ether} loop=LOOP=ether;; *) board=$name loop='';; esac
-    [ -f "$here/$board/board.mk" ] || { fail "no board $board"; continue; }
+    [ -f "$here/$board/board.mk" ] || { fail "no board $board"; return; }
     machine=$(value MACHINE)
     qemu=${QEMU:-qemu-system-$(value PROCESSOR)}
     if [ -z "$machine" ] || ! "$qemu" -M help 2>/dev/null | grep -q "^${machine%%,*} "; then
         if told=$(make_it); then echo "built: $name: $qemu has no model of it"; else fail "$name is not built: $told"; fi
-        continue
+        return
     fi
     found=''
     try "" && { [ -n "$loop" ] || try --two BAUD=115200; } && echo "passed: $name: ${found#; }"
-done
-# The linker refuses what a small part has no room for.
+}
+
+# With the loop that waits, each of the flood's replies fills a ring of 64 bytes, so the port's interrupt is turned off and on.
+full() {
+    board=mps2-an386 loop=LOOP=waits found=''
+    try "" RING=64 out="$here/out/full" && echo "passed: $name: ${found#; }"
+}
+
+data() {
+    board=microbit loop=''
+    if told=$(make_it run PAGES="$here/data_test.c" out="$here/out/data"); then echo "passed: variables have their initial values"
+    else fail "$name: variables without their initial values: $(echo "$told" | tail -3)"; fi
+}
+
 small() {
-    if make -s -C "$here" BOARD=stm32vldiscovery RING=2048 "out=$here/out/small" >/dev/null 2>&1; then fail "the linker took more memory than there is"
+    board=stm32vldiscovery loop=''
+    if ! told=$(make_it out="$here/out/small"); then fail "$name: $told"
+    elif make_it RING=2048 out="$here/out/small" >/dev/null; then fail "$name: the linker took more memory than there is"
     else echo "passed: the linker refuses a ring of 2,048 bytes in 8 kB"; fi
 }
 
-# The demo of the micro:bit: its buttons are pressed, its page and its matrix are looked at.
+# Its buttons are pressed, its page and its matrix are looked at.
 demo() {
     sockets=$(mktemp -d)
     told=$(make -s -C "$here" BOARD=microbit DEMO=1 run TRY="python3 $here/microbit/try_demo.py $sockets/qtest $sockets/monitor" \
@@ -55,5 +69,9 @@ demo() {
     if [ $result = 0 ]; then echo "passed: the demo of the micro:bit"; else fail "the demo of the micro:bit: $(echo "$told" | grep -v '^ok' | tail -3)"; fi
 }
 
-[ -z "$all" ] || { small; demo; }
+# shellcheck disable=SC2046
+[ $# -gt 0 ] || set -- $(cd "$here" && for it in */board.mk */ether.c; do echo "$it"; done | sed 's|/board.mk||; s|/ether.c|-ether|' | sort) full data small demo
+for name; do
+    case "$name" in full|data|small|demo) $name;; *) whole;; esac
+done
 exit $wrong

@@ -22,7 +22,8 @@ privilege. In the second form the node is a board: the command starts qemu (`qem
     --machine WORDS      with --board: the command of another machine, in one word; {} in it represents FIRMWARE
     --qemu WORDS         further words for qemu; the variable QEMU may name its program
     --baud RATE          the board's line has RATE bits a second and does not wait: a byte that the board has not read within a
-                         quarter of a second is lost. The script prints the number of lost bytes at the end
+                         quarter of a second is lost. Time for which qemu or this script waited for a processor does not count.
+                         The script prints the number of lost bytes at the end
     --memory FILE        writes 64 kB of the board's memory to FILE at the end
     --memory-at ADDRESS  the address of that memory (0x40000000)
 
@@ -41,6 +42,7 @@ import contextlib
 import ctypes
 import errno
 import fcntl
+import glob
 import ipaddress
 import os
 import random
@@ -164,18 +166,19 @@ class Line:
 
 
 class HastyLine(Line):
-    """A line that does not wait once its other end has sent something: what is unread there for too long is lost, the oldest first."""
+    """A line that does not wait once its other end has sent something: what is unread there for too long is lost, the oldest first. `board` is
+    the process at that end."""
 
-    def __init__(self, descriptor, form, rate, other):
+    def __init__(self, descriptor, form, rate, other, board):
         super().__init__(descriptor, form, rate, False)
-        self.other = socket.socket(fileno=other)
+        self.other, self.board = socket.socket(fileno=other), board
         self.lost, self.written, self.marks = 0, 0, []
 
     def unread(self):
         return int.from_bytes(fcntl.ioctl(self.other, termios.FIONREAD, bytes(4)), sys.byteorder)
 
     def beat(self):
-        now = time.monotonic()
+        now = time.monotonic() - held_up(self.board, os.getpid())
         while self.marks and self.marks[0][0] < now - PATIENCE:
             due = self.marks.pop(0)[1]
             late = min(due - self.written + self.unread(), self.unread())
@@ -188,6 +191,15 @@ class HastyLine(Line):
         if taken > 0:
             self.written += taken
             self.marks.append((now, self.written))
+
+
+def held_up(*processes):
+    """For how many seconds the threads of these processes were ready, but waited for a processor; 0 if Linux does not count it."""
+    waited = 0
+    for path in (path for process in processes for path in glob.glob(f"/proc/{process}/task/*/schedstat")):
+        with contextlib.suppress(OSError), open(path) as file:
+            waited += int(file.read().split()[1])
+    return waited / 1e9
 
 
 class Faults:
@@ -603,7 +615,7 @@ class Node:
         form = Frames(4 if words.is_board else 2) if words.ether else Slip()
         if words.is_board and words.baud:
             self.server, to_node, other, self.monitor = emulate(words.board, words.qemu, words.machine or MACHINE)
-            self.output, self.line = to_node, HastyLine(to_node, form, words.rate(), other)
+            self.output, self.line = to_node, HastyLine(to_node, form, words.rate(), other, self.server.pid)
             return
         if words.is_board:
             self.server, to_node, self.monitor = start_board(words.board, words.qemu, words.machine or MACHINE, words.ether)

@@ -10,6 +10,7 @@ import io
 import os
 import re
 import shutil
+import signal
 import stat
 import struct
 import subprocess
@@ -52,14 +53,26 @@ def framing(trial):
     trial.see([frames.feed(it) for it in (b"\0\0\0\3ab", b"c\0\0")] == [[], [b"abc"]], "the frames of qemu's network")
 
 
+def end_waiting(*_):
+    raise TimeoutError
+
+
 def lines(trial):
     """A line whose other end reads nothing does not block, and loses nothing; and one-byte writes fill it only after many."""
+    signal.signal(signal.SIGALRM, end_waiting)
     near, far = browse.stream_pair()
     line = browse.Line(near.detach(), browse.Slip(), 4000000, False)
     data = bytes(range(1, 101)) * 10000
     line.put(data)
     line.start -= 1
-    line.beat()
+    signal.alarm(10)    # ends a beat that waits
+    try:
+        line.beat()
+    except TimeoutError:
+        trial.see(False, "a line that is not read blocks")
+        return
+    finally:
+        signal.alarm(0)
     trial.see(len(line.untaken) > len(data) / 2, f"of a million bytes a line that is not read takes some: {len(line.untaken)} wait")
     got = b""
     far.settimeout(5)
@@ -76,6 +89,29 @@ def lines(trial):
     except BlockingIOError:
         pass
     trial.see(taken == 20000, f"a line takes 20,000 writes of one byte: {taken}")
+
+
+def hasty_lines(trial):
+    """What is unread for too long is lost, but for the time in which the board waited for a processor."""
+    near, far = browse.stream_pair()
+    own = far.dup()
+    line = browse.HastyLine(near.detach(), browse.Slip(), 115200, far.detach(), os.getpid())
+    line.is_heard = True
+    line.start -= 1
+
+    def waiting_after(seconds, held_up):
+        """How many bytes wait at the other end after this time, of which the board was held up for a part."""
+        with unittest.mock.patch.object(browse.time, "monotonic", return_value=line.start + 1 + seconds), \
+                unittest.mock.patch.object(browse, "held_up", return_value=held_up):
+            line.beat()
+            time.sleep(0.05)
+            return line.unread()
+
+    line.put(b"12345")
+    found = [waiting_after(*it) for it in ((0, 0), (0.2, 0), (1, 0.8), (1.2, 0.96), (1.3, 0.96))]
+    trial.see(found == [7, 7, 7, 7, 0] and line.lost == 7, f"a line that does not wait: {found}, {line.lost} lost")
+    own.close()
+    trial.see(0 <= browse.held_up(os.getpid()) < time.clock_gettime(time.CLOCK_BOOTTIME), "the time for which this process was held up")
 
 
 def faults(trial):
@@ -241,7 +277,7 @@ def runs_elsewhere(trial, room):
 
 def main():
     trial = Trial()
-    for part in (framing, lines, faults, words, addresses, statuses):
+    for part in (framing, lines, hasty_lines, faults, words, addresses, statuses):
         part(trial)
     if shutil.which("ip") and shutil.which("curl") and os.access("/dev/net/tun", os.W_OK):
         with tempfile.TemporaryDirectory() as room:

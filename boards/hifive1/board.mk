@@ -6,4 +6,4 @@ RAM_LEN=16K
 RING=6400
 PROCESSOR=riscv32
 MACHINE=sifive_e,revb=true
-MODEL_WORDS=-DMTIME=10000000
+MODEL_WORDS=$(if $(filter 7.%,$(qemu_version)),-DMTIME=10000000)
