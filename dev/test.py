@@ -73,6 +73,14 @@ elif sys.argv[1] == "ci":
         subprocess.run([sys.executable, "-c", busy, "check", "--crate-name", *words], cwd=place)
     print("2 passed, 1 failed")
     sys.exit(7)
+elif sys.argv[1] == "fmt":
+    with open("proofs/Long.antt", encoding="utf8") as file:
+        text = file.read()
+    with open("proofs/Long.antt", "w", encoding="utf8") as file:
+        file.write(text.replace("this_is_lost ", ""))
+    if "this_is_refused" in text:
+        print("no layout")
+        sys.exit(2)
 """
 
 
@@ -225,6 +233,38 @@ def shape(trial):
     trial.write("crates/low/src/low.rt", FILES["crates/low/src/low.rt"])
 
 
+LONG = """-- A comment is never broken, however long it is: its words would be read as others. It has more than one hundred and sixty columns, as this one.
+use A.B.{{{0}}}
+f : (first second third : List ℕ) (number : ℕ) → IsInOrder first second → IsInOrder second third → length first + length second ≡ number → IsInOrder first third ⊎ Empty
+f first second third number = elim (compare number (length first + length second + length third)) as (λ b. IsInOrder first third) [ zero ↦ absurd (wrong {1}) | suc n ↦ right n ]
+"""
+SHORT = """-- A comment is never broken, however long it is: its words would be read as others. It has more than one hundred and sixty columns, as this one.
+use A.B.{{{0}}}
+use A.B.{{{2}}}
+f : (first second third : List ℕ) (number : ℕ) → IsInOrder first second → IsInOrder second third → length first + length second ≡ number
+    → IsInOrder first third ⊎ Empty
+f first second third number = elim (compare number (length first + length second + length third)) as (λ b. IsInOrder first third) [
+    zero ↦ absurd (wrong {1}) | suc n ↦ right n ]
+"""
+
+
+def folds(trial):
+    """Long lines of proofs: where they are broken, and that a file is put back if its words change or rt fmt refuses it."""
+    path = os.path.join(trial.room, "crates/low/proofs/Long.antt")
+    names = [f"name_{n}" for n in range(10, 36)]
+    for word, result in (("h", "1 files folded, 0 lines"), ("this_is_lost h", "put back, since its words differ: crates/low/proofs/Long.antt"),
+                         ("this_is_refused h", "low: put back, since rt fmt failed: no layout")):
+        text = LONG.format(", ".join(names), word)
+        trial.write("crates/low/proofs/Long.antt", text)
+        out = trial.run("fold", "low")[1]
+        with open(path, encoding="utf8") as file:
+            now = file.read()
+        wanted = SHORT.format(", ".join(names[:14]), word, ", ".join(names[14:])) if word == "h" else text
+        trial.see(result in out and now == wanted, f"fold with {word}: {out}{now}")
+    trial.see("crates.txt has no crate none" in trial.run("fold", "none")[2], "fold of a crate that is not listed")
+    shutil.rmtree(os.path.dirname(path))
+
+
 def further(trial):
     trial.see("the kit here is rattle-kit-13x" in trial.run("docs")[1], "a kit that is not named")
     trial.write("CONTRIBUTING.md", TABLE.replace("13y", "13x"))
@@ -239,7 +279,7 @@ def further(trial):
 def main():
     with tempfile.TemporaryDirectory() as room:
         trial = Trial(room)
-        for part in (words, tags, calls, documents, gate, shape, further):
+        for part in (words, tags, calls, documents, gate, shape, folds, further):
             part(trial)
     print(f"dev.py: {trial.count} expectations, {trial.failed} failed")
     sys.exit(1 if trial.failed else 0)
