@@ -7,7 +7,7 @@
     python3 dev.py layers             the layers of crates.txt with their crates, the seconds of their last check, and the longest chain
     python3 dev.py docs               compares the documents with the sources: status 1 if they differ
     python3 dev.py wrap PAGE ..       wraps the prose of Markdown pages at 100 columns, but no code, table or generated list
-    python3 dev.py fold CRATE ..      breaks lines of over 160 columns in the crates' proofs, and imports of over 140, as `rt fmt` lays them out
+    python3 dev.py fold CRATE ..      breaks lines of over 160 columns in the crates' proofs, and imports of over 140
     python3 dev.py words [write]      counts words that the prose is losing: status 1 if a count has risen; `write` stores the counts
     python3 dev.py words at COMMIT    the sums at a commit; words in PLACE: the lines of a page or crate that have one of the words
     python3 dev.py counts             lines of imports, and clauses of over 200 characters; `docs` fails if they are above their limits

@@ -1,9 +1,9 @@
 """Breaks the lines of a crate's proofs that are too long to read: `dev.py fold CRATE ..`.
 
-A line of imports becomes several of the same module. In a term a line ends before an arrow or an operator, before an argument, or after `in`,
-`;` or `↦`: where the fewest brackets are open, and as near the edge as that allows. `rt fmt` then indents the parts, and gives each field and
-each case a line if one of them is broken. Both are repeated until no line is too long or none gets shorter. Only spaces and line ends change,
-besides the repeated words of an import; `fold` compares the words, and puts a file back if they differ.
+A line of imports becomes several of the same module. In a term a line ends before an arrow or an operator, before an argument, or after
+`in`, `;` or `↦`: where the fewest brackets are open, and as near the edge as that allows. `rt fmt` then indents the parts, and gives each
+field and each case a line if one of them is broken. Both are repeated until no line is too long or none gets shorter. Only spaces and
+line ends change, besides the repeated words of an import; `fold` compares the words, and puts a file back if they differ.
 """
 import os
 import re
