@@ -116,14 +116,15 @@ static void hear(const unsigned char *bytes, size_t len) {
     }
 }
 
-/* The bytes of an image. The device reads them in place, so they stay. */
+static unsigned char *image;                /* the device reads it in place, so it stays until the end */
+
+/* The bytes of an image. */
 static unsigned char *read_image(const char *path, size_t *len) {
     static unsigned char none[] = {'U', 'I', 'P', 'S', 'I', 'T', 'E', '1', 0, 0};
     struct stat about;
-    unsigned char *image = none;
     FILE *file;
     *len = sizeof none;
-    if (!strcmp(path, "-")) return image;
+    if (!strcmp(path, "-")) return none;
     file = fopen(path, "rb");
     if (!file || fstat(fileno(file), &about)) stop(NO_FILE, strerror(errno));
     *len = (size_t)about.st_size;
@@ -139,9 +140,9 @@ static void open_site(const char *path, const char *address) {
     uip_opened opened;
     size_t len;
     char rest;
-    unsigned char *image = read_image(path, &len);
+    unsigned char *site = read_image(path, &len);
     if (sscanf(address, "%hhu.%hhu.%hhu.%hhu%c", own, own + 1, own + 2, own + 3, &rest) != 4) stop(BAD_WORDS, "ADDRESS is not as 10.0.0.1");
-    opened = uip_open(&device, image, len, own);
+    opened = uip_open(&device, site, len, own);
     if (opened.status == UIP_BAD_IMAGE) fprintf(stderr, "bad site %s %u\n", opened.word, opened.entry);
     if (opened.status != UIP_OK) stop(opened.status == UIP_BAD_IMAGE ? BAD_IMAGE : NO_MEMORY, "no device was opened");
 }
@@ -199,5 +200,7 @@ int main(int argc, char **argv) {
         else if (count == 0 || errno == EIO) break;                 /* EIO: the other end of a terminal was closed */
         else if (errno != EINTR && errno != EAGAIN) stop(BAD_READ, strerror(errno));
     }
-    return uip_close(&device) == UIP_OK ? 0 : BAD_READ;
+    if (uip_close(&device) != UIP_OK) return BAD_READ;
+    free(image);
+    return 0;
 }

@@ -1,7 +1,8 @@
 #!/usr/bin/env python3
 """Tests examples/serve.c, examples/ping.py and `make run`. It needs a C compiler and no kit.
 
-    python3 examples/test_serve.py [PROGRAM]      PROGRAM is a built examples/serve.c; out/uip, which make builds, if none is given
+    python3 examples/test_serve.py [PROGRAM]              PROGRAM is a built examples/serve.c; out/uip, which make builds, if none is given
+    python3 examples/test_serve.py --lines PROGRAM ..     the recorded lines alone, to each of these programs
 
 The replies on recorded lines are compared with those of the built `uipd` (UIPD names another one), or else, if node is here, with those
 of web/node.wasm.
@@ -96,8 +97,8 @@ def written(command, line):
         return subprocess.run(command, stdin=file, stdout=subprocess.PIPE, check=True).stdout
 
 
-def recorded(program, room):
-    """Every recorded line, to this program and to another."""
+def recorded(programs, room):
+    """Every recorded line, to these programs and to another."""
     def unpacked(name):
         path = os.path.join(room, os.path.basename(name)[:-3])
         with lzma.open(name) as packed, open(path, "wb") as file:
@@ -119,8 +120,9 @@ def recorded(program, room):
             subprocess.run(["node", "--input-type=module", "-e", BY_WASM, site, line, to, *more[1:]], cwd=TOP, check=True)
             with open(to, "rb") as file:
                 expected = file.read()
-        see(written(words(program, *more, site=site), line) == expected, f"other bytes for {os.path.basename(line)} {' '.join(more)}")
-    print(f"recorded lines: compared with {'uipd' if has_uipd else 'web/node.wasm'}")
+        for program in programs:
+            see(written(words(program, *more, site=site), line) == expected, f"{program}: other bytes for {os.path.basename(line)} {' '.join(more)}")
+    print(f"recorded lines: {len(lines + own)} compared with {'uipd' if has_uipd else 'web/node.wasm'}")
 
 
 # ---- lines that are open
@@ -235,16 +237,24 @@ def make_run():
 
 
 def main():
+    if sys.argv[1:2] == ["--lines"]:
+        with tempfile.TemporaryDirectory() as room:
+            recorded(sys.argv[2:], room)
+        end()
     program = sys.argv[1] if len(sys.argv) > 1 else os.path.join(TOP, "out/uip")
     if not os.access(program, os.X_OK):
         subprocess.run(["make", "-s", "out/uip"], cwd=TOP, check=True)
     with tempfile.TemporaryDirectory() as room:
         pings(program)
-        recorded(program, room)
+        recorded([program], room)
         on_terminals(program)
         ticks(program)
         statuses(program)
         make_run()
+    end()
+
+
+def end():
     print(f"serve.c, ping.py and make run: {counts['passed']} expectations met, {counts['failed']} not")
     sys.exit(1 if counts["failed"] else 0)
 

@@ -5,8 +5,9 @@
 #     sh ports/run.sh dist-compare                     makes it elsewhere, twice, and compares it with dist/ byte for byte
 #     sh ports/run.sh c same [CALLS [SEED [HOST ..]]]  makes CALLS random calls of the library for this machine, and the same with uip.c, by each
 #                                                      compiler and processor of hosts.sh (or these): none may differ
-#     sh ports/run.sh dist-test [MODULES [SEED]]       compiles it without a warning, and translates MODULES random modules (20) and those of
-#                                                      c_test/cases, which must then do what they do
+#     sh ports/run.sh dist-compilers [WORD ..]         tries it with each compiler that is here (compilers.sh); it needs no kit
+#     sh ports/run.sh dist-test [MODULES [SEED]]       translates MODULES random modules (20) and those of c_test/cases, which must then do what
+#                                                      they do
 #     sh ports/run.sh dist-planted [MODULES]           plants faults in the translation: at most MODULES random modules must find each
 #
 # SET=serial, app or both: another set of calls than that of uip.h (c same). SOURCE names another uip.c.
@@ -45,26 +46,6 @@ compare() {
         done
     done
     echo "dist/ is what ports/ makes of the modules"
-}
-
-# Each compiler that is here takes each set of calls without a warning.
-# shellcheck disable=SC2086
-warnings() {
-    words="-pedantic -Wall -Wextra -Wconversion -Werror -O2 -I$top/dist"
-    for set in "" -DUIP_NO_ETHERNET -DUIP_APP -DUIP_BOTH; do
-        for compiler in \
-            "gcc -std=c99" "i686-linux-gnu-gcc -std=c99" "clang -std=c99" "g++ -std=c++11 -x c++" "clang++ -std=c++11 -x c++" \
-            "tcc -Wall -Werror -I$top/dist"; do
-            command -v "${compiler%% *}" >/dev/null || continue
-            case "$compiler" in tcc*) more=;; *) more=$words;; esac
-            $compiler $more $set -c "$top/dist/uip.c" -o "$out/warnings.o" || fail "$compiler $set: a warning"
-            echo "no warning: $compiler $set"
-        done
-    done
-    if command -v cppcheck >/dev/null; then
-        cppcheck --quiet --error-exitcode=1 --enable=warning,portability -I"$top/dist" "$top/dist/uip.c" || fail "cppcheck has something to say"
-        echo "no warning: cppcheck"
-    fi
 }
 
 # built HOST: the program that makes the recorded calls again.
@@ -130,10 +111,11 @@ same_on_hosts() {
 case "$1" in
 dist) make_dist "$top/dist" && echo "$top/dist/uip.c: $(wc -c <"$top/dist/uip.c") bytes";;
 dist-compare) compare;;
-dist-test) mkdir -p "$out" && warnings && find_clang && exec python3 "$ports/c_test/run.py" "$out/tools/clang" "${2:-20}" "${3:-1}";;
+dist-compilers) shift; exec sh "$ports/compilers.sh" "$@";;
+dist-test) find_clang && exec python3 "$ports/c_test/run.py" "$out/tools/clang" "${2:-20}" "${3:-1}";;
 dist-planted) find_clang && exec python3 "$ports/c_test/planted.py" "$out/tools/clang" "${2:-20}";;
 c) [ "$2" = same ] || fail "no work $2 for c: sh ports/run.sh c same [CALLS [SEED [HOST ..]]]"
     shift 2
     same_on_hosts "$@";;
-*) sed -n '2,15s/^# \{0,1\}//p' "$0"; exit 2;;
+*) sed -n '2,16s/^# \{0,1\}//p' "$0"; exit 2;;
 esac
