@@ -1,5 +1,5 @@
 -- The names that the proofs of this crate cite: of std, of the crates below, and of its own definitions. Declares nothing.
-pub use Rattle.app_events.specs.Prelude.{AppSpec, IsAddr, IsByte, IsPaged, IsU32}
+pub use Rattle.app_events.specs.Prelude.{AppSpec, AppState, IsAddr, IsByte, IsPaged, IsU32}
 pub use Rattle.app_events.specs.declared.app.App.{Ghosts}
 unfoldable pub use Rattle.dns_message.specs.Names.{is_domain}
 pub use Rattle.ethernet_arp.proofs.ByteLaws.{ether_brings_bytes}
@@ -8,12 +8,15 @@ pub use Rattle.ethernet_arp.specs.declared.mac.Mac.{Mac}
 pub use Rattle.file_tree.specs.Prelude.{FailsToOpen, FindsInFiles, IsLoaded, KindContent, LacksFile, SiteContent, files_of, site_read}
 pub use Rattle.file_tree.specs.declared.load_fault.LoadFault.{LoadFault}
 pub use Rattle.line_medium.specs.Prelude.{MediumSpec}
-pub use Rattle.line_laws.proofs.Lines.{every_line}
+pub use Rattle.line_laws.proofs.Lines.{events_of_line, every_line, line_turns}
+pub use Rattle.line_laws.specs.Prelude.{events_among}
+pub use Rattle.link_replay.proofs.LossyPeers.{web_peers_arrive}
 pub use Rattle.link_replay.proofs.Undisturbed.{as_due}
-pub use Rattle.link_replay.specs.Prelude.{EndsWith, IsLoadText, IsReplayText, LacksEither, WroteDue}
+pub use Rattle.link_replay.specs.Prelude.{WebPeersArrive, EndsWith, IsLoadText, IsReplayText, LacksEither, WroteDue}
 pub use Rattle.link_replay.specs.declared.commands.replay_end.ReplayEnd.{ReplayEnd}
 pub use Rattle.node_laws.proofs.EveryTraceConforms.{paged_everywhere}
-pub use Rattle.node_laws.specs.Prelude.{HasOutputModel}
+pub use Rattle.node_laws.proofs.Paging.{ActsAs, acts_as_itself, anywhere}
+pub use Rattle.node_laws.specs.Prelude.{HasOutputModel, TraceEntry, trace_of}
 pub use Rattle.serve_loop.proofs.ByteLaws.{slip_brings_bytes}
 pub use Rattle.serve_loop.proofs.RunLaws.{output-append}
 pub use Rattle.serve_loop.specs.Prelude.{BringsBytes, IsItem, IsStationed, PrefixWritten, WrittenAtEnd, ServesOver, Station, StationEvent, any_acts, initial_station, output, output_by, output_of_event, slip_medium, station_after, station_after_all, station_events_of_line}
@@ -38,6 +41,8 @@ pub use Rattle.std.specs.Prelude.{◌&&◌, ◌⊎◌, bytes_eq, codes, IfOk, Is
 pub use Rattle.std.specs.Result.{OkIff, result_ok}
 pub use Rattle.std.specs.Str.Parse.{ParsesUnsigned, digits_value}
 pub use Rattle.telnet_shell.proofs.DeskLines.{speaks_on_lines}
+pub use Rattle.telnet_shell.proofs.TwoApplications.{two_applications}
+pub use Rattle.telnet_shell.specs.DeskPorts.{DoesAs}
 pub use Rattle.telnet_shell.specs.DeskSpec.{desk_spec, is_served_at}
 pub use Rattle.trace.specs.Prelude.{Converts, ReportsLine}
 pub use Rattle.trace.specs.declared.slip_end.SlipEnd.{SlipEnd}
@@ -47,6 +52,7 @@ pub use Rattle.uip_edge.proofs.Reported.{same_shelf}
 pub use Rattle.uip_edge.specs.Prelude.{BreaksOff, Files, LineUnfailed, LineView, Outside, Rose, WorkUnfailed, WorkView, WrittenBy, line_in, line_view, shelf_view, work_in}
 pub use Rattle.uip_edge.specs.declared.item.Item.{Item}
 pub use Rattle.uip_edge.specs.declared.serve_end.ServeEnd.{ServeEnd}
+pub use Rattle.uip_node.proofs.Basics.{eqb-eq}
 pub use Rattle.uip_node.proofs.DeliveredBytes.{page_bytes}
 pub use Rattle.uip_node.proofs.Steadiness.{steady_of}
 pub use Rattle.uip_node.specs.Prelude.{IsSteady, Node, Represents, SendsBytes, initial_node}

@@ -1,6 +1,6 @@
 -- Serving a site satisfies the guarantee.
 -- [add: line-kind] Kind of line: the guarantee over its medium.
-use Rattle.uipd.proofs.Prelude.{All, ℕ, List, Option, length, lit<, inl, inr, All-replicate, IsAddr, IsByte, IsPaged, IsU32, File, IsLoaded, SiteContent, files_of, pages_of, no_hits, web_spec, made_of_bytes, keeps_page_laws, Item, ServeEnd, WrittenBy, LineView, MediumSpec, BringsBytes, IsItem, output_by, slip_medium, slip_brings_bytes, ether_medium, ether_brings_bytes, every_line, HasOutputModel, SendsBytes, paged_everywhere, page_bytes, speaks_on_lines, IsSteady, steady_of, host_at, app_spec_of, output_over, ports_of, output_model_of, OutputConforms, RunsBy, ServeRuns, WritesKept, Status, Application, Web, Desk, LineKind, Ethernet, Serial, ServedLine}
+use Rattle.uipd.proofs.Prelude.{All, ℕ, List, Option, length, lit<, inl, inr, All-replicate, IsAddr, IsByte, IsPaged, IsU32, File, IsLoaded, SiteContent, files_of, pages_of, no_hits, web_spec, made_of_bytes, keeps_page_laws, Item, ServeEnd, WrittenBy, LineView, MediumSpec, BringsBytes, IsItem, output_by, slip_medium, station_events_of_line, slip_brings_bytes, ether_medium, ether_brings_bytes, every_line, HasOutputModel, SendsBytes, paged_everywhere, page_bytes, speaks_on_lines, IsSteady, steady_of, host_at, app_spec_of, output_over, ports_of, output_model_of, OutputConforms, RunsBy, ServeRuns, WritesKept, Status, Application, Web, Desk, LineKind, Ethernet, Serial, ServedLine, ◌≡◌, [], Bool, true, ap, ◌∙◌, sym, subst, ActsAs, AppState, DoesAs, TraceEntry, WebPeersArrive, acts_as_itself, anywhere, desk_spec, eqb-eq, events_among, events_of_line, initial_node, is_served, line_turns, trace_of, two_applications, web_peers_arrive}
 
 -- what is asked of an application on a line
 -- [add: application] A case for its ports and its output model.
@@ -8,6 +8,36 @@ record IsOnLines (application : Application) (files : List File) : Type 0 where
   steady : IsSteady (app_spec_of application files)
   bytes : SendsBytes (app_spec_of application files)
   speaks : HasOutputModel (app_spec_of application files) (output_model_of application files)
+
+-- the states in which it acts as the web server
+abbrev at_web : Application → AppState → Bool
+at_web Web = anywhere
+at_web Desk = λ q. is_served q.port
+
+module _ (files : List File) where
+  abbrev web_state : ℕ → AppState
+  web_state port = record { port = port; input = []; snapshots = []; acked = 0; polls = 0; own = 0 }
+
+  does_as_web : (q : AppState) → is_served q.port ≡ true → DoesAs (desk_spec files) (web_spec files) q
+  does_as_web q e = two_applications.web files q (eqb-eq q.port 80 e)
+
+  desk_acts : (port : ℕ) → is_served port ≡ true → ActsAs (desk_spec files) (web_spec files) port (at_web Desk)
+  desk_acts port e =
+      let stays = two_applications.port files in
+      record {
+        output = λ q h. (does_as_web q h).output;
+        connected = (does_as_web (web_state port) e).connected;
+        newdata = λ numbers q piece h. (does_as_web q h).newdata numbers piece;
+        prepare = λ numbers q now h. (does_as_web q h).prepare numbers now;
+        want = λ numbers q h. (does_as_web q h).want numbers;
+        acked = λ numbers q count h. (does_as_web q h).acked numbers count;
+        polled = λ numbers q h. (does_as_web q h).polled numbers;
+        stays_connected = λ numbers. ap is_served (stays.connected numbers port) ∙ e;
+        stays_newdata = λ numbers q piece h. ap is_served (stays.newdata numbers q piece) ∙ h;
+        stays_prepare = λ numbers q now h. ap is_served (stays.prepare numbers q now) ∙ h;
+        stays_acked = λ numbers q count h. ap is_served (stays.acked numbers q count) ∙ h;
+        stays_polled = λ numbers q h. ap is_served (stays.polled numbers q) ∙ h;
+      }
 
 module _ (site : SiteContent) (loaded : IsLoaded site) (image : All IsByte site.image) (line : ServedLine) (is : IsAddr line.own) where
   abbrev files : List File
@@ -23,6 +53,18 @@ module _ (site : SiteContent) (loaded : IsLoaded site) (image : All IsByte site.
       }
   on_lines Desk = (let s = speaks_on_lines site loaded image in record { steady = s.steady; bytes = s.bytes; speaks = s.speaks })
 
+  -- At port 80 each application acts as the web server.
+  acts_as_web : (application : Application) (port : ℕ) → is_served port ≡ true → ActsAs (app_spec_of application files) (web_spec files) port (at_web application)
+  acts_as_web Web port e = acts_as_itself (web_spec files) port
+  acts_as_web Desk port e = desk_acts files port e
+
+  arrives_on : {A : Type 0} (w : MediumSpec A) → BringsBytes w → (taken : List Item) → All IsItem taken
+      → WebPeersArrive is_served files (trace_of (app_spec_of line.application files) (ports_of line.application) (events_among (station_events_of_line w line.own line.limits.pace taken)) (initial_node line.own (no_hits files)))
+  arrives_on w decodes taken are =
+      web_peers_arrive site loaded (app_spec_of line.application files) (at_web line.application) (on_lines line.application).steady (ports_of line.application) line.own (no_hits files)
+      (All-replicate IsU32 (length files) 0 (lit< tt)) (events_among (station_events_of_line w line.own line.limits.pace taken)) (events_of_line w decodes line.own line.limits.pace taken are)
+      is_served (acts_as_web line.application)
+
   abbrev output_by_way : {A : Type 0} → MediumSpec A → List Item → List ℕ
   output_by_way w taken = output_by w (app_spec_of line.application files) (ports_of line.application) (no_hits files) line.own line.limits.pace taken
 
@@ -36,6 +78,10 @@ module _ (site : SiteContent) (loaded : IsLoaded site) (image : All IsByte site.
         keeps = every_line w decodes (app_spec_of line.application files) (output_model_of line.application files) s.steady s.bytes s.speaks
             (ports_of line.application) (no_hits files) (All-replicate IsU32 (length files) 0 (lit< tt)) line.own is line.limits.pace taken are;
         written = written;
+        arrives = subst (λ (turns : List TraceEntry). WebPeersArrive is_served files turns)
+            (sym (line_turns w decodes (app_spec_of line.application files) (output_model_of line.application files) s.steady s.bytes s.speaks
+            (ports_of line.application) (no_hits files) (All-replicate IsU32 (length files) 0 (lit< tt)) line.own is line.limits.pace taken are))
+            (arrives_on w decodes taken are);
       }
 
   kept_over : (kind : LineKind) (taken : List Item) → All IsItem taken → (end : ServeEnd) (a b : Option (List ℕ))

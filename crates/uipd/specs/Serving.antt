@@ -13,7 +13,8 @@ use Rattle.line_laws.specs.Prelude.{LineConformsRead}
 use Rattle.ethernet_arp.specs.Prelude.{ether_medium}
 use Rattle.uipd.specs.declared.status.Status.{Status}
 use Rattle.uipd.specs.declared.status.Status.TheVariants.{NoMemory}
-use Rattle.web_pages.specs.Prelude.{no_hits}
+use Rattle.web_pages.specs.Prelude.{is_served, no_hits}
+use Rattle.link_replay.specs.Prelude.{WebPeersArrive}
 use Rattle.uipd.specs.Output.{host_at, app_spec_of, output_over, ports_of, output_model_of}
 use Rattle.uipd.specs.declared.words.LineKind.{LineKind}
 use Rattle.uipd.specs.declared.words.LineKind.TheVariants.{Ethernet, Serial}
@@ -36,13 +37,14 @@ RunsBy m ports numbers line old new result =
     RunsAs status_of_serving (ServesBy m ports numbers line old new) result ⊎ ((result ≡ NoMemory) × (new ≡ old))
 
 -- What was written for the consumed items is the output of a line that conforms. The output model is that of the application with these
--- files. If a write failed, a prefix of that output was written.
+-- files. If a write failed, a prefix of that output was written. The pages at port 80 arrive, though the line loses datagrams.
 pub record WritesKept {A : Type 0} (w : MediumSpec A) (files : List File) (line : ServedLine) (taken : List Item)
     (end : ServeEnd) (old new : Option (List ℕ)) : Type 0 where
   pub output : List ℕ
   pub keeps : LineConformsRead w (output_model_of line.application files) (ports_of line.application) line.own
       (station_events_of_line w line.own line.limits.pace taken) output
   pub written : WrittenBy end old new output
+  pub arrives : WebPeersArrive is_served files keeps.line.turns
 
 -- The same for a line of this kind.
 abbrev pub OutputConforms : LineKind → List File → ServedLine → List Item → ServeEnd → Option (List ℕ) → Option (List ℕ) → Type 0
