@@ -20,6 +20,8 @@ mod lines;
 #[cfg(test)]
 mod loads;
 #[cfg(test)]
+mod losing;
+#[cfg(test)]
 mod node;
 #[cfg(test)]
 mod numbers;
