@@ -41,6 +41,14 @@ static const unsigned char arp_for_peer[] = ALL_HOSTS NODE ARP "\1" NODE "\x0a\0
 static const unsigned char far_frame[] = NODE ROUTER "\x08\0" FAR_REQUEST "\1", far_reply_frame[] = ROUTER NODE "\x08\0" FAR_REPLY "\1";
 static const unsigned char arp_for_router[] = ALL_HOSTS NODE ARP "\1" NODE "\x0a\0\0\1\0\0\0\0\0\0\x0a\0\0\xfe";
 static const unsigned char router_reply[] = NODE ROUTER ARP "\2" ROUTER "\x0a\0\0\xfe" NODE "\x0a\0\0\1";
+// A page that shows value 3, and one that shows value 4 right after it. A client's SYN, its request of the page, and its acknowledgement of
+// what is before the value (RFC 793).
+static const unsigned char one_value[] = "UIPSITE1\0\1\x08/v.shtml\0\0\0\x0e" "a=%! value 3\n!";
+static const unsigned char two_values[] = "UIPSITE1\0\1\x08/v.shtml\0\0\0\x19" "a=%! value 3\n%! value 4\n!";
+#define TCP_OF(LEN, SUM) "E\0\0" LEN "\0\1\0\0\x40\6\x66" SUM "\x0a\0\0\2\x0a\0\0\1\4\1\0\x50\0\0"
+static const unsigned char syn[] = TCP_OF("\x28", "\xcd") "\3\xe8\0\0\0\0\x50\2\x20\0\x73\xa7\0";
+static const unsigned char get[] = TCP_OF("\x41", "\xb4") "\3\xe9\0\0\0\1\x50\x18\x20\0\x6a\x32\0\0GET /v.shtml HTTP/1.0\r\n\r\n";
+static const unsigned char head_ack[] = TCP_OF("\x28", "\xcd") "\4\2\0\0\0\x53\x50\x10\x20\0\x73\x2c\0";
 static uip_device device = UIP_INIT;
 static unsigned char out[UIP_MAX_OUT];
 static int wrong;
@@ -227,6 +235,18 @@ static void on_ethernet(void) {
     expect(uip_close(&device) == UIP_OK && heap_blocks == 0 && device.is_open == 0, "uip_close on Ethernet");
 }
 
+// A page is requested while its values are empty. An empty value is passed over at once if text follows it (docs/PAGES.md), else at the
+// next tick.
+static void empty_values(const unsigned char *site, size_t len, size_t at_once, size_t at_tick) {
+    expect(uip_open(&device, site, len, own).status == UIP_OK, "uip_open with a value");
+    expect(is(uip_input(&device, syn, 40, out, sizeof out), UIP_OK, 40, 44), "a SYN");
+    expect(is(uip_input(&device, get, 65, out, sizeof out), UIP_OK, 65, 122), "a request of a page with an empty value");
+    expect(is(uip_input(&device, head_ack, 40, out, sizeof out), UIP_OK, 40, at_once), "what follows an empty value");
+    if (!at_once) expect(is(uip_periodic_datagram(&device, 0, out, sizeof out), UIP_OK, 0, at_tick), "what follows two empty values");
+    expect(out[40] == '!', "the text after an empty value");
+    expect(uip_close(&device) == UIP_OK && heap_blocks == 0, "uip_close with a value");
+}
+
 int main(void) {
     without_a_device();
     opening();
@@ -235,6 +255,8 @@ int main(void) {
     whole_lines();
     expect(uip_close(&device) == UIP_OK && heap_blocks == 0 && uip_close(&device) == UIP_NO_DEVICE, "uip_close");
     on_ethernet();
+    empty_values(one_value, sizeof one_value - 1, 41, 0);
+    empty_values(two_values, sizeof two_values - 1, 0, 41);
     expect(uip_open(&device, image, 10, own).status == UIP_OK, "uip_open again");
     expect(uip_close(&device) == UIP_OK && heap_blocks == 0, "uip_close again");
     if (!wrong) puts("each call has the expected result");
