@@ -11,7 +11,7 @@
 #include <string.h>
 #include "../../dist/uip.h"
 #ifndef UIP_HEAP_SIZE
-#define UIP_HEAP_SIZE UIP_MEMORY(2)
+#define UIP_HEAP_SIZE UIP_MEMORY_ETHER(2)
 #endif
 #include "../../dist/heap.c"
 
