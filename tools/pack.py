@@ -10,7 +10,8 @@ and folders whose name begins with a dot are left out. The names are sorted. If 
 fault is printed as `bad site WHY ENTRY`; the status is then 6. docs/FORMATS.md defines images and faults.
 
 A device knows the types of .html, .shtml, .txt, .css, .png, .gif and .jpg. With FOLDER other files get a type by their ending, as .js and
-.svg: --help lists them all. The case of its letters does not matter. A type on the command line has precedence. `list` gives none.
+.svg: --help lists them all. The case of its letters does not matter. A script that begins with { or [ is application/json. A type on the
+command line has precedence. `list` gives none.
 
 These mistakes are no faults, and a warning on standard error names each. The status stays 0.
 
@@ -153,6 +154,12 @@ def is_json_call(part):
     return words[:1] == [b"value-json"] and is_value_number(words[1:2])
 
 
+def json_start(content):
+    """The sign with which JSON begins, if the content does."""
+    start = content.lstrip()[:1]
+    return start if start in (b"{", b"[") else b""
+
+
 def type_warning(file):
     """The place and the text of what a script's page may do by its content type, or nothing."""
     media = file.content_type().split(b";")[0].strip().lower()
@@ -161,8 +168,8 @@ def type_warning(file):
     if calls and (b"html" in media or b"xml" in media):
         return [(calls[0], f"value-json leaves < as it is, and the type is {shown(media)}: a value that others set can run a script in the page; "
                            f"{cure}, or use value-html")]
-    start = file.content.lstrip()[:1]
-    if media == b"text/html" and start in (b"{", b"["):
+    start = json_start(file.content)
+    if media == b"text/html" and start:
         return [(file.content.find(start), f"{shown(start)} begins the page, which is probably JSON, and its type is text/html: {cure}")]
     return []
 
@@ -305,15 +312,18 @@ def write(path, files):
     print(f"{path}: {len(files)} files, an image of {len(image)} bytes")
 
 
-def folder_type(name):
-    """The type of its own that a file of a folder gets by the ending of its name, or an empty text if the library knows that ending."""
-    ending = os.path.splitext(name)[1]
+def folder_type(file):
+    """The type of its own that a file of a folder gets: JSON for a script that begins so, else by the ending of its name, or an empty text if
+    the library knows that ending."""
+    if file.is_script() and json_start(file.content):
+        return "application/json"
+    ending = os.path.splitext(os.fsdecode(file.name))[1]
     known = {} if ending in TYPES else {**TYPES, **TYPES_OF_FOLDERS}
     return known.get(ending.lower(), "") if ending.lower() != ".shtml" else ""
 
 
 def files_in(folder, words):
-    """The files of a folder with their types: that of a word /NAME=TYPE, or else by the ending of the name."""
+    """The files of a folder with their types: that of a word /NAME=TYPE, or else by folder_type."""
     if not os.path.isdir(folder):
         sys.exit(f"pack.py: no folder {folder}")
     kinds = dict(word.split("=", 1) for word in words if "=" in word)
@@ -323,8 +333,7 @@ def files_in(folder, words):
         sys.exit(f"pack.py: {unknown[0]} is not /NAME=TYPE of a file in {folder}")
     files = files_of((f"/{name}", os.path.join(folder, name)) for name in names)
     for file in files:
-        name = os.fsdecode(file.name)
-        file.kind = os.fsencode(kinds.get(name, folder_type(name)))
+        file.kind = os.fsencode(kinds.get(os.fsdecode(file.name), folder_type(file)))
     return files
 
 

@@ -141,14 +141,16 @@ FOLDER = {
     "a.bin": "", "js": "", "a.d/c": "", "A.SHTML": "", "js.gz": "",
     "own.js": "text/plain", "own.html": "text/html; charset=utf-8", "own.bin": "application/octet-stream",
     "own.shtml": "application/json", "none.js": "",
+    "list.shtml": "application/json", "object.shtml": "application/json", "no.txt": "", "html.shtml": "text/html", "late.shtml": "",
 }
 LIBRARY_TYPES = {b"/a.html": b"text/html", b"/a.shtml": b"text/html", b"/a.txt": b"text/plain", b"/a.css": b"text/css", b"/a.png": b"image/png",
                  b"/a.gif": b"image/gif", b"/a.jpg": b"image/jpeg", b"/a.js": b"application/octet-stream"}
 FOLDER_WORDS = ["/own.js=text/plain", "/own.html=text/html; charset=utf-8", "/own.bin=application/octet-stream", "/own.shtml=application/json",
-                "/none.js="]
-FOLDER_CONTENTS = {"a.shtml": "<p>%! value-json 0\n", "own.shtml": "{%! value-json 0\n}"}
+                "/none.js=", "/html.shtml=text/html"]
+FOLDER_CONTENTS = {"a.shtml": "<p>%! value-json 0\n", "own.shtml": "{%! value-json 0\n}", "list.shtml": "[%! value-json 0\n]", "object.shtml": " \n{}",
+                   "no.txt": "{}", "html.shtml": "[]", "late.shtml": "<p>{}"}
 FOLDER_WARNINGS = [("/A.SHTML:", "download"), ("/a.bin:", "download"), ("/a.d/c:", "download"), ("/a.shtml, line 1:", "value-html"),
-                   ("/js:", "download"), ("/js.gz:", "download"), ("/none.js:", "download")]
+                   ("/html.shtml, line 1:", "[ begins"), ("/js:", "download"), ("/js.gz:", "download"), ("/none.js:", "download")]
 SOURCES = [(b"UIPSITE1\0\0", 10, 0), (HELLO, 32, 1), (b"UIPSITE1\1\2" + b"".join(b"\4/%03d\0\0\0\0" % k for k in range(258)), 2332, 258)]
 
 
@@ -333,10 +335,12 @@ PLANTS = [    # a text of pack.py, and the text that replaces it
     ('(b".html", b".htm"))', '(b".html",))'), ('(b".html", b".htm"))', '(b"html", b".htm"))'), ("image[8:10]", "image[9:10]"),
     # types: each row of the tables, what wins, and the case of letters
     *((f'"{ending}": "', f'"{ending}": "x') for ending in sorted({os.path.splitext(it)[1] for it in FOLDER if it.startswith("a.")} - {"", ".bin"})),
-    ("kinds.get(name, folder_type(name))", "folder_type(name) or kinds.get(name, '')"), ("kinds.get(name, folder_type(name))", 'kinds.get(name, "")'),
-    ("kinds.get(name, folder_type(name))", "kinds.get(name) or folder_type(name)"), ("known.get(ending.lower()", "known.get(ending"),
+    (", folder_type(file)))", ', ""))'), ("kinds.get(os.fsdecode(file.name), folder_type(file))", "folder_type(file) or kinds.get(os.fsdecode(file.name), '')"),
+    (", folder_type(file)))", ") or folder_type(file))"), ("known.get(ending.lower()", "known.get(ending"),
+    ("if file.is_script() and json_start", "if False and json_start"), ("if file.is_script() and json_start", "if json_start"),
+    ("if file.is_script() and json_start(file.content)", "if file.is_script()"),
     ("known = {} if ending in TYPES else", "known ="), ("{**TYPES, **TYPES_OF_FOLDERS}", "TYPES_OF_FOLDERS"),
-    ('if ending.lower() != ".shtml" else ""', ""), ("os.path.splitext(name)[1]", '"." + name.partition(".")[2]'),
+    ('if ending.lower() != ".shtml" else ""', ""), ("os.path.splitext(os.fsdecode(file.name))[1]", '"." + os.fsdecode(file.name).partition(".")[2]'),
     ("return self.kind or next(ends, UNKNOWN)", "return next(ends, UNKNOWN)"),
     # the warnings of types
     ("== UNKNOWN and not file.kind", "== UNKNOWN"), ("if file.content_type() == UNKNOWN and", "if False and"), ("+ type_warning(file)", ""),
@@ -345,7 +349,7 @@ PLANTS = [    # a text of pack.py, and the text that replaces it
     (".strip().lower()", ""), ('.split(b";")[0]', ""), ("calls[0], f", "calls[-1], f"), ('words[:1] == [b"value-json"] and', ""),
     ('words[:1] == [b"value-json"]', 'words[:1] in ([b"value"], [b"value-json"])'), ("and is_value_number(words[1:2])\n", "\n"),
     ('if media == b"text/html" and start', "if False and start"), ('if media == b"text/html" and start', "if start"),
-    ("content.lstrip()[:1]", "content[:1]"), ('in (b"{", b"[")', 'in (b"{",)'), ('in (b"{", b"[")', 'in (b"[",)'),
+    ("content.lstrip()[:1]", "content[:1]"), ('in (b"{", b"[") else', 'in (b"{",) else'), ('in (b"{", b"[") else', 'in (b"[",) else'),
     ("file.content.find(start)", "0"), ('if line else ""', 'if True else ""'),
     ("    print_warnings(files)\n    print(", "    print("), ("    print_warnings(files)\n    for file, length", "    for file, length"),
 ]

@@ -15,7 +15,10 @@ const VALUE = /%! +value(-json|-html)? +(0|[1-9]|1[0-5])(?=[ \r\n]|$)/g;   // do
 const ascii = text => Array.from(text, sign => sign.charCodeAt(0));
 
 const types = new Map(Object.entries({ ...KNOWN, ...TYPES }));
-function typeOf(name) {
+const isJson = bytes => "{[".includes(String.fromCharCode(bytes.find(byte => byte !== 32 && (byte < 9 || byte > 13))));
+// That of its own: JSON for a script that begins so, else by the end of its name.
+function typeOf(name, bytes) {
+  if (name.endsWith(".shtml") && isJson(bytes)) return "application/json";
   const ending = /[^/]\.([^./]*)$/.exec(name)?.[1] ?? "";
   return Object.hasOwn(KNOWN, ending) ? "" : types.get(ending.toLowerCase()) ?? "";
 }
@@ -26,7 +29,7 @@ export function pack(files) {
   const parts = [ascii(MAGIC), [files.length >> 8, files.length & 255]];
   for (const { name, bytes } of files) {
     if (!/^\/[!->@-~]{0,63}$/.test(name)) throw new Error(`"${name}" is no name for a file of a site: at most 64 ASCII characters, no space, no "?"`);
-    const length = bytes.length, type = typeOf(name);
+    const length = bytes.length, type = typeOf(name, bytes);
     parts.push([name.length], ascii(name), [type.length], ascii(type));
     parts.push([length >>> 24, length >> 16 & 255, length >> 8 & 255, length & 255], bytes);
   }

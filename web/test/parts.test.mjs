@@ -132,8 +132,10 @@ test("an image is read and written as the program does", () => {
 
 test("a folder is packed as tools/pack.py does", () => {
   const folder = mkdtempSync(join(tmpdir(), "packed-")), site = join(folder, "site"), out = join(folder, "out.img");
-  const names = ["LOGO.PNG", "PAGE.HTML", "SCRIPT.SHTML", "a.constructor", "a.d/b", "a.min.js", "app.mjs", "x.bin", "index.html", "logo.png", "now.shtml", "README", "shape.SVG"];
-  const files = names.sort().map(name => ({ name: `/${name}`, bytes: Buffer.from(name) }));
+  const names = ["LOGO.PNG", "PAGE.HTML", "SCRIPT.SHTML", "a.constructor", "a.d/b", "a.min.js", "app.mjs", "x.bin", "index.html", "logo.png", "now.shtml", "README", "shape.SVG",
+    "{.shtml", "[.shtml", "{.txt", "empty.shtml"];
+  const start = name => name === "empty.shtml" ? "" : `${"{[".includes(name[0]) ? " \t\r\n" : ""}${name}`;
+  const files = names.sort().map(name => ({ name: `/${name}`, bytes: Buffer.from(start(name)) }));
   mkdirSync(join(site, "a.d"), { recursive: true });
   for (const { name, bytes } of files) writeFileSync(join(site, name), bytes);
   execFileSync("python3", [join(top, "tools/pack.py"), site, out], { stdio: "pipe" });
