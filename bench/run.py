@@ -6,7 +6,7 @@
 PROGRAM is the built `uipd`, crates/uipd/out/uipd if none is given (`rt run` in crates/uipd builds it). Without a further word it
 measures everything.
 
-    lines     the recorded lines of bench/lines, beside uIP 1.0 and lwIP 2.2.1 on the same work
+    lines     the recorded lines of bench/lines (bench/peers has them beside uIP and lwIP)
     ether     the echo requests of ping84 in Ethernet frames (`uipd ether`)
     desk      pages over `uipd desk`, beside the same over `uipd serve`
     replay    schedules: a made one of 16 and of 64 clients, one of n echo requests and one of n ticks at n, 2n and 4n
@@ -16,7 +16,6 @@ Instructions are those that `valgrind --tool=callgrind` counts, less those of a 
 differ by less than a thousandth. With --markdown the first table is in Markdown.
 """
 import json
-import lzma
 import os
 import re
 import shutil
@@ -24,8 +23,10 @@ import subprocess
 import sys
 import time
 
+import counting
+from counting import LINES, figure, run, unpacked
+
 HERE = os.path.dirname(os.path.abspath(__file__))
-LINES = os.path.join(HERE, "lines")
 OUT = os.path.join(HERE, "out")
 SITE = os.path.join(OUT, "site.img")
 EXAMPLE = os.path.join(HERE, "..", "examples", "site.img")
@@ -36,11 +37,6 @@ DESK = ("desk", SITE, "10.0.0.1")
 ETHER = ("ether", SITE, "10.0.0.1", "02:00:00:00:00:01")
 
 
-def unpacked(name):
-    with lzma.open(os.path.join(LINES, name + ".xz")) as file:
-        return file.read()
-
-
 def kept(name, data):
     """Writes a file of bench/out with this content, and returns its path."""
     path = os.path.join(OUT, name)
@@ -49,31 +45,18 @@ def kept(name, data):
     return path
 
 
-def run(words, data=b"", tool=()):
-    with open(kept("line", data), "rb") as stdin:
-        return subprocess.run([*tool, *words], stdin=stdin, stdout=subprocess.PIPE, stderr=subprocess.PIPE, check=True)
-
-
 def instructions(program, data, words=SERVE):
-    done = run((program, *words), data, ("valgrind", "--tool=callgrind", "--callgrind-out-file=/dev/null"))
-    return int(re.search(rb"Collected : (\d+)", done.stderr).group(1))
-
-
-def figure(value, unit):
-    return f"{value:,.1f}" if unit == "byte" else f"{value:,.0f}"
+    return counting.instructions((program, *words), data)
 
 
 def measure_lines(program, is_markdown):
-    print("| line | unit | Lowunbisa | uIP | lwIP |\n|---|---|---|---|---|" if is_markdown else
-          "line       unit      Lowunbisa        uIP       lwIP")
-    with open(os.path.join(LINES, "peers.json"), encoding="utf-8") as file:
-        peers = json.load(file)
+    print("| line | unit | `uipd` |\n|---|---|---|" if is_markdown else "line       unit           uipd")
+    with open(os.path.join(LINES, "lines.json"), encoding="utf-8") as file:
+        lines = json.load(file)
     empty = instructions(program, b"")
-    for name, peer in peers.items():
-        spent = (instructions(program, unpacked(name + ".slip")) - empty) / peer["units"]
-        ours, uip, lwip = (figure(value, peer["unit"]) for value in (spent, peer["uip"], peer["lwip"]))
-        print(f"| {peer['what']} | {peer['unit']} | {ours} | {uip} | {lwip} |" if is_markdown else
-              f"{name:10} {peer['unit']:8} {ours:>10} {uip:>10} {lwip:>10}")
+    for name, line in lines.items():
+        spent = figure((instructions(program, unpacked(name + ".slip")) - empty) / line["units"], line["unit"])
+        print(f"| {line['what']} | {line['unit']} | {spent} |" if is_markdown else f"{name:10} {line['unit']:8} {spent:>10}")
 
 
 def framed(data):
@@ -193,7 +176,5 @@ def main():
         measure_memory(program)
 
 
-try:
-    main()
-except subprocess.CalledProcessError as error:
-    sys.exit(f"run.py: {' '.join(map(str, error.cmd))} ended with status {error.returncode}: {(error.stderr or b'').decode(errors='replace')[-300:]}")
+if __name__ == "__main__":
+    counting.report("run.py", main)

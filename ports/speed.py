@@ -47,7 +47,7 @@ def unpacked(name):
 
 def recorded(name, units):
     """The first units of a recorded line, each as its datagrams without the escapes of SLIP."""
-    with open(os.path.join(LINES, "peers.json")) as file:
+    with open(os.path.join(LINES, "lines.json")) as file:
         all_units = json.load(file)[name]["units"]
     found = datagrams_of(unpacked(name + ".slip"))
     each = len(found) // all_units
