@@ -235,7 +235,8 @@ def docs(crates):
     for line in faults:
         print(line)
     failed = bool(faults)
-    failed |= subprocess.run([sys.executable, "examples/image.py"], cwd=TOP, check=False).returncode != 0
+    for script in (["examples/image.py"], ["bench/peers/tables.py", "check"]):
+        failed |= subprocess.run([sys.executable, *script], cwd=TOP, check=False).returncode != 0
     see_kit()
     if not failed:
         print("the documents agree with the sources")

@@ -54,6 +54,7 @@ try 400 "the C file: the programs of examples/firmware, with Linux's TCP" "pytho
     env LIBRARY="$PWD/out/libuip_c.a" sh examples/firmware/run.sh
 try 300 "the packages" "python3 make $cc" sh packaging/test.sh
 try 120 "tools/pack.py, with planted faults" python3 python3 tools/pack_test.py
+try 30 "bench/peers: the figures in the documents, with planted faults" python3 python3 bench/peers/test.py
 try 150 "examples/browse.py with a small node" python3 python3 examples/test_browse.py
 try 300 "the page: its client, with the device inside" node \
     env INSIDE=1 node --test --test-force-exit --test-concurrency=1 web/test/wire.test.mjs web/test/sequence.test.mjs web/test/parts.test.mjs \
