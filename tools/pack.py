@@ -19,6 +19,7 @@ These mistakes are no faults, and a warning on standard error names each. The st
     - words of a line that its directive ignores
     - `%!` in a file whose name ends in .html or .htm, where it is text
     - a file without a type, which browsers download: no table has its ending
+    - a value and a call right after it: if the value is empty, the reply waits for a tick
     - `value-json` in a script of type text/html, or of XML: it leaves `<` as it is, so a value can run a script in the page
     - a script of type text/html that begins with { or [, which is probably JSON
 """
@@ -149,9 +150,26 @@ def shown(text):
     return text.decode("utf-8", "replace")
 
 
-def is_json_call(part):
+def is_value_call(part):
     words = words_of(part)
-    return words[:1] == [b"value-json"] and is_value_number(words[1:2])
+    return words[:1] in ([b"value"], [b"value-html"], [b"value-json"]) and is_value_number(words[1:2])
+
+
+def is_json_call(part):
+    return is_value_call(part) and first_word(part) == b"value-json"
+
+
+def is_next(content, at, after):
+    """Whether the directive at the second place begins where the one at the first ends."""
+    return content.find(b"\n", at) + 1 == after
+
+
+def close_warnings(file):
+    """The places of values with a call right after them."""
+    found = directives(file.content)[0]
+    return [(at, "no text follows before the next call: if this value is empty, the reply waits for a tick")
+            for (at, part), (after, call) in zip(found, found[1:])
+            if is_value_call(part) and words_of(call) and not call.startswith(b":") and is_next(file.content, at, after)]
 
 
 def json_start(content):
@@ -179,7 +197,7 @@ def warnings(file):
     if file.content_type() == UNKNOWN and not file.kind:
         return [(0, f"browsers download it, since no table has the ending of its name: name its type, {shown(file.name)}=TYPE")]
     if file.is_script():
-        found = [(at, warning_of(part)) for at, part in directives(file.content)[0]] + type_warning(file)
+        found = [(at, warning_of(part)) for at, part in directives(file.content)[0]] + close_warnings(file) + type_warning(file)
     elif file.name.lower().endswith((b".html", b".htm")) and b"%!" in file.content:
         found = [(file.content.find(b"%!"), "%! is text here: the name of a script ends in .shtml")]
     else:

@@ -104,7 +104,7 @@ PAGES = [    # the greatest length of a page: the texts are in docs/FORMATS.md
 ]
 WARNINGS = [    # the lines with a warning, each with what it must name
     ((b"/a.shtml", b"<p>\n%! ticks\n%!net-stats\n%!  tcp-connections \n%! file-stats /x\n%!: /x\n"), []),
-    ((b"/a.shtml", b"%! value 3\r\n%! value-html 3\n%!value-json  15 \r\n%!\n%! ", b"text/javascript"), []),
+    ((b"/a.shtml", b"%! value 3\r\n%! value-html 3\n%!value-json  15 \r\n%!\n%! ", b"text/javascript"), [(1, "waits"), (2, "waits")]),
     ((b"/a.shtml", b"It is %! value 3 &deg;C\nand %! temperature\n"), [(1, "&deg;C"), (2, "temperature")]),
     ((b"/a.shtml", b"%! value-html 3</p>\n%! value 16\n%! value-json\n%! value 00\n%! value 0 x"),
      [(1, "\"3</p>\""), (2, "\"16\""), (3, "\"\""), (4, "\"00\""), (5, "x")]),
@@ -116,12 +116,15 @@ WARNINGS = [    # the lines with a warning, each with what it must name
     ((b"/xhtml", b"%! ticks x\n"), [(0, "/xhtml=TYPE")]), ((b"/a.js", b""), [(0, "/a.js=TYPE")]), ((b"/a.JPG", b""), [(0, "/a.JPG=TYPE")]),
     ((b"/a.bin", b"", b"application/octet-stream"), []), ((b"/a.js", b"%! value-json 1", b"text/javascript"), []), ((b"/a.gif", b""), []),
     # value-json where < begins an element
-    ((b"/a.shtml", b"<p>\n%! value 1\n%! value-json 2\n%!value-json 3\n"), [(3, "text/html: a value that others set")]),
+    ((b"/a.shtml", b"<p>\n%! value 1\n%! value-json 2\n%!value-json 3\n"), [(2, "waits"), (3, "waits"), (3, "text/html: a value that others set")]),
     ((b"/a.shtml", b"<p>%! value-json 0", b"Text/HTML; charset=utf-8"), [(1, "/a.shtml=application/json, or use value-html")]),
     ((b"/a.shtml", b"%! value-json 0", b"application/xhtml+xml"), [(1, "value-json")]),
     ((b"/a.shtml", b"%! value-json 0", b"image/svg+xml"), [(1, "svg")]),
     ((b"/a.shtml", b"%! value-json 0", b"application/json"), []), ((b"/a.shtml", b"%! value-json 0", b"text/plain"), []),
-    ((b"/a.shtml", b"%! value-html 0\n%! value 1\n value-json 2 %%!: /value-json"), []),
+    ((b"/a.shtml", b"%! value-html 0\n%! value 1\n value-json 2 %%!: /value-json"), [(1, "waits")]),
+    # a call right after a value
+    ((b"/a.shtml", b"%! value 1\n%!: /x\n%! value 2\n\n%! ticks\n%! net-stats\n%! value 3\n"), []),
+    ((b"/a.shtml", b"\n %! value 1\n%! ticks\n"), [(2, "no text follows")]),
     ((b"/a.shtml", b"a\n%! value-json 0 }"), [(2, "}"), (2, "<")]),
     # JSON that is served as HTML
     ((b"/a.shtml", b"{\"a\": %! value 1\n}"), [(1, "/a.shtml=application/json")]), ((b"/a.shtml", b" \r\n\t[1]", b"text/html"), [(2, "[ begins")]),
@@ -346,8 +349,10 @@ PLANTS = [    # a text of pack.py, and the text that replaces it
     ("== UNKNOWN and not file.kind", "== UNKNOWN"), ("if file.content_type() == UNKNOWN and", "if False and"), ("+ type_warning(file)", ""),
     ("if calls and (b", "if False and (b"), ('(b"html" in media or b"xml" in media)', 'b"html" in media'),
     ('(b"html" in media or b"xml" in media)', "True"), ('(b"html" in media or b"xml" in media)', 'media == b"text/html"'),
-    (".strip().lower()", ""), ('.split(b";")[0]', ""), ("calls[0], f", "calls[-1], f"), ('words[:1] == [b"value-json"] and', ""),
-    ('words[:1] == [b"value-json"]', 'words[:1] in ([b"value"], [b"value-json"])'), ("and is_value_number(words[1:2])\n", "\n"),
+    (".strip().lower()", ""), ('.split(b";")[0]', ""), ("calls[0], f", "calls[-1], f"), ("is_value_call(part) and first", "first"),
+    (' and first_word(part) == b"value-json"', ""), ("and is_value_number(words[1:2])\n", "\n"),
+    ("+ close_warnings(file)", ""), ("if is_value_call(part) and words_of", "if words_of"), ('not call.startswith(b":") and is', "is"),
+    ("and is_next(file.content, at, after)", ""), ("words_of(call) and not", "not"),
     ('if media == b"text/html" and start', "if False and start"), ('if media == b"text/html" and start', "if start"),
     ("content.lstrip()[:1]", "content[:1]"), ('in (b"{", b"[") else', 'in (b"{",) else'), ('in (b"{", b"[") else', 'in (b"[",) else'),
     ("file.content.find(start)", "0"), ('if line else ""', 'if True else ""'),
