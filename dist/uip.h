@@ -342,7 +342,7 @@ uip_opened uip_open_ether(uip_device *device, const unsigned char *image, size_t
  *   secret    16 random bytes, other ones for each device ("A secret" in docs/FIRMWARE.md). They are copied
  *
  *   Status    UIP_NO_DEVICE; UIP_WRONG_LINK (a device on Ethernet has no guard yet); UIP_BAD_ARGUMENT (it has
- *             a secret already, or has received a datagram, or a tick was made: nothing changes); UIP_OK
+ *             a secret already, or its node took a datagram, or slot 0 was called: nothing changes); UIP_OK
  *
  * A device for a serial line or for datagrams has a guard, also without a secret. It drops what no host that
  * follows TCP sends: a datagram from an address that no host may have, a RST that is not at RCV.NXT, and
@@ -610,7 +610,7 @@ void rattle_dealloc(void *block);
  */
 #define UIP_ROUNDED(len) (((size_t)(len) + 15) / 16 * 16)
 #define UIP_MEMORY(files) \
-    (UIP_ROUNDED(28 * (size_t)(files)) + UIP_ROUNDED(2 * (size_t)(files)) + UIP_ROUNDED(4 * (size_t)(files)) + 4000)
+    (UIP_ROUNDED(28 * (size_t)(files)) + UIP_ROUNDED(2 * (size_t)(files)) + UIP_ROUNDED(4 * (size_t)(files)) + 4032)
 #define UIP_MEMORY_ETHER(files) (UIP_MEMORY(files) + 80)
 
 /* ---- 12 Inline functions ----------------------------------------------------------------------- */
