@@ -1,5 +1,5 @@
 -- Moves on a handle over Ethernet, one after the other, are moves of its device.
-use Rattle.uip_c.proofs.Prelude.{All, ◌≡◌, ℕ, List, [], ◌∷◌, refl, sym, ap, ◌∙◌, subst, IsAddr, IsByte, File, HasSoundScripts, IsLoaded, SiteContent, files_of, is_served, at_every_port, made_of_bytes_by, keeps_page_laws_by, word_calls, words, words_bytes, words_short, Addr, initial_station, Interface, Mac, Network, ether_brings_bytes, ether_frames, AnsweredFrame, AnswersAllFrames, AnswersFrame, AnswersFrameMove, CallsSlot, ChangesNumbers, DoesNothing, FrameCall, FrameMove, Gives, InputsFrame, Makes, handed_of, frame_moves_of, FramesConform, IsFrameOfBytes, keeps_frames, device_represents, frames_exact, same_kept, first_numbers, value_pages, value_spec, write_value, first_words, written_words, EtherRepresents, interface_at, web_frames_sent, web_station_after, DidFrame, DidFrames, EtherAnswers, OpensEtherAs, HandleGives, EtherWeb, IsEther, Kept, NoDevice, OnEther, OnLine}
+use Rattle.uip_c.proofs.Prelude.{All, ◌≡◌, ℕ, List, [], ◌∷◌, refl, sym, ap, ◌∙◌, subst, IsAddr, IsByte, File, HasSoundScripts, IsLoaded, SiteContent, files_of, is_served, at_every_port, made_of_bytes_by, keeps_page_laws_by, word_calls, words, words_bytes, words_short, Addr, Interface, Mac, Network, ether_brings_bytes, ether_frames, AnsweredFrame, AnswersAllFrames, AnswersFrame, AnswersFrameMove, CallsSlot, ChangesNumbers, DoesNothing, FrameCall, FrameMove, Gives, InputsFrame, Makes, handed_of, frame_moves_of, FramesConform, IsFrameOfBytes, keeps_frames, device_represents, frames_exact, same_kept, first_numbers, value_pages, value_spec, write_value, first_words, written_words, EtherRepresents, interface_at, web_frames_sent, web_station_after, DidFrame, DidFrames, EtherAnswers, OpensEtherAs, HandleGives, EtherWeb, IsEther, Kept, NoDevice, OnEther, OnLine}
 use Rattle.uip_device.specs.contracts.value_pages.ValuePagesApp.TheImpl.{ghosts}
 use Rattle.frame_device.specs.contracts.ether.EthernetFrames.TheImpl.{ghosts as ether_link}
 
