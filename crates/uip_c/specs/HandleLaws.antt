@@ -14,10 +14,11 @@ use Rattle.sip_hash.specs.declared.key.Key.{Key}
 use Rattle.node_laws.specs.Prelude.{TraceConforms, at_every_port}
 use Rattle.guard_laws.specs.Lens.{lens}
 use Rattle.guard_laws.specs.Shifted.{entry_on_wire}
-use Rattle.frame_device.specs.Prelude.{AnsweredFrame, FramesConform, IsFrameOfBytes, ether_frames, frame_moves_of, interface_at}
+use Rattle.frame_device.specs.Prelude.{AnsweredFrame, FramesConform, IsFrameOfBytes, frame_moves_of}
 use Rattle.uip_device.specs.Prelude.{Answered, Bring, CallsConform, IsOfBytes, LineIsServed, first_numbers, line_handed, moves_of}
 use Rattle.uip_device.specs.Prelude.{value_pages, value_spec, web_rules, write_value}
-use Rattle.uip_c.specs.FrameHandles.{DidFrames, OpensEtherAs}
+use Rattle.uip_c.specs.EtherWebs.{web_link, web_stations}
+use Rattle.uip_c.specs.FrameHandles.{DidFrames, IsEtherReady}
 use Rattle.uip_c.specs.Handles.{DidAll, IsReady, lefts_in}
 use Rattle.uip_c.specs.Kept.{IsLine, Kept}
 
@@ -53,6 +54,7 @@ LineFromCIsServed =
 -- All calls over Ethernet conform to the pages of the site, for any frames of bytes.
 abbrev pub FramesFromCConform : Type 0
 FramesFromCConform = OfSites (λ site own.
-    (mac : Mac) (network : Network) (all : List AnsweredFrame) → All IsFrameOfBytes (frame_moves_of all) → (closed old new : Kept)
-    → OpensEtherAs (files_of site) own mac network closed old → DidFrames all old new
-    → FramesConform (ether_frames (interface_at own mac network)) (value_spec (files_of site)) (at_every_port (value_pages (files_of site))) is_served own all)
+    (mac : Mac) (network : Network) (key : Option Key) (all : List AnsweredFrame) → All IsFrameOfBytes (frame_moves_of all) → (old new : Kept)
+    → IsEtherReady (files_of site) own mac network key old → DidFrames all old new
+    → FramesConform (web_link own mac network key) (value_spec (files_of site)) (at_every_port (value_pages (files_of site)))
+    is_served own (web_stations (files_of site) own mac network key (frame_moves_of all)) all)

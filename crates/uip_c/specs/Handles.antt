@@ -1,7 +1,7 @@
 -- What a call does to what a handle keeps. Calls over Ethernet: `specs/FrameHandles.antt`.
-use Rattle.std.specs.Prelude.{◌≡◌, ◌==◌, ◌∷◌, [], if◌then◌else◌, Bool, is_some, List, None, Option, Some, true, ℕ}
+use Rattle.std.specs.Prelude.{◌≡◌, ◌==◌, ◌⊎◌, ◌∷◌, [], if◌then◌else◌, Bool, is_some, List, None, Option, Some, true, ℕ}
 use Rattle.site_image.specs.Prelude.{File}
-use Rattle.frame_device.specs.Prelude.{ChangesNumbers}
+use Rattle.frame_device.specs.Prelude.{ChangesNumbers, with_secret}
 use Rattle.frame_device.specs.contracts.ether.EthernetFrames.TheImpl.{ghosts as ether_link}
 use Rattle.uip_device.specs.contracts.value_pages.ValuePagesApp.TheImpl.{ghosts}
 use Rattle.uip_wire.specs.declared.addr.Addr.{Addr}
@@ -21,9 +21,15 @@ IsReady files own key kept = IsLine (IsFreshWebDevice files own key) kept
 abbrev pub OpensAs : List File → Addr → Kept → Kept → Type 0
 OpensAs files own old new = (old ≡ NoDevice) × IsReady files own None new
 
--- There was a device for a line without a secret, and there still is one, which has this secret. All else is as it was.
+-- There was a device without a secret, for a line or on Ethernet, and there still is one, which has this secret. All else is as it was.
+abbrev pub ProtectsLine : Key → Kept → Kept → Type 0
+ProtectsLine key old new = StillHas OnLine (IsProtected key) old new
+
+abbrev pub ProtectsEther : Key → Kept → Kept → Type 0
+ProtectsEther key old new = StillHas OnEther (λ before after. after ≡ with_secret key before) old new
+
 abbrev pub HandleProtects : Key → Kept → Kept → Type 0
-HandleProtects key old new = StillHas OnLine (IsProtected key) old new
+HandleProtects key old new = ProtectsLine key old new ⊎ ProtectsEther key old new
 
 -- A handle that was just opened is ready, with this secret.
 abbrev pub Readies : Key → ℕ → Kept → Kept → Type 0

@@ -6,7 +6,8 @@ use crate::frame_tests::{MAC, MASK, ROUTER};
 use crate::guard_calls::{uip_guard_counter, uip_protect};
 use crate::open_close::uip_open;
 use crate::tests::{IMAGE, OWN, SYN, answer, close, made, no_device};
-use c_calls::{BAD_ARGUMENT, NO_DEVICE, OK, WRONG_LINK};
+use c_calls::{BAD_ARGUMENT, NO_DEVICE, OK};
+use c_pages::UipNumber;
 use uip_device::LARGEST_TEXT;
 
 const SECRET: &[u8; 16] = &[0, 1, 2, 3, 4, 5, 6, 7, 8, 9, 10, 11, 12, 13, 14, 15];
@@ -60,14 +61,15 @@ fn a_late_secret_is_refused(rt: HostRuntime) {
 }
 
 #[test]
-fn a_device_on_ethernet_has_no_guard(rt: HostRuntime) {
+fn a_device_on_ethernet_is_protected_too(rt: HostRuntime) {
     let alloc = rt.alloc();
     let mut device = no_device(alloc);
     assert_eq!(rt;
         uip_open_ether(alloc, &mut device, IMAGE, OWN, MAC, MASK, ROUTER).status,
         OK
     );
-    assert_eq!(rt; uip_protect(alloc, &mut device, SECRET), WRONG_LINK);
-    assert_eq!(rt; uip_guard_counter(alloc, &mut device, 1).status, WRONG_LINK);
+    assert_eq!(rt; uip_protect(alloc, &mut device, SECRET), OK);
+    assert_eq!(rt; uip_protect(alloc, &mut device, SECRET), BAD_ARGUMENT);
+    assert_eq!(rt; uip_guard_counter(alloc, &mut device, 1), UipNumber::read(0));
     close(&rt, alloc, device);
 }

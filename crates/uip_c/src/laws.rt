@@ -33,19 +33,19 @@ pub fn line_from_c_is_served()
     ensures { LineFromCIsServed }
 {}
 
-/// Holds for any sequence of calls on a handle that was just opened on Ethernet, successful or refused, with any values set between. Each
-/// call writes exactly the frame that the initial node and its link send for its events, or none. The device serves the same files, and
-/// represents the node and the events of ARP after these moves.
+/// Holds for any sequence of calls on a handle that was just opened on Ethernet, and protected or not, successful or refused, with any
+/// values set between. Each call writes exactly the frame that the initial node with its guard and its link send for its events, or none.
+/// The device serves the same files, and represents the node and the events of ARP after these moves.
 pub fn frames_from_c_are_exact()
-    ensures frames { OfFrameMoves (λ files own mac network all new.
-        handed_of all ≡ web_frames_sent files own mac network (frame_moves_of all)) }
-    ensures represented { OfFrameMoves (λ files own mac network all new.
-        IsEther (λ d. EtherRepresents files own mac network d (web_station_after files own mac network (frame_moves_of all))) new) }
+    ensures frames { OfFrameMoves (λ files own mac network key all new.
+        handed_of all ≡ web_frames_sent files own mac network key (frame_moves_of all)) }
+    ensures represented { OfFrameMoves (λ files own mac network key all new.
+        IsEther (λ d. EtherRepresents files own mac network d (web_station_after files own mac network key (frame_moves_of all))) new) }
 {}
 
-/// Holds for any frames of bytes, any sequence of calls on a handle that was just opened on Ethernet with a good site, and any values set
-/// between. Each call writes the frame of what is sent in the trace entries of its input, or of ARP, and the trace satisfies the guarantee,
-/// for the pages of this site.
+/// Holds for any frames of bytes, any sequence of calls on a handle that was just opened on Ethernet with a good site, and protected or not,
+/// and any values set between. Each call writes the frame of what is sent in the trace entries of its input, or of ARP. The trace satisfies
+/// the guarantee, for the pages of this site, in the numbers of the node and in those of the wire.
 pub fn frames_from_c_keep_the_promise()
     ensures { FramesFromCConform }
 {}
