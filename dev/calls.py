@@ -14,7 +14,7 @@ from repository import read, tracked
 # Calls that are right without a caller, a test and an edit, each with the reason.
 EXCEPTIONS = {
     "tcp_segment::Segment::has_psh": "one of five readers of flags; no call here depends on PSH",
-    "guarded_node::guarded_input_in_place": "for a device that decodes into its packet; no library has the guard yet",
+    "uip_node::Node::input_in_place": "as `input`, for a node without a guard whose datagrams are decoded into its packet",
     "uip_edge::NullSink::new": "the interface has it; a run that needs no output takes the sink",
     "uip_device::Device::ticks": "a reader of any device; the libraries for C read by `node_row` and the like",
     "uip_device::Device::is_idle": "as `ticks`",

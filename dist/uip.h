@@ -1,6 +1,3 @@
-#ifndef UIP_SOURCE              /* the library is uip.c, compiled with the program */
-#define UIP_SOURCE
-#endif
 /*
  * uip.h - the C interface of Lowunbisa, a TCP/IP node with a small web server
  *
@@ -11,6 +8,7 @@
  *
  *   Open       uip_open(device, image, len, own)           for a serial line or for datagrams
  *              uip_open_ether(device, image, len, own, mac, mask, router)
+ *              uip_protect(device, secret)                 gives it a secret, before the first input
  *              uip_close(device)                           frees its memory
  *
  *   Serial     uip_feed_all(device, bytes, len, out, room, sink, to)      takes bytes, sends replies
@@ -36,6 +34,7 @@
  *              uip_is_idle(device)                         whether every connection is CLOSED
  *              uip_ticks(device)                           the ticks since opening
  *              uip_counter(device, number)                 datagrams received, dropped, sent again ..
+ *              uip_guard_counter(device, number)           what the guard dropped and gave up
  *              uip_connection(device, slot)                the state and the peer of a connection
  *
  *   Heap       UIP_MEMORY(files), UIP_MEMORY_ETHER(files)  the bytes that a device needs
@@ -179,7 +178,7 @@ typedef char uip_needs_unsigned_of_32_bits[sizeof(unsigned) == 4 ? 1 : -1];
 enum uip_status {
     UIP_OK = 0,
     UIP_NO_DEVICE = 1,         /* the device is not open */
-    UIP_BAD_ARGUMENT = 2,      /* a length, room, slot or number is out of its range */
+    UIP_BAD_ARGUMENT = 2,      /* a length, room, slot or number is out of its range; of uip_protect: it comes too late */
     /* Only of uip_open and uip_open_ether: */
     UIP_HAS_DEVICE = 3,        /* the device is already open; it stays open, unchanged */
     UIP_BAD_IMAGE = 4,         /* the image is bad: `word` and `entry` name its first fault. The device is closed */
@@ -206,7 +205,7 @@ enum uip_status {
 
 /* The numbers for uip_counter. Each counts since opening, modulo 2^32. */
 enum uip_counter_id {
-    UIP_DATAGRAMS_IN = 1,      /* reached IP, also if they were dropped later */
+    UIP_DATAGRAMS_IN = 1,      /* reached IP, also if they were dropped later; and one for each connection given up */
     UIP_DATAGRAMS_OUT = 2,
     UIP_OVERLONG_FRAMES = 3,   /* SLIP frames of more than 1500 bytes, dropped; and those lost to a call that sent within them */
     /* 4 to 10: dropped by IP */
@@ -221,12 +220,18 @@ enum uip_counter_id {
     UIP_ECHO_REPLIES_OUT = 12,
     UIP_ICMP_DROPPED = 13,     /* too short, or no echo request */
     UIP_ICMP_CHECKSUM = 14,    /* a wrong checksum, dropped */
-    UIP_TCP_IN = 15,           /* received, also if they were dropped later */
+    UIP_TCP_IN = 15,           /* received, also if they were dropped later; and one for each connection given up */
     UIP_TCP_OUT = 16,          /* sent, also again, and resets */
     UIP_TCP_DROPPED = 17,      /* too short, or a wrong data offset */
     UIP_TCP_CHECKSUM = 18,     /* a wrong checksum, dropped */
     UIP_RETRANSMISSIONS = 19,  /* SYN-ACKs, data and FINs that a timer sent again */
     UIP_SYN_DROPPED = 20       /* SYNs to port 80 that found no slot in CLOSED or TIME_WAIT */
+};
+
+/* The numbers for uip_guard_counter. Each counts since opening, modulo 2^32. */
+enum uip_guard_counter_id {
+    UIP_GUARD_DROPPED = 1,     /* datagrams that the guard dropped. No other counter counts them */
+    UIP_GUARD_GAVE_UP = 2      /* connections that it gave up for the SYN of another */
 };
 
 /* The states of a connection (RFC 793, section 3.2). */
@@ -330,6 +335,25 @@ uip_opened uip_open(uip_device *device, const unsigned char *image, size_t len, 
  */
 uip_opened uip_open_ether(uip_device *device, const unsigned char *image, size_t len, const unsigned char own[4],
                           const unsigned char mac[6], const unsigned char mask[4], const unsigned char router[4]);
+
+/* Gives a device a secret, so that no host can predict its sequence numbers (RFC 6528). Call it once, after
+ * opening and before the first input and the first tick.
+ *
+ *   secret    16 random bytes, other ones for each device ("A secret" in docs/FIRMWARE.md). They are copied
+ *
+ *   Status    UIP_NO_DEVICE; UIP_WRONG_LINK (a device on Ethernet has no guard yet); UIP_BAD_ARGUMENT (it has
+ *             a secret already, or its node took a datagram, or slot 0 was called: nothing changes); UIP_OK
+ *
+ * A device for a serial line or for datagrams has a guard, also without a secret. It drops what no host that
+ * follows TCP sends: a datagram from an address that no host may have, a RST that is not at RCV.NXT, and
+ * segments that could not be accepted. If a SYN finds no slot, the guard gives up a connection for it: one in
+ * FIN_WAIT_2, else one in SYN_RCVD, else one of another host that has four slots or more. The peer of that
+ * connection is sent nothing; its next segment is answered by a RST.
+ *
+ * In the guarantee (docs/GUARANTEE.md) such a connection received a RST that is of no host, and what was
+ * dropped did not arrive.
+ */
+unsigned uip_protect(uip_device *device, const unsigned char secret[16]);
 
 /* Closes a device and frees its memory. It sends nothing: connections, pending output, values, counts and
  * the ARP table are lost.
@@ -552,6 +576,11 @@ uip_number uip_ticks(uip_device *device);
 /* Returns a counter, by its enum uip_counter_id, 1 to 20. Status: UIP_BAD_ARGUMENT; UIP_NO_DEVICE; UIP_OK. */
 uip_number uip_counter(uip_device *device, size_t number);
 
+/* Returns a counter of the guard, by its enum uip_guard_counter_id. Status: UIP_BAD_ARGUMENT; UIP_NO_DEVICE;
+ * UIP_WRONG_LINK (a device on Ethernet has no guard yet); UIP_OK.
+ */
+uip_number uip_guard_counter(uip_device *device, size_t number);
+
 /* Returns the connection of a slot, 0 to 9. Status: UIP_BAD_ARGUMENT; UIP_NO_DEVICE; UIP_OK. */
 uip_row uip_connection(uip_device *device, size_t slot);
 
@@ -581,7 +610,7 @@ void rattle_dealloc(void *block);
  */
 #define UIP_ROUNDED(len) (((size_t)(len) + 15) / 16 * 16)
 #define UIP_MEMORY(files) \
-    (UIP_ROUNDED(28 * (size_t)(files)) + UIP_ROUNDED(2 * (size_t)(files)) + UIP_ROUNDED(4 * (size_t)(files)) + 4000)
+    (UIP_ROUNDED(28 * (size_t)(files)) + UIP_ROUNDED(2 * (size_t)(files)) + UIP_ROUNDED(4 * (size_t)(files)) + 4032)
 #define UIP_MEMORY_ETHER(files) (UIP_MEMORY(files) + 80)
 
 /* ---- 12 Inline functions ----------------------------------------------------------------------- */

@@ -1,5 +1,5 @@
 -- Frames of Ethernet: what brings them, and what they are beside those of a line.
-use Rattle.frame_device.proofs.Prelude.{take-append_seam, ◌⊎◌, inl, inr, ◌≡◌, ℕ, ◌+◌, ◌<◌, ◌==◌, ◌&&◌, Bool, true, false, if◌then◌else◌, nat_lt, List, [], ◌∷◌, ◌++◌, Option, None, Some, drop, length, map, take, refl, sym, ap, ◌∙◌, subst, arith, append-nil, length-append, ◌||◌, ⊤, bytes_eq, AppSpec, address_at, word_at, word_bytes, written, Addr, choose, reply_bytes, Reply, Periodic, step, MediumInput, Datagram, Overlong, Own, StationEvent, OfMedium, OfNode, Station, station_after, output, output_of_event, reply_text, station_event_by, ether_text, ether_medium, is_taken, writes_at, Host, arp_brings, arp_packet, broadcast, frame_brings, frame_with, framed, is_arp, is_arp_for, is_datagram, is_sendable, mac_at, no_mac, payload_brings, arp_reply, sender_of, wrapped_to, wrapped_via, Act, Asked, Pair, Replied, Ticked, known, IsSilent, as_medium, CallsSlot, DoesNothing, FrameCall, InputsFrame, station_events_by, SentAsOnLine, Interface, IsOneLink, Network, and_zero_r, bytes_eq-Decides, or_left, or_right, slice_index, ether_frames, hop_of, is_on_link, masked, next_hop, no_address, on_line}
+use Rattle.frame_device.proofs.Prelude.{unanswered, reset_by, Verdict, Drop, Pass, Displace, Sockets, is_plain_syn, PlainSegment, has_rst, Arrived, connection_in, AbstractNode, MediumSpec, Rules, by_verdict, flat_map, guarded_ether, input_events, leaving, lensed, take-append_seam, ◌⊎◌, inl, inr, ◌≡◌, ℕ, ◌+◌, ◌<◌, ◌==◌, ◌&&◌, Bool, true, false, if◌then◌else◌, nat_lt, List, [], ◌∷◌, ◌++◌, Option, None, Some, drop, length, map, take, refl, sym, ap, ◌∙◌, subst, arith, append-nil, length-append, ◌||◌, ⊤, bytes_eq, AppSpec, address_at, word_at, word_bytes, written, Addr, choose, Event, reply_bytes, Reply, Periodic, step, MediumInput, Datagram, Overlong, Own, StationEvent, OfMedium, OfNode, Station, station_after, output, output_of_event, reply_text, ether_text, ether_medium, is_taken, writes_at, Host, arp_brings, arp_packet, broadcast, frame_brings, frame_with, framed, is_arp, is_arp_for, is_datagram, is_sendable, mac_at, no_mac, payload_brings, arp_reply, sender_of, wrapped_to, wrapped_via, Act, Asked, Pair, Replied, Ticked, known, IsSilent, as_medium, CallsSlot, DoesNothing, FrameCall, InputsFrame, station_events_by, SentAsOnLine, Interface, IsOneLink, Network, and_zero_r, bytes_eq-Decides, or_left, or_right, slice_index, ether_frames, hop_of, is_on_link, masked, next_hop, no_address, on_line}
 
 -- what was written in front is read
 pub prefix_of : (old part : List ℕ) → take (length part) (written old 0 part) ≡ part
@@ -87,25 +87,44 @@ module _ (k : Interface) where
     sends_on_line (Replied pair) = refl
     sends_on_line Ticked = refl
 
-    module _ (m : AppSpec) (served : ℕ → Bool) (own : Addr) where
-      reply_on_line : (acts : List Act) (o : Option Reply) → on_line (reply_text (as_medium (ether_frames k)) acts own o) ≡ reply_text (ether_medium host) acts own o
-      reply_on_line acts None = refl
-      reply_on_line acts (Some reply) = text_on_line acts (reply_bytes own reply)
+    module _ (rules : Rules) (m : AppSpec) (served : ℕ → Bool) (own : Addr) where
+      abbrev frames : MediumSpec Act
+      frames = lensed rules.key (as_medium (ether_frames k))
 
-      station_event_on_line : (d : StationEvent Act) (s : Station Act) → on_line (output_of_event m served (as_medium (ether_frames k)) own s d) ≡ output_of_event m served (ether_medium host) own s d
+      abbrev line : MediumSpec Act
+      line = lensed rules.key (ether_medium host)
+
+      reply_on_line : (acts : List Act) (o : Option Reply) → on_line (reply_text frames acts own o) ≡ reply_text line acts own o
+      reply_on_line acts None = refl
+      reply_on_line acts (Some reply) = text_on_line acts (leaving rules.key (reply_bytes own reply))
+
+      station_event_on_line : (d : StationEvent Act) (s : Station Act) → on_line (output_of_event m served frames own s d) ≡ output_of_event m served line own s d
       station_event_on_line (OfMedium act) s = sends_on_line act
       station_event_on_line (OfNode e) s = reply_on_line s.acts (step m served s.node e).sent
 
-      one_on_line : (d : StationEvent Act) (s : Station Act) → on_line (output m served (as_medium (ether_frames k)) own (d ∷ []) s) ≡ output m served (ether_medium host) own (d ∷ []) s
+      one_on_line : (d : StationEvent Act) (s : Station Act) → on_line (output m served frames own (d ∷ []) s) ≡ output m served line own (d ∷ []) s
       one_on_line d s =
-          ap (λ l. on_line l) (append-nil (output_of_event m served (as_medium (ether_frames k)) own s d)) ∙ station_event_on_line d s
-          ∙ sym (append-nil (output_of_event m served (ether_medium host) own s d))
+          ap (λ l. on_line l) (append-nil (output_of_event m served frames own s d)) ∙ station_event_on_line d s
+          ∙ sym (append-nil (output_of_event m served line own s d))
 
       abbrev IsOnLine : Station Act → List (StationEvent Act) → Type 0
-      IsOnLine s station_events = on_line (output m served (as_medium (ether_frames k)) own station_events s) ≡ output m served (ether_medium host) own station_events s
+      IsOnLine s station_events = on_line (output m served frames own station_events s) ≡ output m served line own station_events s
+
+      -- the RST of a connection that is given up is not answered
+      quiet_on_line : (p : Sockets) (r : PlainSegment) (e : Event) (s : Station Act) → is_plain_syn r ≡ false → has_rst r.flags ≡ true → IsOnLine s (OfNode (Arrived p r) ∷ OfNode e ∷ [])
+      quiet_on_line p r e s plain rst =
+          let next : Station Act = station_after m served s (OfNode (Arrived p r)) in
+          let none : (step m served s.node (Arrived p r)).sent ≡ None = unanswered m served s.node p r plain rst in
+          subst (λ (o : Option Reply). on_line (reply_text frames s.acts own o ++ output m served frames own (OfNode e ∷ []) next) ≡ reply_text line s.acts own o ++ output m served line own (OfNode e ∷ []) next)
+          (sym none) (one_on_line (OfNode e) next)
+
+      verdict_on_line : (n : AbstractNode) (e : Event) (v : Verdict) (s : Station Act) → IsOnLine s (map OfNode (by_verdict n e v) ++ [])
+      verdict_on_line n e Drop s = refl
+      verdict_on_line n e Pass s = one_on_line (OfNode e) s
+      verdict_on_line n e (Displace slot) s = quiet_on_line (connection_in slot n).sockets (reset_by (connection_in slot n)) e s refl refl
 
       abbrev CameOnLine : Station Act → List (MediumInput Act) → Type 0
-      CameOnLine s cs = IsOnLine s (map (station_event_by own) cs)
+      CameOnLine s cs = IsOnLine s (flat_map (input_events rules served s.node) cs)
 
       arp_on_line : (s : Station Act) (operation : ℕ) (sender : Pair) → CameOnLine s (arp_brings operation sender)
       arp_on_line s operation sender =
@@ -114,7 +133,7 @@ module _ (k : Interface) where
 
       payload_on_line : (s : Station Act) (kind : ℕ) (payload : List ℕ) → CameOnLine s (payload_brings host kind payload)
       payload_on_line s kind payload =
-          choose (λ (l : List (MediumInput Act)). CameOnLine s l) (is_datagram kind && nat_lt 0 (length payload)) _ _ (λ e. one_on_line (station_event_by own (Datagram payload)) s)
+          choose (λ (l : List (MediumInput Act)). CameOnLine s l) (is_datagram kind && nat_lt 0 (length payload)) _ _ (λ e. verdict_on_line s.node _ _ s)
           (λ e. choose (λ (l : List (MediumInput Act)). CameOnLine s l) (is_arp kind && is_arp_for host.addr payload) _ _ (λ f. arp_on_line s (word_at payload 6) (sender_of payload)) (λ f. refl))
 
       frame_on_line : (s : Station Act) (frame : List ℕ) → CameOnLine s (frame_brings host frame)
@@ -122,7 +141,7 @@ module _ (k : Interface) where
           choose (λ (l : List (MediumInput Act)). CameOnLine s l) (bytes_eq (mac_at frame 0) host.mac || bytes_eq (mac_at frame 0) broadcast) _ _
           (λ e. payload_on_line s (word_at frame 12) (drop 14 frame)) (λ e. refl)
 
-      call_on_line : (call : FrameCall) (s : Station Act) → IsOnLine s (station_events_by (ether_frames k) own call)
+      call_on_line : (call : FrameCall) (s : Station Act) → IsOnLine s (station_events_by (guarded_ether k rules) served s.node call)
       call_on_line (InputsFrame frame) s = choose (λ (l : List (MediumInput Act)). CameOnLine s l) (is_taken frame) _ _ (λ e. frame_on_line s frame) (λ e. refl)
       call_on_line (CallsSlot slot) s =
           choose (λ (acts : List Act). IsOnLine s (map OfMedium acts ++ OfNode (Periodic slot) ∷ [])) (slot == 0) (Ticked ∷ []) []
@@ -130,4 +149,4 @@ module _ (k : Interface) where
       call_on_line DoesNothing s = refl
 
 pub as_on_line : SentAsOnLine
-as_on_line m served k own call s one = call_on_line k one m served own call s
+as_on_line m served k rules own call s one = call_on_line k one rules m served own call s

@@ -1,11 +1,14 @@
 -- The specification of a link that carries datagrams in whole frames.
-use Rattle.std.specs.Prelude.{◌≡◌, ◌≤◌, ◌+◌, ◌⊎◌, ◌==◌, ◌&&◌, if◌then◌else◌, ◌∷◌, [], All, drop, length, List, nat_le, nat_lt, take, ℕ, ⊤}
+use Rattle.std.specs.Prelude.{◌≡◌, ◌≤◌, ◌+◌, ◌⊎◌, ◌==◌, ◌&&◌, if◌then◌else◌, ◌∷◌, [], All, drop, length, List, nat_le, nat_lt, take, Option, ℕ, ⊤}
 use Rattle.std.proofs.lemmas.List.Elements.{All-cons, All-nil}
 use Rattle.app_events.specs.Prelude.{IsByte}
 use Rattle.uip_node.proofs.Basics.{choose}
 use Rattle.uip_wire.specs.declared.sizes.TheConstants.{LARGEST_DATAGRAM}
 use Rattle.line_medium.specs.Prelude.{MediumInput, Datagram, Own, MediumSpec, all_written}
 use Rattle.serve_loop.specs.Prelude.{CarriesBytes, NoAct}
+use Rattle.guarded_node.specs.Wire.{leaving}
+use Rattle.guarded_node.specs.declared.guard.Rules.{Rules}
+use Rattle.sip_hash.specs.declared.key.Key.{Key}
 use Rattle.frame_device.specs.declared.frames.Decoded.{Decoded}
 use Rattle.frame_device.specs.declared.frames.Decoded.TheVariants as brought
 
@@ -19,6 +22,22 @@ pub record FrameSpec (A : Type 0) : Type 0 where
 -- the same as the specification of a line, on which a single byte decodes to nothing: the output for events is defined by it
 abbrev pub as_medium : {A : Type 0} → FrameSpec A → MediumSpec A
 as_medium w = record { decodes = λ before b. []; at_tick = w.at_tick; output_at = w.output_at; text = w.text }
+
+-- A medium, if what a node sends goes to it through the lens of a guard.
+abbrev pub lensed : {A : Type 0} → Option Key → MediumSpec A → MediumSpec A
+lensed key w = record w { text = λ acts datagram. w.text acts (leaving key datagram) }
+
+-- A link, and the rules of the guard between it and a node.
+pub record GuardedLink (A : Type 0) : Type 0 where
+  pub link : FrameSpec A
+  pub rules : Rules
+
+abbrev pub guarded_link : {A : Type 0} → FrameSpec A → Rules → GuardedLink A
+guarded_link link rules = record { link = link; rules = rules }
+
+-- what is sent on it
+abbrev pub wire_medium : {A : Type 0} → GuardedLink A → MediumSpec A
+wire_medium w = lensed w.rules.key (as_medium w.link)
 
 abbrev pub acts_output : {A : Type 0} → FrameSpec A → List A → List ℕ
 acts_output w acts = all_written (as_medium w) acts

@@ -4,10 +4,11 @@ use Rattle.std.specs.Prelude.{◌≡◌, ℕ, Bool, List, [], ◌∷◌, map, �
 use Rattle.app_events.specs.Prelude.{AppSpec}
 use Rattle.ethernet_arp.specs.Prelude.{Act}
 use Rattle.uip_wire.specs.declared.addr.Addr.{Addr}
-use Rattle.serve_loop.specs.Prelude.{Station, output, station_after_all}
-use Rattle.frame_device.specs.EtherFrames.{IsHome, ether_frames}
-use Rattle.frame_device.specs.FrameCalls.{AnsweredFrame, FrameCall, Makes, station_events_by, with_numbers}
-use Rattle.frame_device.specs.FrameSpecs.{FrameSpec, as_medium}
+use Rattle.serve_loop.specs.Prelude.{Station}
+use Rattle.guarded_node.specs.declared.guard.Rules.{Rules}
+use Rattle.frame_device.specs.EtherFrames.{IsHome, guarded_ether}
+use Rattle.frame_device.specs.FrameCalls.{AnsweredFrame, FrameCall, Makes, output_of_call, station_after_frame_call, with_numbers}
+use Rattle.frame_device.specs.FrameSpecs.{GuardedLink}
 use Rattle.frame_device.specs.NextHop.{Interface}
 
 -- what the calls of a program do
@@ -34,14 +35,14 @@ frames_made program all = map (λ it. record { move = Makes (program.makes it.ca
 
 -- ---- by definition
 
-module _ {Call C : Type 0} (program : Program Call C) (m : AppSpec) (served : ℕ → Bool) (w : FrameSpec C) (own : Addr) where
+module _ {Call C : Type 0} (program : Program Call C) (m : AppSpec) (served : ℕ → Bool) (w : GuardedLink C) (own : Addr) where
   -- the station at which a call makes its call of the device
   abbrev pub before_program_call : Call → Station C → Station C
   before_program_call call s = with_numbers (program.change call s) s
 
   -- the station after a call, and after calls
   abbrev pub after_program_call : Call → Station C → Station C
-  after_program_call call s = station_after_all m served (station_events_by w own (program.makes call)) (before_program_call call s)
+  after_program_call call s = station_after_frame_call m served w (program.makes call) (before_program_call call s)
 
   abbrev pub after_program_calls : List Call → Station C → Station C
   after_program_calls [] s = s
@@ -49,11 +50,16 @@ module _ {Call C : Type 0} (program : Program Call C) (m : AppSpec) (served : �
 
   -- the frame that is sent at a call, or no bytes, and at each of these
   abbrev pub program_frame : Call → Station C → List ℕ
-  program_frame call s = output m served (as_medium w) own (station_events_by w own (program.makes call)) (before_program_call call s)
+  program_frame call s = output_of_call m served w own (program.makes call) (before_program_call call s)
 
   abbrev pub program_frames : List Call → Station C → List (List ℕ)
   program_frames [] s = []
   program_frames (call ∷ calls) s = program_frame call s ∷ program_frames calls (after_program_call call s)
+
+  -- the stations at which these calls make their calls of the device
+  abbrev pub program_stations : List Call → Station C → List (Station C)
+  program_stations [] s = []
+  program_stations (call ∷ calls) s = before_program_call call s ∷ program_stations calls (after_program_call call s)
 
   -- P holds of each of these calls, and of the station at which it is made.
   abbrev pub OfEach : (Call → Station C → Type 0) → List Call → Station C → Type 0
@@ -61,8 +67,8 @@ module _ {Call C : Type 0} (program : Program Call C) (m : AppSpec) (served : �
   OfEach P (call ∷ calls) s = P call s × OfEach P calls (after_program_call call s)
 
 -- Over Ethernet: each frame with a datagram goes to the hardware address that its next hop taught last.
-abbrev pub GoHome : {Call : Type 0} → Program Call Act → AppSpec → (ℕ → Bool) → Interface → Addr → List Call → Station Act → Type 0
-GoHome program m served k own calls s =
-    OfEach program m served (ether_frames k) own
-    (λ call at. IsHome k (after_program_call program m served (ether_frames k) own call at).acts
-    (program_frame program m served (ether_frames k) own call at)) calls s
+abbrev pub GoHome : {Call : Type 0} → Program Call Act → AppSpec → (ℕ → Bool) → Interface → Rules → Addr → List Call → Station Act → Type 0
+GoHome program m served k rules own calls s =
+    OfEach program m served (guarded_ether k rules) own
+    (λ call at. IsHome k (after_program_call program m served (guarded_ether k rules) own call at).acts
+    (program_frame program m served (guarded_ether k rules) own call at)) calls s

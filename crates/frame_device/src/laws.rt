@@ -8,33 +8,36 @@ ghost use Rattle.uip_wire.specs.declared.addr.Addr.{Addr};
 ghost use Rattle.frame_device.specs.declared.device.FrameDevice.{FrameDevice as AnyDevice};
 ghost use Rattle.frame_device.specs.Prelude.{FramesGoHome, SentAsOnLine, AnsweredFrame, AnswersAllFrames, FromFresh};
 ghost use Rattle.frame_device.specs.Prelude.{IsFreshFrameDevice, RepresentsStation, Writing, frames_sent, handed_of};
-ghost use Rattle.frame_device.specs.Prelude.{frame_moves_of, station_after_moves, IsFrameOfBytes, FramesConform, KeepsU32};
+ghost use Rattle.frame_device.specs.Prelude.{frame_moves_of, guarded_link, station_after_moves, stations_at, IsFrameOfBytes, FramesConform, KeepsU32};
+ghost use Rattle.guarded_node.specs.declared.guard.Rules.{Rules};
 ghost use Rattle.serve_loop.specs.Prelude.{initial_station};
 
 use crate::frames::Frames;
 use app_events::App;
 
 /// Holds for any calls of a fresh device in turn, and any values that are set between them. Each call writes exactly the frame that the
-/// initial node and its link send for its events, or none. The device represents the node and link after all moves. The configuration
-/// of its application stays.
+/// initial node with its guard and its link send for its events, or none. The device represents the node and link after all moves. The
+/// configuration of its application stays, and so do the rules of its guard.
 pub fn frame_calls_are_exact<A: App, M: Frames>()
-    ensures frames { FromFresh A.App M.Frames (λ k m gives numbers own all old new.
-        handed_of all ≡ frames_sent m A.served (M.spec k) gives own (frame_moves_of all) (initial_station own numbers)) }
-    ensures represented { FromFresh A.App M.Frames (λ k m gives numbers own all old new.
+    ensures frames { FromFresh A.App M.Frames (λ k w m gives numbers own all old new.
+        handed_of all ≡ frames_sent m A.served w gives own (frame_moves_of all) (initial_station own numbers)) }
+    ensures represented { FromFresh A.App M.Frames (λ k w m gives numbers own all old new.
         RepresentsStation A.App M.Frames k m own new
-        (station_after_moves m A.served (M.spec k) gives own (frame_moves_of all) (initial_station own numbers))) }
-    ensures kept { FromFresh A.App M.Frames (λ k m gives numbers own all old new. A.config new.node.shared ≡ A.config old.node.shared) }
+        (station_after_moves m A.served w gives (frame_moves_of all) (initial_station own numbers))) }
+    ensures kept { FromFresh A.App M.Frames (λ k w m gives numbers own all old new.
+        (A.config new.node.shared ≡ A.config old.node.shared) × (new.guard.rules ≡ w.rules)) }
 {}
 
 /// Holds for any frames of bytes and any other calls of a fresh device in turn, and any values that are set between them, if its
 /// application never retracts text, and sends bytes. Each call writes the frame of what is sent in trace entries of its own events, or of
-/// the link's own event, and the trace conforms.
+/// the link's own event. The trace conforms, in the numbers of the node and in those of the wire.
 pub fn frame_calls_keep_the_promise<A: App, M: Frames>()
     ensures { (k : M.Config) (m : AppSpec) (model : ℕ → OutputModel) → IsSteady m → SendsBytes m → HasOutputModel m model
-        → (gives : Writing) → KeepsU32 gives → (numbers : List ℕ) → All IsU32 numbers → (own : Addr) → IsAddr own
+        → (gives : Writing) → KeepsU32 gives → (numbers : List ℕ) → All IsU32 numbers → (rules : Rules) (own : Addr) → IsAddr own
         → (all : List AnsweredFrame) → All IsFrameOfBytes (frame_moves_of all) → (old new : AnyDevice A M A.Shared)
-        → IsFreshFrameDevice A.App M.Frames k m numbers own old → AnswersAllFrames A.App M.Frames gives all old new
-        → FramesConform (M.spec k) m model A.served own all }
+        → IsFreshFrameDevice A.App M.Frames k m numbers rules own old → AnswersAllFrames A.App M.Frames gives all old new
+        → FramesConform (guarded_link (M.spec k) rules) m model A.served own
+        (stations_at m A.served (guarded_link (M.spec k) rules) gives (frame_moves_of all) (initial_station own numbers)) all }
 {}
 
 /// Over Ethernet, if every address is on the link, a call writes what `ether_medium` sends on a line for the same events, without the

@@ -115,7 +115,7 @@ kept_open true true e f = refl
 kept_open true false e f = sym e
 kept_open false here e f = absurd (false≢true f)
 
-event_at : (ports frame : List ℕ) (event : Event) → word_at frame 12 ≡ 2048 → is_for_closed_port ports frame ≡ false → IsTo (drop 14 frame) event → IsAt (is_open_port ports) event
+pub event_at : (ports frame : List ℕ) (event : Event) → word_at frame 12 ≡ 2048 → is_for_closed_port ports frame ≡ false → IsTo (drop 14 frame) event → IsAt (is_open_port ports) event
 event_at ports frame (Arrived p s) kind kept it =
     ap (is_open_port ports) (it.3 ∙ port_at_offset frame) ∙ kept_open (carries_segment frame) (is_open_port ports (target_port frame)) kept (carries frame kind it.0 it.1 it.2)
 event_at ports frame (IpRefused fate) kind kept it = tt

@@ -301,7 +301,7 @@ pub record HasWrittenText (c : Connection) (text : List ℕ) : Type 0 where
   pub text_is : messages_text c.part.snapshots ≡ text
   pub none : c.state ≡ SynRcvd → c.part.snapshots ≡ []
 
-accepted_is : (st : State) → is_accepted st ≡ true → st ≡ SynRcvd
+pub accepted_is : (st : State) → is_accepted st ≡ true → st ≡ SynRcvd
 accepted_is SynRcvd e = refl
 accepted_is Closed e = absurd (false≢true e)
 accepted_is Established e = absurd (false≢true e)
@@ -350,10 +350,10 @@ same_slot c d e = goes_on (ap (λ (x : Connection). x.part.snapshots) e) (λ z. 
 -- ---- of a node with an application that contains `OwnApp`
 
 module _ (mine : ℕ → Bool) (seen : AppState → AppState) (own : List ℕ → List ℕ) (m : AppSpec) (contains : Contains mine seen own m) where
-  abbrev View : AbstractNode → AbstractNode
+  abbrev pub View : AbstractNode → AbstractNode
   View n = view_node mine seen own n
 
-  abbrev view_at : ℕ → AbstractNode → Connection
+  abbrev pub view_at : ℕ → AbstractNode → Connection
   view_at slot n = view mine seen own (connection_in slot n)
 
   seen_in : (n : AbstractNode) (slot : ℕ) → connection_in slot (View n) ≡ view_at slot n

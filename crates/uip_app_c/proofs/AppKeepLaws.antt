@@ -1,5 +1,5 @@
 -- Calls on a handle, one after the other, keep the promise.
-use Rattle.uip_app_c.proofs.Prelude.{◌≡◌, ◌∙◌, ℕ, ◌+◌, ◌<◌, Bool, if◌then◌else◌, List, [], ◌∷◌, ◌++◌, length, refl, sym, ap, subst, arith, IsPrefixOf, Snapshot, Act, Mac, CallsSlot, DoesNothing, FrameCall, FrameSpec, InputsFrame, IsFrameOfBytes, Makes, acts_before, ether_brings_bytes, interface_at, station_events_by, Network, DidInTurn, program_calls, IsOfLine, call_few, each_by, each_with, events_of_call, program_goes_home, node_of_call, periodic_events, program_conforms, is_own_port, messages_text, no_message, numbers_of, own_output_model, own_spec, HasCaptured, next_message, with_change, Station, All, IsAddr, is_for_closed_port, AnsweredCall, AppCall, AppCallsConform, AppTraceConforms, Calls, Captures, CouldWrite, IsCallOfBytes, Kept, Listens, OfEachCall, OpensOwn, Writes, app_program, call_at, change_by, connection_after, first_station, link_of, ports_after_call, station_after_call, station_after_calls, text_in_call, undropped, choose, AbstractNode, Event, Periodic, connection_in, run, Addr}
+use Rattle.uip_app_c.proofs.Prelude.{OpensAndProtects, Key, Option, key_by, own_rules, ◌≡◌, ◌∙◌, ℕ, ◌+◌, ◌<◌, Bool, if◌then◌else◌, List, [], ◌∷◌, ◌++◌, length, refl, sym, ap, subst, arith, IsPrefixOf, Snapshot, Act, Mac, CallsSlot, DoesNothing, FrameCall, GuardedLink, InputsFrame, IsFrameOfBytes, Makes, acts_before, ether_brings_bytes, interface_at, station_events_by, Network, DidInTurn, program_calls, IsOfLine, call_few, each_by, each_with, events_of_call, program_goes_home, node_of_call, periodic_events, program_conforms, is_own_port, messages_text, no_message, numbers_of, own_output_model, own_spec, HasCaptured, next_message, with_change, Station, All, IsAddr, is_for_closed_port, AnsweredCall, AppCall, AppCallsConform, AppTraceConforms, Calls, Captures, CouldWrite, IsCallOfBytes, Kept, Listens, OfEachCall, Writes, app_program, call_at, change_by, connection_after, first_station, link_of, ports_after_call, station_after_call, station_after_calls, text_in_call, undropped, choose, AbstractNode, Event, Periodic, connection_in, run, Addr}
 use Rattle.std.proofs.lemmas.List.{length-map}
 use Rattle.line_laws.specs.Prelude.{events_among}
 use Rattle.frame_device.specs.Newest.{NewestConforms}
@@ -8,17 +8,18 @@ use Rattle.frame_device.proofs.Newest.{newest_text}
 use Rattle.own_app.proofs.OwnLines.{own_speaks, written_u32}
 use Rattle.own_node.specs.Written.{is_accepted, text_written}
 use Rattle.own_node.proofs.Alone.{own_words, alone, alone_captured, alone_message, alone_wrote, any_port, same_numbers, same_part}
-use Rattle.own_node.proofs.WrittenLaws.{Follows, HasWrittenText, Holds, HoldsAfter, change_follows, events_leave, first_follows, first_holds, run_follows}
+use Rattle.own_node.proofs.WrittenLaws.{Follows, HasWrittenText, Holds, HoldsAfter, change_follows, first_follows, first_holds, run_follows}
 use Rattle.tcp_machine.specs.Prelude.{Connection}
 use Rattle.std.proofs.lemmas.List.Elements.{All-cons, All-head, All-nil, All-tail}
 use Rattle.uip_app_c.proofs.AppLaws.{Did, did_undropped, undropped_exact}
+use Rattle.own_node.proofs.GivenUp.{few_leave}
 
-module _ (own : Addr) (mac : Mac) (network : Network) where
-  abbrev link : FrameSpec Act
-  link = link_of own mac network
+module _ (own : Addr) (mac : Mac) (network : Network) (key : Option Key) where
+  abbrev link : GuardedLink Act
+  link = link_of own mac network key
 
   abbrev after : AppCall → Station Act → Station Act
-  after call s = station_after_call own mac network call s
+  after call s = station_after_call own mac network key call s
 
   abbrev FollowsAt : Station Act → Type 0
   FollowsAt s = Follows any_port same_part same_numbers own_spec alone s.node
@@ -26,7 +27,7 @@ module _ (own : Addr) (mac : Mac) (network : Network) where
   follows_after : (call : AppCall) (s : Station Act) → FollowsAt s → FollowsAt (after call s)
   follows_after call s f =
       subst (λ (n : AbstractNode). Follows any_port same_part same_numbers own_spec alone n) (sym (node_of_call app_program own_spec is_own_port link own call s))
-      (run_follows any_port same_part same_numbers own_spec alone is_own_port (events_of_call app_program own_spec is_own_port link own call) (with_change (change_by call s) s.node)
+      (run_follows any_port same_part same_numbers own_spec alone is_own_port (events_of_call app_program own_spec is_own_port link own call s) (with_change (change_by call s) s.node)
       (change_follows any_port same_part same_numbers own_spec alone (change_by call s) s.node f))
 
   -- ---- of one call
@@ -51,9 +52,9 @@ module _ (own : Addr) (mac : Mac) (network : Network) where
       → (after (Writes slot taken text last) s).node ≡ (run own_spec is_own_port (Periodic slot ∷ []) (with_change (change_by (Writes slot taken text last) s) s.node)).node
   called slot taken text last s =
       node_of_call app_program own_spec is_own_port link own (Writes slot taken text last) s
-      ∙ ap (λ (events : List Event). (run own_spec is_own_port events (with_change (change_by (Writes slot taken text last) s) s.node)).node) (periodic_events (acts_before link slot) slot)
+      ∙ ap (λ (events : List Event). (run own_spec is_own_port events (with_change (change_by (Writes slot taken text last) s) s.node)).node) (periodic_events (acts_before link.link slot) slot)
 
-  captures_one : (call : AppCall) (s : Station Act) → FollowsAt s → IsGood call s → Captures own mac network call s
+  captures_one : (call : AppCall) (s : Station Act) → FollowsAt s → IsGood call s → Captures own mac network key call s
   captures_one (Calls call) s f good = tt
   captures_one (Listens port) s f good = tt
   captures_one (Writes slot taken text last) s f good =
@@ -69,9 +70,9 @@ module _ (own : Addr) (mac : Mac) (network : Network) where
   HoldsNext n count slot text = HoldsAfter any_port same_part same_numbers own_spec alone n count slot text
 
   call_leaves : (call : FrameCall) (n : AbstractNode) → Follows any_port same_part same_numbers own_spec alone n → (count slot : ℕ) (text : List ℕ) → count + 1 < 4294967296 → HoldsAt n count slot text
-      → HoldsNext (run own_spec is_own_port (events_among (station_events_by link own call)) n).node count slot (text ++ [])
+      → HoldsNext (run own_spec is_own_port (events_among (station_events_by link is_own_port n call)) n).node count slot (text ++ [])
   call_leaves call n f count slot text low h =
-      events_leave any_port same_part same_numbers own_spec alone is_own_port (events_among (station_events_by link own call)) (call_few (interface_at own mac network) own call) n f count slot text low h
+      few_leave any_port same_part same_numbers own_spec alone is_own_port (events_among (station_events_by link is_own_port n call)) (call_few (interface_at own mac network) (own_rules key) is_own_port n call) n f count slot text low h
 
   one_leaves : (call : AppCall) (s : Station Act) → FollowsAt s → IsGood call s → (count slot : ℕ) (text : List ℕ) → count + 1 < 4294967296 → HoldsAt s.node count slot text
       → HoldsNext (after call s).node count slot (text ++ text_in_call slot call)
@@ -83,9 +84,9 @@ module _ (own : Addr) (mac : Mac) (network : Network) where
       subst (λ (n : AbstractNode). HoldsNext n count slot (before ++ text_in_call slot (Writes at taken text last))) (sym (called at taken text last s))
       (alone_wrote s.node at taken text last f good.0 good.1 count slot before h)
 
-  all_leave : (calls : List AppCall) (s : Station Act) → FollowsAt s → OfEachCall own mac network IsGood calls s → (count slot : ℕ) (text : List ℕ) → count + length calls < 4294967296 → HoldsAt s.node count slot text
-      → HasWrittenText (connection_in slot (station_after_calls own mac network calls s).node)
-      (text_written (station_after_call own mac network) (λ (s : Station Act). s.node) text_in_call slot calls s text)
+  all_leave : (calls : List AppCall) (s : Station Act) → FollowsAt s → OfEachCall own mac network key IsGood calls s → (count slot : ℕ) (text : List ℕ) → count + length calls < 4294967296 → HoldsAt s.node count slot text
+      → HasWrittenText (connection_in slot (station_after_calls own mac network key calls s).node)
+      (text_written (station_after_call own mac network key) (λ (s : Station Act). s.node) text_in_call slot calls s text)
   all_leave [] s f good count slot text low h = h.has
   all_leave (call ∷ calls) s f good count slot text low h =
       all_leave calls (after call s) (follows_after call s f) good.1 (count + 1) slot
@@ -98,27 +99,28 @@ messages_sent : (c : Connection) (exchanges : List Exchange) (it : NewestConform
 messages_sent c exchanges it =
     subst (λ (ks : List Snapshot). IsPrefixOf (it.conforms.account 0).stream (messages_text ks)) it.snapshots (newest_text (own_output_model c.sockets.own_port.0) c exchanges it).0.2.prefix
 
-undropped_conform : (own : Addr) → IsAddr own → (mac : Mac) (network : Network) (all : List AnsweredCall) → All IsCallOfBytes (program_calls all)
-    → (closed old new : Kept) → OpensOwn own.0 mac.0 network.mask.0 network.router.0 closed old → DidInTurn Did all old new
-    → AppTraceConforms own mac network all
-undropped_conform own is mac network all bytes closed old new opens did =
+undropped_conform : (own : Addr) → IsAddr own → (mac : Mac) (network : Network) (secret : Option (List ℕ)) (all : List AnsweredCall) → All IsCallOfBytes (program_calls all)
+    → (closed opened old new : Kept) → OpensAndProtects own mac network secret closed opened old → DidInTurn Did all old new
+    → AppTraceConforms own mac network (key_by secret) all
+undropped_conform own is mac network secret all bytes closed opened old new start did =
+    let key : Option Key = key_by secret in
     let s : Station Act = first_station own in
     let calls : List AppCall = program_calls all in
-    let exact = undropped_exact own mac network all closed old new opens did in
+    let exact = undropped_exact own mac network secret all closed opened old new start did in
     let numbers : List ℕ = numbers_of 0 no_message in
-    let link : FrameSpec Act = link_of own mac network in
+    let link : GuardedLink Act = link_of own mac network key in
     let f = first_follows any_port same_part same_numbers own_spec alone own numbers in
     let good = each_with app_program own_spec is_own_port link own IsCallOfBytes CouldWrite calls s bytes exact.could in
     let trace = program_conforms app_program own_spec is_own_port link own (ether_brings_bytes (interface_at own mac network)) own_output_model own_speaks.steady own_speaks.bytes own_speaks.speaks numbers own_words is all
-    (each_by app_program own_spec is_own_port link own (FollowsAt own mac network) (follows_after own mac network) (IsGood own mac network) (IsOfLine app_program own_spec is_own_port link own) (of_line own mac network) calls s f good) exact.frames in
+    (each_by app_program own_spec is_own_port link own (FollowsAt own mac network key) (follows_after own mac network key) (IsGood own mac network key) (IsOfLine app_program own_spec is_own_port link own) (of_line own mac network key) calls s f good) exact.frames in
     record {
       trace = trace;
-      sent = λ slot live. messages_sent (connection_after own mac network all slot) _ (trace.newest slot live);
-      captured = each_by app_program own_spec is_own_port link own (FollowsAt own mac network) (follows_after own mac network) (IsGood own mac network) (Captures own mac network) (captures_one own mac network) calls s f good;
+      sent = λ slot live. messages_sent (connection_after own mac network key all slot) _ (trace.newest slot live);
+      captured = each_by app_program own_spec is_own_port link own (FollowsAt own mac network key) (follows_after own mac network key) (IsGood own mac network key) (Captures own mac network key) (captures_one own mac network key) calls s f good;
       written = λ few slot.
-          (all_leave own mac network calls s f good 0 slot [] (let size = length-map all (λ (it : AnsweredCall). it.call) in omega (arith, few, size))
+          (all_leave own mac network key calls s f good 0 slot [] (let size = length-map all (λ (it : AnsweredCall). it.call) in omega (arith, few, size))
           (first_holds any_port same_part same_numbers own_spec alone own numbers refl slot)).text_is;
-      home = λ six. program_goes_home app_program own_spec is_own_port (interface_at own mac network) own six calls s tt;
+      home = λ six. program_goes_home app_program own_spec is_own_port (interface_at own mac network) (own_rules key) own six calls s tt;
     }
 
 -- the calls that are not dropped are of bytes too
@@ -138,5 +140,5 @@ calls_of_bytes ports (it ∷ all) are =
     (calls_of_bytes next all (All-tail IsCallOfBytes it.call (program_calls all) are))
 
 pub calls_conform : AppCallsConform
-calls_conform own is mac network all bytes closed old new opens did =
-    undropped_conform own is mac network (undropped [] all) (calls_of_bytes [] all bytes) closed old new opens (did_undropped own mac network all closed old new opens did).0
+calls_conform own is mac network secret all bytes closed opened old new start did =
+    undropped_conform own is mac network secret (undropped [] all) (calls_of_bytes [] all bytes) closed opened old new start (did_undropped own mac network secret all closed opened old new start did).0

@@ -15,4 +15,4 @@ pub use calls::{
 pub use handle::AppDevice;
 pub use held::{Held, OwnEther};
 pub use laws::{app_calls_are_exact, app_calls_keep_the_promise};
-pub use open_close::{uip_app_close, uip_app_open};
+pub use open_close::{uip_app_close, uip_app_open, uip_app_protect};

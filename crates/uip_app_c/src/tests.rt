@@ -7,7 +7,7 @@ use crate::calls::{
 };
 use crate::handle::AppDevice;
 use crate::held::Held;
-use crate::open_close::{uip_app_close, uip_app_open};
+use crate::open_close::{uip_app_close, uip_app_open, uip_app_protect};
 use c_calls::{BAD_ARGUMENT, HAS_DEVICE, NO_DEVICE, NOT_READY, OK, UipReceived, UipResult};
 use frame_device::LARGEST_OUT;
 use frame_device::worked::{
@@ -98,6 +98,22 @@ fn check_refused(rt: &impl Abort, alloc: Global, device: &mut AppDevice, status:
         refused
     );
     assert_eq!(rt; uip_app_listen(alloc, device, 5025), status);
+}
+
+#[test]
+fn a_secret_is_set_once_and_in_time(rt: HostRuntime) {
+    let alloc = rt.alloc();
+    let mut device = no_device(alloc);
+    assert_eq!(rt; uip_app_protect(alloc, &mut device, &[7; 16]), NO_DEVICE);
+    discard(device);
+    let mut device = opened(&rt, alloc);
+    assert_eq!(rt; uip_app_protect(alloc, &mut device, &[7; 16]), OK);
+    assert_eq!(rt; uip_app_protect(alloc, &mut device, &[8; 16]), BAD_ARGUMENT);
+    close(&rt, alloc, device);
+    let mut used = opened(&rt, alloc);
+    check_reply(&rt, alloc, &mut used, &ARP_REQUEST, &ARP_REPLY);
+    assert_eq!(rt; uip_app_protect(alloc, &mut used, &[7; 16]), BAD_ARGUMENT);
+    close(&rt, alloc, used);
 }
 
 #[test]

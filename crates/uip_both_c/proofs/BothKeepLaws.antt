@@ -1,5 +1,5 @@
 -- Calls on a handle, one after the other, keep the promise.
-use Rattle.uip_both_c.proofs.Prelude.{All, ◌≡◌, ◌∙◌, ℕ, ◌+◌, ◌<◌, Bool, true, false, if◌then◌else◌, List, [], ◌∷◌, ◌++◌, length, map, sym, ap, subst, arith, length-map, AppSpec, IsAddr, IsPrefixOf, IsU32, Snapshot, others_stay, own_u32, pair_u32, second_back, with_own_u32, change_own, own_numbers, Act, Mac, files_of, words, words_bytes, words_short, CallsSlot, DoesNothing, FrameCall, FrameSpec, InputsFrame, IsFrameOfBytes, Makes, acts_before, ether_brings_bytes, interface_at, station_events_by, Network, DidInTurn, program_calls, IsOfLine, at_end, call_few, each_by, each_with, events_of_call, program_goes_home, node_of_call, periodic_events, program_conforms, PlainMessage, is_own_port, messages_text, no_message, numbers_of, own_output_model, own_spec, write_message, HasCaptured, next_message_at, own_connection, with_change, Station, File, AnsweredCall, BothCall, BothCallsConform, BothTraceConforms, Calls, Captures, CouldWrite, Gives, IsCallOfBytes, Kept, Listens, OfEachCall, OpensBoth, Writes, both_model, both_program, both_spec, call_at, change_by, connection_after, first_both_numbers, first_station, is_both_port, is_dropped, link_of, own_in, ports_after_call, station_after_call, station_after_calls, text_in_call, undropped, choose, first_numbers, value_pages, value_spec, write_value, first_words, written_words, AbstractNode, Event, Periodic, connection_in, run, Addr}
+use Rattle.uip_both_c.proofs.Prelude.{Key, Option, ProtectsBoth, both_rules, key_by, All, ◌≡◌, ◌∙◌, ℕ, ◌+◌, ◌<◌, Bool, true, false, if◌then◌else◌, List, [], ◌∷◌, ◌++◌, length, map, sym, ap, subst, arith, length-map, AppSpec, IsAddr, IsPrefixOf, IsU32, Snapshot, others_stay, own_u32, pair_u32, second_back, with_own_u32, change_own, own_numbers, Act, Mac, files_of, words, words_bytes, words_short, CallsSlot, DoesNothing, FrameCall, GuardedLink, InputsFrame, IsFrameOfBytes, Makes, acts_before, ether_brings_bytes, interface_at, station_events_by, Network, DidInTurn, program_calls, IsOfLine, at_end, call_few, each_by, each_with, events_of_call, program_goes_home, node_of_call, periodic_events, program_conforms, PlainMessage, is_own_port, messages_text, no_message, numbers_of, own_output_model, own_spec, write_message, HasCaptured, next_message_at, own_connection, with_change, Station, File, AnsweredCall, BothCall, BothCallsConform, BothTraceConforms, Calls, Captures, CouldWrite, Gives, IsCallOfBytes, Kept, Listens, OfEachCall, OpensBoth, Writes, both_model, both_program, both_spec, call_at, change_by, connection_after, first_both_numbers, first_station, is_both_port, is_dropped, link_of, own_in, ports_after_call, station_after_call, station_after_calls, text_in_call, undropped, choose, first_numbers, value_pages, value_spec, write_value, first_words, written_words, AbstractNode, Event, Periodic, connection_in, run, Addr}
 use Rattle.std.proofs.lemmas.List.Elements.{All-cons, All-head, All-nil, All-tail}
 use Rattle.app_pair.specs.PairSpec.{CanBePaired, own_snapshot}
 use Rattle.line_laws.specs.Prelude.{events_among}
@@ -9,11 +9,12 @@ use Rattle.node_laws.proofs.EveryTraceConforms.{paged_everywhere}
 use Rattle.frame_device.proofs.Newest.{newest_text}
 use Rattle.own_app.specs.Lemmas.OwnPairs.{own_can_pair}
 use Rattle.own_app.proofs.OwnLines.{own_speaks, written_u32}
+use Rattle.own_node.proofs.GivenUp.{few_leave}
 use Rattle.own_node.specs.Written.{is_accepted, text_written}
 use Rattle.own_node.proofs.Alone.{own_words}
 use Rattle.own_node.proofs.Containing.{view, view_own}
 use Rattle.own_node.proofs.InPair.{in_pair, pair_captured, pair_message, pair_wrote, second_numbers, second_part}
-use Rattle.own_node.proofs.WrittenLaws.{Follows, HasWrittenText, Holds, HoldsAfter, change_follows, change_leaves, events_leave, first_follows, first_holds, run_follows}
+use Rattle.own_node.proofs.WrittenLaws.{Follows, HasWrittenText, Holds, HoldsAfter, change_follows, change_leaves, first_follows, first_holds, run_follows}
 use Rattle.pair_laws.specs.PairLines.{own_model}
 use Rattle.pair_laws.proofs.PairLines.{speaks_on_lines}
 use Rattle.tcp_machine.specs.Prelude.{Connection}
@@ -24,9 +25,9 @@ use Rattle.uip_node.proofs.Steadiness.{steady_of}
 use Rattle.web_pages.proofs.ByteLaws.{made_of_bytes_by}
 use Rattle.web_pages.proofs.PageLaws.{keeps_page_laws_by}
 
-module _ (files : List File) (own : Addr) (mac : Mac) (network : Network) where
-  abbrev link : FrameSpec Act
-  link = link_of own mac network
+module _ (files : List File) (own : Addr) (mac : Mac) (network : Network) (key : Option Key) where
+  abbrev link : GuardedLink Act
+  link = link_of own mac network key
 
   abbrev spec : AppSpec
   spec = both_spec files
@@ -35,7 +36,7 @@ module _ (files : List File) (own : Addr) (mac : Mac) (network : Network) where
   pages_pair = pages_can_pair words files
 
   abbrev after : BothCall → Station Act → Station Act
-  after call s = station_after_call files own mac network call s
+  after call s = station_after_call files own mac network key call s
 
   abbrev FollowsAt : Station Act → Type 0
   FollowsAt s = Follows is_own_port second_part second_numbers spec (in_pair (value_spec files) pages_pair) s.node
@@ -43,7 +44,7 @@ module _ (files : List File) (own : Addr) (mac : Mac) (network : Network) where
   follows_after : (call : BothCall) (s : Station Act) → FollowsAt s → FollowsAt (after call s)
   follows_after call s f =
       subst (λ (n : AbstractNode). Follows is_own_port second_part second_numbers spec (in_pair (value_spec files) pages_pair) n) (sym (node_of_call both_program spec is_both_port link own call s))
-      (run_follows is_own_port second_part second_numbers spec (in_pair (value_spec files) pages_pair) is_both_port (events_of_call both_program spec is_both_port link own call) (with_change (change_by call s) s.node)
+      (run_follows is_own_port second_part second_numbers spec (in_pair (value_spec files) pages_pair) is_both_port (events_of_call both_program spec is_both_port link own call s) (with_change (change_by call s) s.node)
       (change_follows is_own_port second_part second_numbers spec (in_pair (value_spec files) pages_pair) (change_by call s) s.node f))
 
   -- ---- of one call
@@ -76,9 +77,9 @@ module _ (files : List File) (own : Addr) (mac : Mac) (network : Network) where
       → (after (Writes slot taken text last) s).node ≡ (run spec is_both_port (Periodic slot ∷ []) (with_change (change_by (Writes slot taken text last) s) s.node)).node
   called slot taken text last s =
       node_of_call both_program spec is_both_port link own (Writes slot taken text last) s
-      ∙ ap (λ (events : List Event). (run spec is_both_port events (with_change (change_by (Writes slot taken text last) s) s.node)).node) (periodic_events (acts_before link slot) slot)
+      ∙ ap (λ (events : List Event). (run spec is_both_port events (with_change (change_by (Writes slot taken text last) s) s.node)).node) (periodic_events (acts_before link.link slot) slot)
 
-  captures_one : (call : BothCall) (s : Station Act) → FollowsAt s → IsGood call s → Captures files own mac network call s
+  captures_one : (call : BothCall) (s : Station Act) → FollowsAt s → IsGood call s → Captures files own mac network key call s
   captures_one (Calls call) s f good = tt
   captures_one (Listens port) s f good = tt
   captures_one (Writes slot taken text last) s f good =
@@ -95,9 +96,9 @@ module _ (files : List File) (own : Addr) (mac : Mac) (network : Network) where
   HoldsNext n count slot text = HoldsAfter is_own_port second_part second_numbers spec (in_pair (value_spec files) pages_pair) n count slot text
 
   call_leaves : (call : FrameCall) (n : AbstractNode) → Follows is_own_port second_part second_numbers spec (in_pair (value_spec files) pages_pair) n → (count slot : ℕ) (text : List ℕ) → count + 1 < 4294967296 → HoldsAt n count slot text
-      → HoldsNext (run spec is_both_port (events_among (station_events_by link own call)) n).node count slot (text ++ [])
+      → HoldsNext (run spec is_both_port (events_among (station_events_by link is_both_port n call)) n).node count slot (text ++ [])
   call_leaves call n f count slot text low h =
-      events_leave is_own_port second_part second_numbers spec (in_pair (value_spec files) pages_pair) is_both_port (events_among (station_events_by link own call)) (call_few (interface_at own mac network) own call) n f count slot text low h
+      few_leave is_own_port second_part second_numbers spec (in_pair (value_spec files) pages_pair) is_both_port (events_among (station_events_by link is_both_port n call)) (call_few (interface_at own mac network) (both_rules key) is_both_port n call) n f count slot text low h
 
   one_leaves : (call : BothCall) (s : Station Act) → FollowsAt s → IsGood call s → (count slot : ℕ) (text : List ℕ) → count + 1 < 4294967296 → HoldsAt s.node count slot text
       → HoldsNext (after call s).node count slot (text ++ text_in_call slot call)
@@ -115,9 +116,9 @@ module _ (files : List File) (own : Addr) (mac : Mac) (network : Network) where
       (change_leaves is_own_port second_part second_numbers spec (in_pair (value_spec files) pages_pair) change s.node count slot before
       (others_stay false (write_value number text (own_numbers false s.node.numbers)) s.node.numbers) h))
 
-  all_leave : (calls : List BothCall) (s : Station Act) → FollowsAt s → OfEachCall files own mac network IsGood calls s → (count slot : ℕ) (text : List ℕ) → count + length calls < 4294967296 → HoldsAt s.node count slot text
-      → HasWrittenText (view is_own_port second_part second_numbers (connection_in slot (station_after_calls files own mac network calls s).node))
-      (text_written (station_after_call files own mac network) (λ (s : Station Act). s.node) text_in_call slot calls s text)
+  all_leave : (calls : List BothCall) (s : Station Act) → FollowsAt s → OfEachCall files own mac network key IsGood calls s → (count slot : ℕ) (text : List ℕ) → count + length calls < 4294967296 → HoldsAt s.node count slot text
+      → HasWrittenText (view is_own_port second_part second_numbers (connection_in slot (station_after_calls files own mac network key calls s).node))
+      (text_written (station_after_call files own mac network key) (λ (s : Station Act). s.node) text_in_call slot calls s text)
   all_leave [] s f good count slot text low h = h.has
   all_leave (call ∷ calls) s f good count slot text low h =
       all_leave calls (after call s) (follows_after call s f) good.1 (count + 1) slot
@@ -140,17 +141,18 @@ both_words files = pair_u32 (first_numbers files) (numbers_of 0 no_message) (fir
 
 -- ---- the law
 
-undropped_conform : (image : List ℕ) (own : Addr) → IsAddr own → (mac : Mac) (network : Network) (all : List AnsweredCall) → All IsCallOfBytes (program_calls all)
-    → (closed old new : Kept) → (opens : OpensBoth image own.0 mac.0 network.mask.0 network.router.0 closed old) → DidInTurn Did all old new
-    → BothTraceConforms (files_of opens.site) own mac network all
-undropped_conform image own is mac network all bytes closed old new opens did =
+undropped_conform : (image : List ℕ) (own : Addr) → IsAddr own → (mac : Mac) (network : Network) (secret : Option (List ℕ)) (all : List AnsweredCall) → All IsCallOfBytes (program_calls all)
+    → (closed opened old new : Kept) → (opens : OpensBoth image own.0 mac.0 network.mask.0 network.router.0 closed opened) → ProtectsBoth secret opened old → DidInTurn Did all old new
+    → BothTraceConforms (files_of opens.site) own mac network (key_by secret) all
+undropped_conform image own is mac network secret all bytes closed opened old new opens protects did =
+    let key : Option Key = key_by secret in
     let files : List File = files_of opens.site in
     let s : Station Act = first_station files own in
     let calls : List BothCall = program_calls all in
-    let exact = undropped_exact files own mac network all closed old new opens.opened did in
+    let exact = undropped_exact files own mac network secret all closed opened old new (opens.opened, protects) did in
     let numbers : List ℕ = first_both_numbers files in
     let spec : AppSpec = both_spec files in
-    let link : FrameSpec Act = link_of own mac network in
+    let link : GuardedLink Act = link_of own mac network key in
     let of = opens.of_image in
     let lawful = keeps_page_laws_by words words_short opens.site of.loaded of.sound in
     let pages : CanBePaired (value_spec files) = pages_can_pair words files in
@@ -165,19 +167,19 @@ undropped_conform image own is mac network all bytes closed old new opens did =
     let contains = in_pair (value_spec files) pages in
     let f = first_follows is_own_port second_part second_numbers spec contains own numbers in
     let good = each_with both_program spec is_both_port link own IsCallOfBytes CouldWrite calls s bytes exact.could in
-    let ends = at_end both_program spec is_both_port link own (FollowsAt files own mac network) (follows_after files own mac network) calls s f in
+    let ends = at_end both_program spec is_both_port link own (FollowsAt files own mac network key) (follows_after files own mac network key) calls s f in
     let trace = program_conforms both_program spec is_both_port link own (ether_brings_bytes (interface_at own mac network)) (both_model files) speaks.steady speaks.bytes speaks.speaks numbers (both_words files) is all
-    (each_by both_program spec is_both_port link own (FollowsAt files own mac network) (follows_after files own mac network) (IsGood files own mac network) (IsOfLine both_program spec is_both_port link own) (of_line files own mac network) calls s f good) exact.frames in
+    (each_by both_program spec is_both_port link own (FollowsAt files own mac network key) (follows_after files own mac network key) (IsGood files own mac network key) (IsOfLine both_program spec is_both_port link own) (of_line files own mac network key) calls s f good) exact.frames in
     record {
       trace = trace;
-      sent = λ slot live mine. messages_sent files (connection_after files own mac network all slot) _ (trace.newest slot live) mine;
-      captured = each_by both_program spec is_both_port link own (FollowsAt files own mac network) (follows_after files own mac network) (IsGood files own mac network) (Captures files own mac network) (captures_one files own mac network) calls s f good;
+      sent = λ slot live mine. messages_sent files (connection_after files own mac network key all slot) _ (trace.newest slot live) mine;
+      captured = each_by both_program spec is_both_port link own (FollowsAt files own mac network key) (follows_after files own mac network key) (IsGood files own mac network key) (Captures files own mac network key) (captures_one files own mac network key) calls s f good;
       written = λ few slot mine.
-          (let c : Connection = connection_after files own mac network all slot in
-          let has = all_leave files own mac network calls s f good 0 slot [] (let size = length-map all (λ (it : AnsweredCall). it.call) in omega (arith, few, size))
+          (let c : Connection = connection_after files own mac network key all slot in
+          let has = all_leave files own mac network key calls s f good 0 slot [] (let size = length-map all (λ (it : AnsweredCall). it.call) in omega (arith, few, size))
           (first_holds is_own_port second_part second_numbers spec contains own numbers (second_back (first_numbers files) (numbers_of 0 no_message)) slot) in
           ap (λ (x : Connection). messages_text x.part.snapshots) (sym (view_own is_own_port second_part second_numbers c (ap is_own_port (ends.at_port slot) ∙ mine))) ∙ has.text_is);
-      home = λ six. program_goes_home both_program spec is_both_port (interface_at own mac network) own six calls s tt;
+      home = λ six. program_goes_home both_program spec is_both_port (interface_at own mac network) (both_rules key) own six calls s tt;
     }
 
 -- the calls that are not dropped are of bytes too
@@ -198,6 +200,6 @@ calls_of_bytes ports (it ∷ all) are =
     (calls_of_bytes next all (All-tail IsCallOfBytes it.call (program_calls all) are))
 
 pub calls_conform : BothCallsConform
-calls_conform image own is mac network all bytes closed old new opens did =
-    undropped_conform image own is mac network (undropped [] all) (calls_of_bytes [] all bytes) closed old new opens
-    (did_undropped (files_of opens.site) own mac network all closed old new opens.opened did).0
+calls_conform image own is mac network secret all bytes closed opened old new opens protects did =
+    undropped_conform image own is mac network secret (undropped [] all) (calls_of_bytes [] all bytes) closed opened old new opens protects
+    (did_undropped (files_of opens.site) own mac network secret all closed opened old new (opens.opened, protects) did).0

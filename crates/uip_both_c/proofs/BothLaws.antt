@@ -1,8 +1,10 @@
 -- Calls on a handle, one after the other, are exact.
-use Rattle.uip_both_c.proofs.Prelude.{AbstractNode, Act, Addr, All, AnsweredCall, AppState, AreAtOpenPorts, Bool, BothAnswers, BothApps, BothAtStation, BothCall, BothEther, BothGives, BothInputs, BothListens, BothWrites, Calls, CallsAreExact, CallsSlot, CouldWrite, DidCall, DidCalls, DidInTurn, DoesNothing, Ethernet, File, FrameCall, Gives, HasOne, InputsFrame, IsExact, Kept, List, Listens, Mac, Network, None, OpensBothAs, PlainMessage, Represents, Some, Station, Writes, [], all_exact, ap, before_program_call, both, both_program, both_spec, call_at, change_own, choose, connection_in, eqb, events_of_call, files_of, first_both_numbers, first_station, interface_at, is_both_port, is_dropped, is_open_port, link_of, node_of_call, ports_after, ports_after_call, ports_of, program_calls, program_frame, site_of, station_after_call, station_after_calls, subst, sym, true, undropped, with_change, with_port, with_ports_of, write_message, ℕ, ◌∙◌, ◌∷◌, ◌≡◌}
+use Rattle.uip_both_c.proofs.Prelude.{AnswersFrame, OpensAndProtects, Key, Option, RepresentsStation, Rules, both_rules, drop, ether_frames, guarded_link, key_by, key_of, output_of_call, station_after_frame, AbstractNode, Act, Addr, All, AnsweredCall, AppState, AreAtOpenPorts, Bool, BothAnswers, BothApps, BothAtStation, BothCall, BothEther, BothGives, BothInputs, BothListens, BothWrites, Calls, CallsAreExact, CallsSlot, CouldWrite, DidCall, DidCalls, DidInTurn, DoesNothing, Ethernet, File, FrameCall, Gives, HasOne, InputsFrame, IsExact, Kept, List, Listens, Mac, Network, None, PlainMessage, Represents, Some, Station, Writes, [], all_exact, ap, before_program_call, both, both_program, both_spec, call_at, change_own, choose, connection_in, eqb, events_of_call, files_of, first_both_numbers, first_station, interface_at, is_both_port, is_dropped, is_open_port, link_of, node_of_call, ports_after, ports_after_call, ports_of, program_calls, program_frame, site_of, station_after_call, station_after_calls, subst, sym, true, undropped, with_change, with_port, with_ports_of, write_message, ℕ, ◌∙◌, ◌∷◌, ◌≡◌}
 use Rattle.app_pair.specs.declared.pair.AppPair.TheVariants as pair
 use Rattle.frame_device.proofs.Arrivals.{frame_each, slot_each}
-use Rattle.own_node.proofs.OpenPorts.{IsAt, first_at, frame_at, or_more, run_at, stays_open}
+use Rattle.own_node.proofs.OpenPorts.{IsAt, first_at, or_more, run_at, stays_open}
+use Rattle.own_node.proofs.GuardedPorts.{arriving_at}
+use Rattle.guarded_node.proofs.Taken.{guarded_all}
 use Rattle.uip_wire.specs.declared.port.TheConstants.{WEB_PORT}
 use Rattle.frame_device.specs.contracts.ether.EthernetFrames.TheImpl.{ghosts as ether_link}
 
@@ -77,18 +79,18 @@ part_with_ports (pair.Second b) k ports p r = record { port = r.port; own = r.ow
 
 -- ---- what the calls do
 
-module _ (files : List File) (own : Addr) (mac : Mac) (network : Network) where
+module _ (files : List File) (own : Addr) (mac : Mac) (network : Network) (key : Option Key) where
   abbrev Here : BothEther → Station Act → Type 0
-  Here d s = BothAtStation files own mac network d s
+  Here d s = BothAtStation files own mac network key d s
 
   abbrev sent_at : BothCall → Station Act → List ℕ
-  sent_at call s = program_frame both_program (both_spec files) is_both_port (link_of own mac network) own call s
+  sent_at call s = program_frame both_program (both_spec files) is_both_port (link_of own mac network key) own call s
 
   -- what one call does, at a station that the device represents
   record Step (call : BothCall) (s : Station Act) (b : Kept) (handed : List ℕ) : Type 0 where
     after : BothEther
     is : b ≡ Some after
-    here : Here after (station_after_call files own mac network call s)
+    here : Here after (station_after_call files own mac network key call s)
     wrote : handed ≡ sent_at call s
     could : CouldWrite call s
 
@@ -96,23 +98,25 @@ module _ (files : List File) (own : Addr) (mac : Mac) (network : Network) where
   files_stay : (d x : BothEther) → both.config x.node.shared ≡ both.config d.node.shared → files_of (site_of d.node) ≡ files → files_of (site_of x.node) ≡ files
   files_stay d x kept is = ap (λ (k : both.Config). files_of k.0) kept ∙ is
 
+  -- what a call of the device leads to, under the rules of its guard
+  answered : (x y : BothEther) (call : FrameCall) (s : Station Act) (handed : List ℕ) → Here x s → AnswersFrame both ether_link call x y handed
+      → Here y (station_after_frame (both_spec files) is_both_port (link_of own mac network key) call s) × (handed ≡ output_of_call (both_spec files) is_both_port (link_of own mac network key) own call s)
+  answered x y call s handed here it =
+      let from = subst (λ (r : Rules). RepresentsStation both ether_link (interface_at own mac network) (both_spec files) own y (station_after_frame (both_spec files) is_both_port (guarded_link (ether_frames (interface_at own mac network)) r) call s)
+      × (handed ≡ output_of_call (both_spec files) is_both_port (guarded_link (ether_frames (interface_at own mac network)) r) own call s)) here.rules_are (it.each (interface_at own mac network) (both_spec files) own s here.station) in
+      (record { files_are = files_stay x y it.kept here.files_are; station = from.0; rules_are = it.rules ∙ here.rules_are }, from.1)
+
   by_call : (call : FrameCall) (d : BothEther) (s : Station Act) (a b : Kept) (handed : List ℕ) → a ≡ Some d → Here d s → BothAnswers call a b handed → Step (Calls call) s b handed
   by_call call d s a b handed is here it =
-      let at : Here it.before s = subst (λ (x : BothEther). Here x s) (sym (same_both it.before d (sym it.was ∙ is))) here in
-      let from = it.holds.each (interface_at own mac network) (both_spec files) own s at.station in
-      record {
-        after = it.after;
-        is = it.is;
-        here = record { files_are = files_stay it.before it.after it.holds.kept at.files_are; station = from.0 };
-        wrote = from.1;
-        could = tt;
-      }
+      let from = answered it.before it.after call s handed (subst (λ (x : BothEther). Here x s) (sym (same_both it.before d (sym it.was ∙ is))) here) it.holds in
+      record { after = it.after; is = it.is; here = from.0; wrote = from.1; could = tt }
 
   -- a message was written, at the station before the periodic call
-  written_here : (d between : BothEther) (message : PlainMessage) (s : Station Act) → between.frames ≡ d.frames → both.config between.node.shared ≡ both.config d.node.shared
+  written_here : (d between : BothEther) (message : PlainMessage) (s : Station Act) → between.frames ≡ d.frames → between.guard.rules ≡ d.guard.rules → both.config between.node.shared ≡ both.config d.node.shared
       → ((n : AbstractNode) → Represents both d.node n n.history → Represents both between.node (with_change (change_own true (write_message message)) n) n.history) → Here d s
       → Here between (record { acts = s.acts; node = with_change (change_own true (write_message message)) s.node })
-  written_here d between message s link kept changes here = record {
+  written_here d between message s link rules kept changes here = record {
+    rules_are = rules ∙ here.rules_are;
     files_are = files_stay d between kept here.files_are;
     station = record {
       represented = record {
@@ -128,17 +132,11 @@ module _ (files : List File) (own : Addr) (mac : Mac) (network : Network) where
       → BothWrites slot taken text last a b handed → Step (Writes slot taken text last) s b handed
   by_write slot taken text last d s a b handed is here it =
       let at : Here it.before s = subst (λ (x : BothEther). Here x s) (sym (same_both it.before d (sym it.was ∙ is))) here in
-      let between = written_here it.before it.between it.writes.message s it.link it.writes.kept it.writes.changes at in
+      let between = written_here it.before it.between it.writes.message s it.link it.guarded it.writes.kept it.writes.changes at in
       let named = subst (λ (m : PlainMessage). Here it.between (record { acts = s.acts; node = with_change (change_own true (write_message m)) s.node }))
       (it.writes.next s.node at.station.represented.represented) between in
-      let from = it.answers.each (interface_at own mac network) (both_spec files) own (before_program_call both_program (both_spec files) is_both_port (link_of own mac network) own (Writes slot taken text last) s) named.station in
-      record {
-        after = it.after;
-        is = it.is;
-        here = record { files_are = files_stay it.between it.after it.answers.kept named.files_are; station = from.0 };
-        wrote = from.1;
-        could = it.could s.node at.station.represented.represented;
-      }
+      let from = answered it.between it.after (CallsSlot slot) (before_program_call both_program (both_spec files) is_both_port (link_of own mac network key) own (Writes slot taken text last) s) handed named it.answers in
+      record { after = it.after; is = it.is; here = from.0; wrote = from.1; could = it.could s.node at.station.represented.represented }
 
   by_value : (number : ℕ) (text : List ℕ) (d : BothEther) (s : Station Act) (a b : Kept) (handed : List ℕ) → a ≡ Some d → Here d s → BothGives number text a b → handed ≡ []
       → Step (Gives number text) s b handed
@@ -150,6 +148,7 @@ module _ (files : List File) (own : Addr) (mac : Mac) (network : Network) where
         here = record {
           files_are = files_stay it.before it.after it.holds.kept at.files_are;
           station = it.holds.each (interface_at own mac network) (both_spec files) own s at.station;
+          rules_are = it.holds.rules ∙ at.rules_are;
         };
         wrote = none;
         could = tt;
@@ -158,6 +157,7 @@ module _ (files : List File) (own : Addr) (mac : Mac) (network : Network) where
   opened_here : (d x : BothEther) (s : Station Act) → Here d s → Here (with_ports_of x d) s
   opened_here d x s here = record {
     files_are = here.files_are;
+    rules_are = here.rules_are;
     station = record {
       represented = record {
         meant = here.station.represented.meant;
@@ -205,15 +205,15 @@ module _ (files : List File) (own : Addr) (mac : Mac) (network : Network) where
   AtPorts ports s = AreAtOpenPorts (WEB_PORT ∷ ports) s.node
 
   abbrev after : BothCall → Station Act → Station Act
-  after call s = station_after_call files own mac network call s
+  after call s = station_after_call files own mac network key call s
 
   -- a call that makes this call of the device
   makes_at : (ports : List ℕ) (call : BothCall) (s : Station Act) → AtPorts ports s
-      → All (IsAt (is_open_port (WEB_PORT ∷ ports))) (events_of_call both_program (both_spec files) is_both_port (link_of own mac network) own call) → AtPorts ports (after call s)
+      → All (IsAt (is_open_port (WEB_PORT ∷ ports))) (events_of_call both_program (both_spec files) is_both_port (link_of own mac network key) own call s) → AtPorts ports (after call s)
   makes_at ports call s each are =
-      subst (λ (n : AbstractNode). AreAtOpenPorts (WEB_PORT ∷ ports) n) (sym (node_of_call both_program (both_spec files) is_both_port (link_of own mac network) own call s))
-      (run_at (both_spec files) is_both_port (is_open_port (WEB_PORT ∷ ports)) (events_of_call both_program (both_spec files) is_both_port (link_of own mac network) own call)
-      (before_program_call both_program (both_spec files) is_both_port (link_of own mac network) own call s).node each are)
+      subst (λ (n : AbstractNode). AreAtOpenPorts (WEB_PORT ∷ ports) n) (sym (node_of_call both_program (both_spec files) is_both_port (link_of own mac network key) own call s))
+      (run_at (both_spec files) is_both_port (is_open_port (WEB_PORT ∷ ports)) (events_of_call both_program (both_spec files) is_both_port (link_of own mac network key) own call s)
+      (before_program_call both_program (both_spec files) is_both_port (link_of own mac network key) own call s).node each are)
 
   more_open : (port p : ℕ) (ports : List ℕ) → is_open_port (WEB_PORT ∷ ports) p ≡ true → is_open_port (WEB_PORT ∷ with_port port ports) p ≡ true
   more_open port p ports e = or_more (eqb WEB_PORT p) (is_open_port ports p) (is_open_port (with_port port ports) p) (stays_open port p ports) e
@@ -222,16 +222,20 @@ module _ (files : List File) (own : Addr) (mac : Mac) (network : Network) where
   call_at_ports ports (Calls (InputsFrame frame)) s each =
       choose (λ (call : FrameCall). AtPorts ports (after (Calls call) s)) (is_dropped ports frame) DoesNothing (InputsFrame frame) (λ e. each)
       (λ e. makes_at ports (Calls (InputsFrame frame)) s each
-      (frame_each (interface_at own mac network) own (IsAt (is_open_port (WEB_PORT ∷ ports))) frame (λ kind. frame_at own (WEB_PORT ∷ ports) frame kind e)))
-  call_at_ports ports (Calls (CallsSlot slot)) s each = makes_at ports (Calls (CallsSlot slot)) s each (slot_each (interface_at own mac network) own (IsAt (is_open_port (WEB_PORT ∷ ports))) slot tt)
+      (frame_each (interface_at own mac network) (both_rules key) is_both_port s.node (IsAt (is_open_port (WEB_PORT ∷ ports))) frame
+      (λ kind. guarded_all (IsAt (is_open_port (WEB_PORT ∷ ports))) (both_rules key) is_both_port s.node (drop 14 frame) (arriving_at key s.node.addr (WEB_PORT ∷ ports) frame kind e) (λ slot within live. each slot live))))
+  call_at_ports ports (Calls (CallsSlot slot)) s each =
+      makes_at ports (Calls (CallsSlot slot)) s each (slot_each (interface_at own mac network) (both_rules key) is_both_port s.node (IsAt (is_open_port (WEB_PORT ∷ ports))) slot tt)
   call_at_ports ports (Calls DoesNothing) s each = each
   call_at_ports ports (Writes slot taken text last) s each =
-      makes_at ports (Writes slot taken text last) s each (slot_each (interface_at own mac network) own (IsAt (is_open_port (WEB_PORT ∷ ports))) slot tt)
+      makes_at ports (Writes slot taken text last) s each
+      (slot_each (interface_at own mac network) (both_rules key) is_both_port (before_program_call both_program (both_spec files) is_both_port (link_of own mac network key) own (Writes slot taken text last) s).node
+      (IsAt (is_open_port (WEB_PORT ∷ ports))) slot tt)
   call_at_ports ports (Gives number text) s each = each
   call_at_ports ports (Listens port) s each = λ slot live. more_open port (connection_in slot s.node).sockets.own_port.0 ports (each slot live)
 
   pub calls_at_ports : (ports : List ℕ) (all : List AnsweredCall) (s : Station Act) → AtPorts ports s
-      → AtPorts (ports_after (program_calls all) ports) (station_after_calls files own mac network (program_calls (undropped ports all)) s)
+      → AtPorts (ports_after (program_calls all) ports) (station_after_calls files own mac network key (program_calls (undropped ports all)) s)
   calls_at_ports ports [] s each = each
   calls_at_ports ports (it ∷ all) s each = calls_at_ports (ports_after_call it.call ports) all (after (call_at ports it.call) s) (call_at_ports ports it.call s each)
 
@@ -239,30 +243,71 @@ module _ (files : List File) (own : Addr) (mac : Mac) (network : Network) where
   KeptHere kept s = HasOne BothEther (λ d. Here d s) kept
 
   one_call : (call : BothCall) (s : Station Act) (a b : Kept) (handed : List ℕ) → KeptHere a s → Did call a b handed
-      → KeptHere b (station_after_call files own mac network call s) × (handed ≡ sent_at call s) × CouldWrite call s
+      → KeptHere b (station_after_call files own mac network key call s) × (handed ≡ sent_at call s) × CouldWrite call s
   one_call call s a b handed here did =
       let step = one call here.0 s a b handed here.1 here.2 did in ((step.after, step.is, step.here), step.wrote, step.could)
 
-pub undropped_exact : (files : List File) (own : Addr) (mac : Mac) (network : Network) (all : List AnsweredCall) (closed old new : Kept)
-    → OpensBothAs files own mac network closed old → DidInTurn Did all old new → IsExact files own mac network all new
-undropped_exact files own mac network all closed old new opens did =
-    let fresh = opens.1.2 in
-    let exact = all_exact both_program (both_spec files) is_both_port (link_of own mac network) own (KeptHere files own mac network) CouldWrite Did (one_call files own mac network) all (first_station files own) old new
-    (opens.1.0, opens.1.1, record { files_are = fresh.files_are; station = fresh.fresh.represented }) did in
+-- ---- from the start
+
+-- a handle that was just opened, and protected or not
+record Opened (files : List File) (own : Addr) (mac : Mac) (network : Network) (key : Option Key) (old : Kept) : Type 0 where
+  device : BothEther
+  is : old ≡ Some device
+  here : Here files own mac network key device (first_station files own)
+  ports : ports_of device ≡ []
+
+begins : (files : List File) (own : Addr) (mac : Mac) (network : Network) (secret : Option (List ℕ)) (closed opened old : Kept) → OpensAndProtects files own mac network secret closed opened old
+    → Opened files own mac network (key_by secret) old
+begins files own mac network None closed opened old it =
+    let fresh = it.0.1 in
+    record {
+      device = fresh.0;
+      is = it.1 ∙ fresh.1;
+      here = record { files_are = fresh.2.files_are; station = fresh.2.fresh.represented; rules_are = fresh.2.fresh.rules_are };
+      ports = fresh.2.ports;
+    }
+begins files own mac network (Some secret) closed opened old it =
+    let fresh = it.0.1 in
+    let d : BothEther = fresh.0 in
+    let x : BothEther = it.1.before in
+    let same : d ≡ x = same_both d x (sym fresh.1 ∙ it.1.was) in
+    let here : Here files own mac network None x (first_station files own) =
+    subst (λ (y : BothEther). Here files own mac network None y (first_station files own)) same
+    record { files_are = fresh.2.files_are; station = fresh.2.fresh.represented; rules_are = fresh.2.fresh.rules_are } in
+    let set : it.1.after ≡ record x { guard = record x.guard { rules = record x.guard.rules { key = Some (key_of secret) } } } = it.1.holds in
+    record {
+      device = it.1.after;
+      is = it.1.is;
+      here = subst (λ (y : BothEther). Here files own mac network (Some (key_of secret)) y (first_station files own)) (sym set) record {
+        files_are = here.files_are;
+        station = here.station;
+        rules_are = ap (λ (r : Rules). record r { key = Some (key_of secret) }) here.rules_are;
+      };
+      ports = ap (λ (y : BothEther). ports_of y) set ∙ ap (λ (y : BothEther). ports_of y) (sym same) ∙ fresh.2.ports;
+    }
+
+pub undropped_exact : (files : List File) (own : Addr) (mac : Mac) (network : Network) (secret : Option (List ℕ)) (all : List AnsweredCall) (closed opened old new : Kept)
+    → OpensAndProtects files own mac network secret closed opened old → DidInTurn Did all old new → IsExact files own mac network (key_by secret) all new
+undropped_exact files own mac network secret all closed opened old new start did =
+    let o = begins files own mac network secret closed opened old start in
+    let key : Option Key = key_by secret in
+    let exact = all_exact both_program (both_spec files) is_both_port (link_of own mac network key) own (KeptHere files own mac network key) CouldWrite Did (one_call files own mac network key) all (first_station files own) old new
+    (o.device, o.is, o.here) did in
     record { frames = exact.frames; could = exact.each; represents = exact.here }
 
 -- without the frames that are dropped, from the start
-pub did_undropped : (files : List File) (own : Addr) (mac : Mac) (network : Network) (all : List AnsweredCall) (closed old new : Kept)
-    → OpensBothAs files own mac network closed old → DidCalls all old new
+pub did_undropped : (files : List File) (own : Addr) (mac : Mac) (network : Network) (secret : Option (List ℕ)) (all : List AnsweredCall) (closed opened old new : Kept)
+    → OpensAndProtects files own mac network secret closed opened old → DidCalls all old new
     → DidInTurn Did (undropped [] all) old new × HasOne BothEther (λ d. ports_of d ≡ ports_after (program_calls all) []) new
-did_undropped files own mac network all closed old new opens did = all_undropped [] all old new (opens.1.0, opens.1.1, opens.1.2.ports) did
+did_undropped files own mac network secret all closed opened old new start did =
+    let o = begins files own mac network secret closed opened old start in all_undropped [] all old new (o.device, o.is, o.ports) did
 
 pub calls_exact : CallsAreExact
-calls_exact files own mac network all closed old new opens did =
-    let undropped_did = did_undropped files own mac network all closed old new opens did in (
-      undropped_exact files own mac network (undropped [] all) closed old new opens undropped_did.0,
+calls_exact files own mac network secret all closed opened old new start did =
+    let undropped_did = did_undropped files own mac network secret all closed opened old new start did in (
+      undropped_exact files own mac network secret (undropped [] all) closed opened old new start undropped_did.0,
       record {
         ports = undropped_did.1;
-        connections = calls_at_ports files own mac network [] all (first_station files own) (first_at (is_open_port (WEB_PORT ∷ [])) own (first_both_numbers files));
+        connections = calls_at_ports files own mac network (key_by secret) [] all (first_station files own) (first_at (is_open_port (WEB_PORT ∷ [])) own (first_both_numbers files));
       },
     )

@@ -5,7 +5,7 @@ ghost use Rattle.std.specs.Prelude.{◌≡◌, None};
 use crate::calls::{uip_input_frame_area, uip_listen, uip_periodic_frame, uip_read, uip_write};
 use crate::handle::UipDevice;
 use crate::held::Held;
-use crate::open_close::{uip_close, uip_open_ether};
+use crate::open_close::{uip_close, uip_open_ether, uip_protect};
 use crate::status_calls::{
     uip_connection, uip_counter, uip_hits, uip_is_idle, uip_query, uip_set_value, uip_ticks,
 };
@@ -162,6 +162,21 @@ fn received(ready: u32, port: u32, len: usize) -> UipReceived {
         port,
         len,
     }
+}
+
+#[test]
+fn a_secret_is_set_once_and_in_time(rt: HostRuntime) {
+    let alloc = rt.alloc();
+    let mut device = no_device(alloc);
+    assert_eq!(rt; uip_protect(alloc, &mut device, &[7; 16]), NO_DEVICE);
+    let opened_as = uip_open_ether(alloc, &mut device, IMAGE, OWN, MAC, MASK, ROUTER);
+    assert_eq!(rt; opened_as.status, OK);
+    assert_eq!(rt; uip_protect(alloc, &mut device, &[7; 16]), OK);
+    assert_eq!(rt; uip_protect(alloc, &mut device, &[8; 16]), BAD_ARGUMENT);
+    close(&rt, alloc, device);
+    let mut used = opened(&rt, alloc);
+    assert_eq!(rt; uip_protect(alloc, &mut used, &[7; 16]), BAD_ARGUMENT);
+    close(&rt, alloc, used);
 }
 
 #[test]

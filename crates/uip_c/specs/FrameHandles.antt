@@ -1,5 +1,6 @@
 -- What a call over Ethernet does to what a handle keeps.
-use Rattle.std.specs.Prelude.{◌≡◌, ℕ, List, [], ◌∷◌}
+use Rattle.std.specs.Prelude.{◌≡◌, ℕ, List, [], ◌∷◌, None, Option, Some}
+use Rattle.sip_hash.specs.declared.key.Key.{Key}
 use Rattle.site_image.specs.Prelude.{File}
 use Rattle.uip_wire.specs.declared.addr.Addr.{Addr}
 use Rattle.ethernet_arp.specs.declared.mac.Mac.{Mac}
@@ -8,13 +9,24 @@ use Rattle.frame_device.specs.Prelude.{AnsweredFrame, AnswersFrame, DoesNothing,
 use Rattle.frame_device.specs.contracts.ether.EthernetFrames.TheImpl.{ghosts as ether_link}
 use Rattle.uip_device.specs.contracts.value_pages.ValuePagesApp.TheImpl.{ghosts}
 use Rattle.c_calls.specs.Prelude.{StillHas}
+use Rattle.c_calls.specs.declared.status.TheConstants.{OK}
 use Rattle.uip_c.specs.EtherWebs.{IsFreshEtherWeb}
 use Rattle.uip_c.specs.Handles.{HandleGives}
 use Rattle.uip_c.specs.Kept.{IsEther, Kept, NoDevice, OnEther}
 
--- There was no device, and there is a fresh one on Ethernet with these files at this address and hardware address, on this network.
+-- There is a fresh device on Ethernet with these files at this address and hardware address, on this network, with this secret or none.
+abbrev pub IsEtherReady : List File → Addr → Mac → Network → Option Key → Kept → Type 0
+IsEtherReady files own mac network key kept = IsEther (IsFreshEtherWeb files own mac network key) kept
+
+-- There was no device, and there is a fresh one, without a secret.
 abbrev pub OpensEtherAs : List File → Addr → Mac → Network → Kept → Kept → Type 0
-OpensEtherAs files own mac network old new = (old ≡ NoDevice) × IsEther (IsFreshEtherWeb files own mac network) new
+OpensEtherAs files own mac network old new = (old ≡ NoDevice) × IsEtherReady files own mac network None new
+
+-- A handle that was just opened on Ethernet is ready, with this secret.
+abbrev pub EtherReadies : Key → ℕ → Kept → Kept → Type 0
+EtherReadies key status old new =
+    (files : List File) (own : Addr) (mac : Mac) (network : Network) → IsEtherReady files own mac network None old
+    → (status ≡ OK) × IsEtherReady files own mac network (Some key) new
 
 -- There was a device on Ethernet and there still is one, and the call wrote this frame, or no bytes.
 abbrev pub EtherAnswers : FrameCall → Kept → Kept → List ℕ → Type 0
@@ -32,8 +44,8 @@ abbrev pub DidFrames : List AnsweredFrame → Kept → Kept → Type 0
 DidFrames [] a c = a ≡ c
 DidFrames (it ∷ all) a c = (b : Kept) × DidFrame it.move a b it.handed × DidFrames all b c
 
--- P holds for every handle that was just opened on Ethernet, after any moves on it.
-abbrev pub OfFrameMoves : (List File → Addr → Mac → Network → List AnsweredFrame → Kept → Type 0) → Type 0
+-- P holds for every handle that was just opened on Ethernet, and has a secret or none, after any moves on it.
+abbrev pub OfFrameMoves : (List File → Addr → Mac → Network → Option Key → List AnsweredFrame → Kept → Type 0) → Type 0
 OfFrameMoves P =
-    (files : List File) (own : Addr) (mac : Mac) (network : Network) (all : List AnsweredFrame) (closed old new : Kept)
-    → OpensEtherAs files own mac network closed old → DidFrames all old new → P files own mac network all new
+    (files : List File) (own : Addr) (mac : Mac) (network : Network) (key : Option Key) (all : List AnsweredFrame) (old new : Kept)
+    → IsEtherReady files own mac network key old → DidFrames all old new → P files own mac network key all new

@@ -1,18 +1,40 @@
 -- What a call does to what a handle keeps. Calls over Ethernet: `specs/FrameHandles.antt`.
-use Rattle.std.specs.Prelude.{◌≡◌, ◌∷◌, [], Bool, is_some, List, true, ℕ}
+use Rattle.std.specs.Prelude.{◌≡◌, ◌==◌, ◌⊎◌, ◌∷◌, [], if◌then◌else◌, Bool, is_some, List, None, Option, Some, true, ℕ}
 use Rattle.site_image.specs.Prelude.{File}
-use Rattle.frame_device.specs.Prelude.{ChangesNumbers}
+use Rattle.frame_device.specs.Prelude.{ChangesNumbers, with_secret}
 use Rattle.frame_device.specs.contracts.ether.EthernetFrames.TheImpl.{ghosts as ether_link}
 use Rattle.uip_device.specs.contracts.value_pages.ValuePagesApp.TheImpl.{ghosts}
 use Rattle.uip_wire.specs.declared.addr.Addr.{Addr}
 use Rattle.uip_device.specs.Prelude.{Call, DoesNothing, Answered, Answers, AnswersOver, Changes, left_text_of}
-use Rattle.uip_device.specs.Prelude.{Move, Gives, Makes, IsFreshWebDevice, WebDevice, write_value}
+use Rattle.uip_device.specs.Prelude.{Move, Gives, Makes, IsFreshWebDevice, IsProtected, write_value}
+use Rattle.sip_hash.specs.declared.key.Key.{Key}
+use Rattle.guarded_node.specs.declared.guard.GuardCounts.{GuardCounts}
 use Rattle.c_calls.specs.Prelude.{StillHas}
+use Rattle.c_calls.specs.declared.status.TheConstants.{OK}
 use Rattle.uip_c.specs.Kept.{IsLine, Kept, NoDevice, OnEther, OnLine}
 
--- There was no device, and there is a fresh one for a line with these files at this address.
+-- There is a fresh device for a line with these files at this address, with this secret or none.
+abbrev pub IsReady : List File → Addr → Option Key → Kept → Type 0
+IsReady files own key kept = IsLine (IsFreshWebDevice files own key) kept
+
+-- There was no device, and there is a fresh one for a line with these files at this address, without a secret.
 abbrev pub OpensAs : List File → Addr → Kept → Kept → Type 0
-OpensAs files own old new = (old ≡ NoDevice) × IsLine (IsFreshWebDevice files own) new
+OpensAs files own old new = (old ≡ NoDevice) × IsReady files own None new
+
+-- There was a device without a secret, for a line or on Ethernet, and there still is one, which has this secret. All else is as it was.
+abbrev pub ProtectsLine : Key → Kept → Kept → Type 0
+ProtectsLine key old new = StillHas OnLine (IsProtected key) old new
+
+abbrev pub ProtectsEther : Key → Kept → Kept → Type 0
+ProtectsEther key old new = StillHas OnEther (λ before after. after ≡ with_secret key before) old new
+
+abbrev pub HandleProtects : Key → Kept → Kept → Type 0
+HandleProtects key old new = ProtectsLine key old new ⊎ ProtectsEther key old new
+
+-- A handle that was just opened is ready, with this secret.
+abbrev pub Readies : Key → ℕ → Kept → Kept → Type 0
+Readies key status old new =
+    (files : List File) (own : Addr) → IsReady files own None old → (status ≡ OK) × IsReady files own (Some key) new
 
 -- There was a device for a line and there still is one, and the call wrote these bytes.
 abbrev pub HandleAnswers : Call → Kept → Kept → List ℕ → Type 0
@@ -35,16 +57,20 @@ Did (Makes DoesNothing) old new handed = (new ≡ old) × (handed ≡ [])
 Did (Makes call) old new handed = HandleAnswers call old new handed
 Did (Gives number text) old new handed = HandleGives number text old new × (handed ≡ [])
 
+-- What the guard counted, by the numbers of the call: what it dropped, and what it gave up.
+abbrev pub guard_count : ℕ → GuardCounts → ℕ
+guard_count number counts = if number == 1 then counts.dropped else counts.displaced
+
 -- Moves one after the other, on a handle that nothing else touches.
 abbrev pub DidAll : List Answered → Kept → Kept → Type 0
 DidAll [] a c = a ≡ c
 DidAll (it ∷ all) a c = (b : Kept) × Did it.move a b it.handed × DidAll all b c
 
--- P holds for every handle that was just opened, after any moves on it.
-abbrev pub OfMoves : (List File → Addr → List Answered → Kept → Type 0) → Type 0
+-- P holds for every handle that was just opened, and has a secret or none, after any moves on it.
+abbrev pub OfMoves : (List File → Addr → Option Key → List Answered → Kept → Type 0) → Type 0
 OfMoves P =
-    (files : List File) (own : Addr) (all : List Answered) (closed old new : Kept) → OpensAs files own closed old
-    → DidAll all old new → P files own all new
+    (files : List File) (own : Addr) (key : Option Key) (all : List Answered) (old new : Kept) → IsReady files own key old
+    → DidAll all old new → P files own key all new
 
 -- The output that is still pending in a handle's device.
 abbrev pub left_text_in : Kept → List ℕ

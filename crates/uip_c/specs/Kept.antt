@@ -1,6 +1,7 @@
 -- What a handle keeps: a device for a line or on Ethernet, or none.
 use Rattle.std.specs.Prelude.{◌≡◌, Bool, false, List, None, Option, Some, true}
 use Rattle.c_calls.specs.Prelude.{HasDevice}
+use Rattle.guarded_node.specs.declared.guard.GuardCounts.{GuardCounts}
 use Rattle.site_image.specs.Prelude.{File}
 use Rattle.uip_wire.specs.declared.addr.Addr.{Addr}
 use Rattle.uip_node.specs.Prelude.{AbstractNode}
@@ -38,6 +39,12 @@ node_in NoDevice = None
 node_in (OnLine d) = Some d.node
 node_in (OnEther d) = Some d.node
 
+-- what the guard of the device counted
+abbrev pub counts_in : Kept → Option GuardCounts
+counts_in NoDevice = None
+counts_in (OnLine d) = Some d.guard.counts
+counts_in (OnEther d) = Some d.guard.counts
+
 -- There is a device for a line, or on Ethernet, and P holds of it; there is a device, and P holds of its node.
 abbrev pub IsLine : (WebDevice → Type 0) → Kept → Type 0
 IsLine P kept = HasDevice OnLine P kept
@@ -47,6 +54,10 @@ IsEther P kept = HasDevice OnEther P kept
 
 abbrev pub HasNode : (WebNode → Type 0) → Kept → Type 0
 HasNode P kept = (node : WebNode) × (node_in kept ≡ Some node) × P node
+
+-- There is a device, and P holds of what its guard counted.
+abbrev pub HasCounts : (GuardCounts → Type 0) → Kept → Type 0
+HasCounts P kept = (counts : GuardCounts) × (counts_in kept ≡ Some counts) × P counts
 
 -- There is a device, and P holds of its files and of each abstract node that its node represents.
 abbrev pub HasAbstractNode : (List File → AbstractNode → Type 0) → Kept → Type 0

@@ -1,5 +1,6 @@
 -- What is taken out of a handle for a call.
 use Rattle.std.specs.Prelude.{◌≡◌, ◌⊎◌, ◌==◌, Bool, false, None, None as NothingLeft, Option, Some, true, ℕ, ⊤}
+use Rattle.guarded_node.specs.declared.guard.GuardCounts.{GuardCounts}
 use Rattle.uip_device.specs.Prelude.{IsSoundWebDevice, WebDevice, WebNode}
 use Rattle.c_calls.specs.Prelude.{IsTextStatus}
 use Rattle.uip_c.specs.Handles.{HasText}
@@ -45,7 +46,7 @@ pub record TakesNoIdle (status : ℕ) (old new : Kept) : Type 0 where
   pub text_left : status ≡ OUTPUT_PENDING → HasText old
   pub same : new ≡ old
 
--- What a handle keeps that keeps the device that was taken out; its node; a device for a line has sound connections.
+-- What a handle keeps that keeps the device that was taken out; its node; what its guard counted; a device for a line has sound connections.
 abbrev pub kept_of : AnyDevice → Kept
 kept_of (Line b) = OnLine b.value
 kept_of (Ether b) = OnEther b.value
@@ -57,6 +58,10 @@ kept_by (Some any) = kept_of any
 abbrev pub node_of : AnyDevice → WebNode
 node_of (Line b) = b.value.node
 node_of (Ether b) = b.value.node
+
+abbrev pub counts_of : AnyDevice → GuardCounts
+counts_of (Line b) = b.value.guard.counts
+counts_of (Ether b) = b.value.guard.counts
 
 abbrev pub IsSoundAny : AnyDevice → Type 0
 IsSoundAny (Line b) = IsSoundWebDevice b.value

@@ -13,7 +13,7 @@ use frame_device::{Ethernet, FrameDevice, Network};
 use std::alloc::Global;
 use uip_device::{OpenFault, open_shared};
 use uip_edge::NoMemory;
-use uip_wire::Addr;
+use uip_wire::{Addr, Port, WEB_PORT};
 
 /// Returns a device on Ethernet with the site of an image.
 fn open_ether(
@@ -29,7 +29,13 @@ fn open_ether(
         Ok(shared) => shared,
         Err(fault) => return Err(fault),
     };
-    match FrameDevice::new(alloc, own, Ethernet::new(own, mac, network), shared) {
+    match FrameDevice::new(
+        alloc,
+        own,
+        Ethernet::new(own, mac, network),
+        shared,
+        Some(Port(WEB_PORT)),
+    ) {
         Ok(device) => Ok(device),
         Err(NoMemory) => Err(OpenFault::NoMemory),
     }

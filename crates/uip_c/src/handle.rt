@@ -18,7 +18,7 @@ use uip_node::Node;
 const ON_LINE: u32 = 1;
 
 /// The value of `is_open` with a device on Ethernet.
-const ON_ETHER: u32 = 2;
+pub(crate) const ON_ETHER: u32 = 2;
 
 /// A handle. All bytes 0 represent a handle without a device.
 #[repr(C)]

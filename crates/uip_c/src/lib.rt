@@ -6,6 +6,9 @@ mod calls;
 mod ether_open;
 #[cfg(test)]
 mod frame_tests;
+mod guard_calls;
+#[cfg(test)]
+mod guard_tests;
 mod handle;
 mod held;
 mod laws;
@@ -21,6 +24,7 @@ pub use calls::{
     uip_periodic_datagram, uip_periodic_frame,
 };
 pub use ether_open::uip_open_ether;
+pub use guard_calls::{uip_guard_counter, uip_protect};
 pub use handle::UipDevice;
 pub use held::{EtherWeb, Held};
 pub use laws::{

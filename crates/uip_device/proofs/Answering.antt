@@ -404,7 +404,7 @@ value_pages_answer files request decided follows mss some low =
     (fine words words_short words_silent files request decided continues mss some low, (left words words_short words_silent files request decided continues mss some low, answers_polled words words_short words_silent files request decided continues mss some low))
 
 pub web_calls_arrive : WebCallsArrive
-web_calls_arrive files served own all lefts conforms a p decided follows incarnation asks few =
+web_calls_arrive files served gives numbers rules own all lefts conforms a p decided follows incarnation asks few =
     let syn = lossy_syn a p incarnation asks.lossy in
     let some : 0 < a.mss = (let l = mss_some syn.option in let e = syn.is in omega (arith, l, e)) in
     let low : a.mss ≤ 1460 = (let l = first_low syn.option in let e = syn.is in omega (arith, l, e)) in

@@ -1,65 +1,69 @@
--- The events that calls bring to a node, for each cut of the bytes among them.
-use Rattle.uip_device.proofs.Prelude.{◌≡◌, ℕ, ◌+◌, Bool, true, false, List, [], ◌∷◌, ◌++◌, if◌then◌else◌, length, map, refl, sym, ap, ◌∙◌, append-nil, append_assoc, arith, length-append, subst, flat_map, ⊤, Addr, Item, Byte, Quiet, tick, Periodic, AppSpec, completed, event_of, AbstractNode, run, beat, event_by, events_after, line_events, is_beat, text_of, run-text-append, Call, Calls, CallsForDatagram, DoesNothing, Drains, Feeds, Inputs, byte_calls, bytes_of_call, calls_after, events_by, events_of_calls, is_by_datagram, tick_calls, Bring, Makes, Move, Writing, line_sent}
+-- What calls bring to a guarded node, for each cut of the bytes among them.
+use Rattle.uip_device.proofs.Prelude.{◌≡◌, ℕ, ◌+◌, Bool, true, false, List, [], ◌∷◌, ◌++◌, if◌then◌else◌, length, map, refl, sym, ap, ◌∙◌, append-nil, append_assoc, arith, length-append, subst, flat_map, None, Some, ⊤, Addr, Item, Byte, Quiet, AppSpec, completed, AbstractNode, Event, Reply, run, step, is_beat, Arrival, Due, Received, Rules, arrival_of, arrivals_after, arrivals_by, arrivals_of_calls, events_at, guarded_events, guarded_run, joined, tick_arrivals, text_sent, wire_text, Call, Calls, CallsForDatagram, DoesNothing, Drains, Feeds, Inputs, byte_calls, bytes_of_call, calls_after, is_by_datagram, tick_calls, Bring, Makes, Move, Writing, line_sent}
+use Rattle.guarded_node.proofs.Taken.{run_then}
 
-module _ (own : Addr) where
-  -- what single bytes bring, and then other calls
-  bytes_events : (before bytes : List ℕ) (calls : List Call)
-      → events_of_calls before (map (λ b. Feeds (b ∷ [])) bytes ++ calls) own ≡ events_after own 0 before (map Byte bytes) ++ events_of_calls (before ++ bytes) calls own
-  bytes_events before [] calls = ap (λ l. events_of_calls l calls own) (sym (append-nil before))
-  bytes_events before (b ∷ bytes) calls =
-      let behind = before ++ b ∷ [] in
-      let this = map (event_by own) (completed before b) ++ beat 0 (length before + 1) in
-      let rest = events_after own 0 behind (map Byte bytes) in
-      ap (λ l. l ++ events_of_calls behind (map (λ c. Feeds (c ∷ [])) bytes ++ calls) own) (append-nil this)
-      ∙ ap (λ l. this ++ l) (bytes_events behind bytes calls)
-      ∙ ap (λ l. this ++ (rest ++ events_of_calls l calls own)) (append_assoc before (b ∷ []) bytes)
-      ∙ sym (append_assoc this rest (events_of_calls (before ++ b ∷ bytes) calls own))
+-- what is due at a pace
+abbrev beat : ℕ → ℕ → List Arrival
+beat pace number = if is_beat pace number then tick_arrivals else []
 
-  -- however the bytes are cut among the calls, they bring the same
-  pub cut_events : (before : List ℕ) (calls : List Call) → events_of_calls before (flat_map byte_calls calls) own ≡ events_of_calls before calls own
-  cut_events before [] = refl
-  cut_events before (Feeds bytes ∷ calls) =
-      bytes_events before bytes (flat_map byte_calls calls) ∙ ap (λ l. events_after own 0 before (map Byte bytes) ++ l) (cut_events (before ++ bytes) calls)
-  cut_events before (Calls slot ∷ calls) = ap (λ l. Periodic slot ∷ l) (cut_events (before ++ []) calls)
-  cut_events before (Drains ∷ calls) =
-      ap (λ l. events_of_calls l (flat_map byte_calls calls) own) (sym (append-nil before)) ∙ cut_events (before ++ []) calls
-  cut_events before (Inputs datagram ∷ calls) = ap (λ l. event_of own datagram ∷ l) (cut_events (before ++ []) calls)
-  cut_events before (CallsForDatagram slot ∷ calls) = ap (λ l. Periodic slot ∷ l) (cut_events (before ++ []) calls)
-  cut_events before (DoesNothing ∷ calls) =
-      ap (λ l. events_of_calls l (flat_map byte_calls calls) own) (sym (append-nil before)) ∙ cut_events (before ++ []) calls
+-- what single bytes bring, and then other calls
+bytes_arrivals : (before bytes : List ℕ) (calls : List Call)
+    → arrivals_of_calls before (map (λ b. Feeds (b ∷ [])) bytes ++ calls) ≡ arrivals_after 0 before (map Byte bytes) ++ arrivals_of_calls (before ++ bytes) calls
+bytes_arrivals before [] calls = ap (λ l. arrivals_of_calls l calls) (sym (append-nil before))
+bytes_arrivals before (b ∷ bytes) calls =
+    let behind = before ++ b ∷ [] in
+    let this = map arrival_of (completed before b) ++ beat 0 (length before + 1) in
+    let rest = arrivals_after 0 behind (map Byte bytes) in
+    ap (λ l. l ++ arrivals_of_calls behind (map (λ c. Feeds (c ∷ [])) bytes ++ calls)) (append-nil this)
+    ∙ ap (λ l. this ++ l) (bytes_arrivals behind bytes calls)
+    ∙ ap (λ l. this ++ (rest ++ arrivals_of_calls l calls)) (append_assoc before (b ∷ []) bytes)
+    ∙ sym (append_assoc this rest (arrivals_of_calls (before ++ b ∷ bytes) calls))
 
-  slots_events : (before slots : List ℕ) (calls : List Call) → events_of_calls before (map Calls slots ++ calls) own ≡ map Periodic slots ++ events_of_calls before calls own
-  slots_events before [] calls = refl
-  slots_events before (slot ∷ slots) calls =
-      ap (λ l. Periodic slot ∷ events_of_calls l (map Calls slots ++ calls) own) (append-nil before) ∙ ap (λ l. Periodic slot ∷ l) (slots_events before slots calls)
+-- however the bytes are cut among the calls, they bring the same
+pub cut_arrivals : (before : List ℕ) (calls : List Call) → arrivals_of_calls before (flat_map byte_calls calls) ≡ arrivals_of_calls before calls
+cut_arrivals before [] = refl
+cut_arrivals before (Feeds bytes ∷ calls) =
+    bytes_arrivals before bytes (flat_map byte_calls calls) ∙ ap (λ l. arrivals_after 0 before (map Byte bytes) ++ l) (cut_arrivals (before ++ bytes) calls)
+cut_arrivals before (Calls slot ∷ calls) = ap (λ l. Due slot ∷ l) (cut_arrivals (before ++ []) calls)
+cut_arrivals before (Drains ∷ calls) =
+    ap (λ l. arrivals_of_calls l (flat_map byte_calls calls)) (sym (append-nil before)) ∙ cut_arrivals (before ++ []) calls
+cut_arrivals before (Inputs datagram ∷ calls) = ap (λ l. Received datagram ∷ l) (cut_arrivals (before ++ []) calls)
+cut_arrivals before (CallsForDatagram slot ∷ calls) = ap (λ l. Due slot ∷ l) (cut_arrivals (before ++ []) calls)
+cut_arrivals before (DoesNothing ∷ calls) =
+    ap (λ l. arrivals_of_calls l (flat_map byte_calls calls)) (sym (append-nil before)) ∙ cut_arrivals (before ++ []) calls
 
-  tick_events : (before : List ℕ) (calls : List Call) → events_of_calls before (tick_calls ++ calls) own ≡ tick ++ events_of_calls before calls own
-  tick_events before calls = slots_events before (0 ∷ 1 ∷ 2 ∷ 3 ∷ 4 ∷ 5 ∷ 6 ∷ 7 ∷ 8 ∷ 9 ∷ []) calls
+slots_arrivals : (before slots : List ℕ) (calls : List Call) → arrivals_of_calls before (map Calls slots ++ calls) ≡ map Due slots ++ arrivals_of_calls before calls
+slots_arrivals before [] calls = refl
+slots_arrivals before (slot ∷ slots) calls =
+    ap (λ l. Due slot ∷ arrivals_of_calls l (map Calls slots ++ calls)) (append-nil before) ∙ ap (λ l. Due slot ∷ l) (slots_arrivals before slots calls)
 
-  beat_events : (before : List ℕ) (v : Bool) (calls : List Call)
-      → events_of_calls before ((if v then tick_calls else []) ++ calls) own ≡ (if v then tick else []) ++ events_of_calls before calls own
-  beat_events before true calls = tick_events before calls
-  beat_events before false calls = refl
+ticks_arrivals : (before : List ℕ) (calls : List Call) → arrivals_of_calls before (tick_calls ++ calls) ≡ tick_arrivals ++ arrivals_of_calls before calls
+ticks_arrivals before calls = slots_arrivals before (0 ∷ 1 ∷ 2 ∷ 3 ∷ 4 ∷ 5 ∷ 6 ∷ 7 ∷ 8 ∷ 9 ∷ []) calls
 
-  -- the calls for the items of a line bring its events
-  pub item_events : (pace count : ℕ) (before : List ℕ) (items : List Item) → count ≡ length before
-      → events_of_calls before (calls_after pace count items) own ≡ events_after own pace before items
-  item_events pace count before [] same = refl
-  item_events pace count before (Byte b ∷ items) same =
-      let behind = before ++ b ∷ [] in
-      let reported = map (event_by own) (completed before b) in
-      let later = calls_after pace (count + 1) items in
-      let size : count + 1 ≡ length behind = omega (arith, same, length-append before (b ∷ [])) in
-      ap (λ l. l ++ events_of_calls behind ((if is_beat pace (count + 1) then tick_calls else []) ++ later) own) (append-nil (reported ++ []) ∙ append-nil reported)
-      ∙ ap (λ l. reported ++ l) (beat_events behind (is_beat pace (count + 1)) later)
-      ∙ ap (λ l. reported ++ ((if is_beat pace (count + 1) then tick else []) ++ l)) (item_events pace (count + 1) behind items size)
-      ∙ ap (λ n. reported ++ (beat pace (n + 1) ++ events_after own pace behind items)) same
-      ∙ sym (append_assoc reported (beat pace (length before + 1)) (events_after own pace behind items))
-  item_events pace count before (Quiet ∷ items) same =
-      tick_events before (calls_after pace count items) ∙ ap (λ l. tick ++ l) (item_events pace count before items same)
+beat_arrivals : (before : List ℕ) (v : Bool) (calls : List Call)
+    → arrivals_of_calls before ((if v then tick_calls else []) ++ calls) ≡ (if v then tick_arrivals else []) ++ arrivals_of_calls before calls
+beat_arrivals before true calls = ticks_arrivals before calls
+beat_arrivals before false calls = refl
 
-  line_brought : (pace : ℕ) (items : List Item) (moves : List Move) (bring : Bring pace items moves) → events_of_calls [] bring.calls own ≡ line_events own pace items
-  line_brought pace items moves bring = sym (cut_events [] bring.calls) ∙ ap (λ l. events_of_calls [] l own) bring.cut ∙ item_events pace 0 [] items refl
+-- the calls for the items of a line bring what they bring
+pub item_arrivals : (pace count : ℕ) (before : List ℕ) (items : List Item) → count ≡ length before
+    → arrivals_of_calls before (calls_after pace count items) ≡ arrivals_after pace before items
+item_arrivals pace count before [] same = refl
+item_arrivals pace count before (Byte b ∷ items) same =
+    let behind = before ++ b ∷ [] in
+    let reported = map arrival_of (completed before b) in
+    let later = calls_after pace (count + 1) items in
+    let size : count + 1 ≡ length behind = omega (arith, same, length-append before (b ∷ [])) in
+    ap (λ l. l ++ arrivals_of_calls behind ((if is_beat pace (count + 1) then tick_calls else []) ++ later)) (append-nil (reported ++ []) ∙ append-nil reported)
+    ∙ ap (λ l. reported ++ l) (beat_arrivals behind (is_beat pace (count + 1)) later)
+    ∙ ap (λ l. reported ++ ((if is_beat pace (count + 1) then tick_arrivals else []) ++ l)) (item_arrivals pace (count + 1) behind items size)
+    ∙ ap (λ n. reported ++ (beat pace (n + 1) ++ arrivals_after pace behind items)) same
+    ∙ sym (append_assoc reported (beat pace (length before + 1)) (arrivals_after pace behind items))
+item_arrivals pace count before (Quiet ∷ items) same =
+    ticks_arrivals before (calls_after pace count items) ∙ ap (λ l. tick_arrivals ++ l) (item_arrivals pace count before items same)
+
+line_brought : (pace : ℕ) (items : List Item) (moves : List Move) (bring : Bring pace items moves) → arrivals_of_calls [] bring.calls ≡ arrivals_after pace [] items
+line_brought pace items moves bring = sym (cut_arrivals [] bring.calls) ∙ ap (λ l. arrivals_of_calls [] l) bring.cut ∙ item_arrivals pace 0 [] items refl
 
 -- no call is over a link that carries datagrams
 abbrev pub AllOnLine : List Call → Type 0
@@ -94,23 +98,54 @@ cut_on_line (Inputs datagram ∷ calls) on = absurd (cc on.0)
 cut_on_line (CallsForDatagram slot ∷ calls) on = absurd (cc on.0)
 cut_on_line (DoesNothing ∷ calls) on = (refl, cut_on_line calls on)
 
--- what is sent at such calls is what is sent over all that they bring
-sent_on_line : (m : AppSpec) (served : ℕ → Bool) (gives : Writing) (own : Addr) (before : List ℕ) (calls : List Call) (n : AbstractNode) → AllOnLine calls
-    → line_sent m served gives own before (map Makes calls) n ≡ text_of own (run m served (events_of_calls before calls own) n).sent
-sent_on_line m served gives own before [] n on = refl
-sent_on_line m served gives own before (call ∷ calls) n on =
-    let events = events_by before call own in
-    let behind = before ++ bytes_of_call call in
-    let here : AbstractNode = (run m served events n).node in
-    let text = text_of own (run m served events n).sent in
-    ap (λ v. (if v then [] else text) ++ line_sent m served gives own behind (map Makes calls) here) on.0
-    ∙ ap (λ l. text ++ l) (sent_on_line m served gives own behind calls here on.1)
-    ∙ sym (run-text-append m served own events (events_of_calls behind calls own) n)
+-- what is sent over events, and over others after them
+sent_joined : (f : Reply → List ℕ) (m : AppSpec) (served : ℕ → Bool) (xs ys : List Event) (n : AbstractNode)
+    → flat_map f (run m served (xs ++ ys) n).sent ≡ flat_map f (run m served xs n).sent ++ flat_map f (run m served ys (run m served xs n).node).sent
+sent_joined f m served [] ys n = refl
+sent_joined f m served (x ∷ xs) ys n = elim (step m served n x).sent as (λ o. flat_map f (joined o (run m served (xs ++ ys) (step m served n x).node).sent)
+    ≡ flat_map f (joined o (run m served xs (step m served n x).node).sent) ++ flat_map f (run m served ys (run m served xs (step m served n x).node).node).sent) [
+      | None ↦ sent_joined f m served xs ys (step m served n x).node
+      | Some reply ↦
+          ap (λ l. f reply ++ l) (sent_joined f m served xs ys (step m served n x).node)
+          ∙ sym (append_assoc (f reply) (flat_map f (run m served xs (step m served n x).node).sent) (flat_map f (run m served ys (run m served xs (step m served n x).node).node).sent))
+    ]
 
--- and so it is what is sent over the events of a line whose items they bring
-pub line_text : (m : AppSpec) (served : ℕ → Bool) (gives : Writing) (own : Addr) (pace : ℕ) (items : List Item) (moves : List Move) (n : AbstractNode) → Bring pace items moves
-    → line_sent m served gives own [] moves n ≡ text_of own (run m served (line_events own pace items) n).sent
-line_text m served gives own pace items moves n bring =
-    ap (λ (l : List Move). line_sent m served gives own [] l n) bring.made
-    ∙ sent_on_line m served gives own [] bring.calls n (cut_on_line bring.calls (subst (λ (l : List Call). AllOnLine l) (sym bring.cut) (items_on_line pace 0 items)))
-    ∙ ap (λ l. text_of own (run m served l n).sent) (line_brought own pace items moves bring)
+module _ (rules : Rules) (m : AppSpec) (served : ℕ → Bool) where
+  -- the events for what comes first, and then for the rest
+  events_then : (xs ys : List Arrival) (n : AbstractNode)
+      → guarded_events rules m served (xs ++ ys) n ≡ guarded_events rules m served xs n ++ guarded_events rules m served ys (guarded_run rules m served xs n).node
+  events_then [] ys n = refl
+  events_then (x ∷ xs) ys n =
+      let first : List Event = events_at rules served n x in
+      let mid : AbstractNode = (run m served first n).node in
+      ap (λ l. first ++ l) (events_then xs ys mid)
+      ∙ sym (append_assoc first (guarded_events rules m served xs mid) (guarded_events rules m served ys (guarded_run rules m served xs mid).node))
+      ∙ ap (λ (k : AbstractNode). (first ++ guarded_events rules m served xs mid) ++ guarded_events rules m served ys k) (sym (run_then m served first (guarded_events rules m served xs mid) n))
+
+  pub text_then : (own : Addr) (xs ys : List Arrival) (n : AbstractNode)
+      → text_sent rules.key own (guarded_run rules m served (xs ++ ys) n).sent
+      ≡ text_sent rules.key own (guarded_run rules m served xs n).sent ++ text_sent rules.key own (guarded_run rules m served ys (guarded_run rules m served xs n).node).sent
+  text_then own xs ys n =
+      ap (λ (l : List Event). text_sent rules.key own (run m served l n).sent) (events_then xs ys n)
+      ∙ sent_joined (wire_text rules.key own) m served (guarded_events rules m served xs n) (guarded_events rules m served ys (guarded_run rules m served xs n).node) n
+
+-- what is sent at such calls is what is sent over all that they bring
+sent_on_line : (m : AppSpec) (served : ℕ → Bool) (gives : Writing) (rules : Rules) (own : Addr) (before : List ℕ) (calls : List Call) (n : AbstractNode) → AllOnLine calls
+    → line_sent m served gives rules own before (map Makes calls) n ≡ text_sent rules.key own (guarded_run rules m served (arrivals_of_calls before calls) n).sent
+sent_on_line m served gives rules own before [] n on = refl
+sent_on_line m served gives rules own before (call ∷ calls) n on =
+    let arrivals = arrivals_by before call in
+    let behind = before ++ bytes_of_call call in
+    let here : AbstractNode = (guarded_run rules m served arrivals n).node in
+    let text = text_sent rules.key own (guarded_run rules m served arrivals n).sent in
+    ap (λ v. (if v then [] else text) ++ line_sent m served gives rules own behind (map Makes calls) here) on.0
+    ∙ ap (λ l. text ++ l) (sent_on_line m served gives rules own behind calls here on.1)
+    ∙ sym (text_then rules m served own arrivals (arrivals_of_calls behind calls) n)
+
+-- and so it is what is sent over what the items of a line bring
+pub line_text : (m : AppSpec) (served : ℕ → Bool) (gives : Writing) (rules : Rules) (own : Addr) (pace : ℕ) (items : List Item) (moves : List Move) (n : AbstractNode) → Bring pace items moves
+    → line_sent m served gives rules own [] moves n ≡ text_sent rules.key own (guarded_run rules m served (arrivals_after pace [] items) n).sent
+line_text m served gives rules own pace items moves n bring =
+    ap (λ (l : List Move). line_sent m served gives rules own [] l n) bring.made
+    ∙ sent_on_line m served gives rules own [] bring.calls n (cut_on_line bring.calls (subst (λ (l : List Call). AllOnLine l) (sym bring.cut) (items_on_line pace 0 items)))
+    ∙ ap (λ (l : List Arrival). text_sent rules.key own (guarded_run rules m served l n).sent) (line_brought pace items moves bring)

@@ -1,16 +1,16 @@
--- The events of bytes without a pace.
-use Rattle.uip_device.proofs.Prelude.{◌≡◌, ℕ, List, [], ◌∷◌, ◌++◌, map, refl, sym, ap, ◌∙◌, append-nil, map-append, Addr, Byte, Frame, completed, frames, completed_by, completed_reported, event_by, events_after}
+-- What bytes bring without a pace.
+use Rattle.uip_device.proofs.Prelude.{◌≡◌, ℕ, List, [], ◌∷◌, ◌++◌, map, refl, sym, ap, ◌∙◌, append-nil, map-append, Byte, Frame, completed, frames, completed_by, completed_reported, arrival_of, arrivals_after}
 
 -- bytes bring the frames that they complete
-completed_events : (own : Addr) (before bytes : List ℕ) → events_after own 0 before (map Byte bytes) ≡ map (event_by own) (completed_by before bytes)
-completed_events own before [] = refl
-completed_events own before (b ∷ bytes) =
+completed_arrivals : (before bytes : List ℕ) → arrivals_after 0 before (map Byte bytes) ≡ map arrival_of (completed_by before bytes)
+completed_arrivals before [] = refl
+completed_arrivals before (b ∷ bytes) =
     let behind = before ++ b ∷ [] in
-    ap (λ l. l ++ events_after own 0 behind (map Byte bytes)) (append-nil (map (event_by own) (completed before b)))
-    ∙ ap (λ l. map (event_by own) (completed before b) ++ l) (completed_events own behind bytes)
-    ∙ sym (map-append (event_by own) (completed before b) (completed_by behind bytes))
+    ap (λ l. l ++ arrivals_after 0 behind (map Byte bytes)) (append-nil (map arrival_of (completed before b)))
+    ∙ ap (λ l. map arrival_of (completed before b) ++ l) (completed_arrivals behind bytes)
+    ∙ sym (map-append arrival_of (completed before b) (completed_by behind bytes))
 
 -- what a decoder reports of more bytes is what they bring to the node
-pub reported_events : (own : Addr) (before bytes : List ℕ) (reported : List Frame) → frames (before ++ bytes) ≡ frames before ++ reported
-    → events_after own 0 before (map Byte bytes) ≡ map (event_by own) reported
-reported_events own before bytes reported e = completed_events own before bytes ∙ ap (λ l. map (event_by own) l) (completed_reported before bytes reported e)
+pub reported_arrivals : (before bytes : List ℕ) (reported : List Frame) → frames (before ++ bytes) ≡ frames before ++ reported
+    → arrivals_after 0 before (map Byte bytes) ≡ map arrival_of reported
+reported_arrivals before bytes reported e = completed_arrivals before bytes ∙ ap (λ l. map arrival_of l) (completed_reported before bytes reported e)

@@ -1,5 +1,5 @@
 -- A datagram's text in pieces.
-use Rattle.uip_device.proofs.Prelude.{◌≡◌, ℕ, ◌≤◌, List, [], ◌∷◌, ◌++◌, length, take, sym, ap, ◌∙◌, append_assoc, arith, length-append, true, Option, None, Some, length-take-le, flat_map-append, false≢true, is_some, Addr, Buffer, datagram_in, escaped, escaped_byte, slip_text, Reply, IsSent, text_for, rest_text}
+use Rattle.uip_device.proofs.Prelude.{◌≡◌, ℕ, ◌≤◌, List, [], ◌∷◌, ◌++◌, length, take, sym, ap, ◌∙◌, append_assoc, arith, length-append, true, Option, length-take-le, flat_map-append, false≢true, is_some, append-nil, Addr, Buffer, datagram_in, escaped, escaped_byte, slip_text, IsSentOver, Key, Reply, leaving, rest_text, text_sent, wire_text}
 
 -- a prefix is put, and its text is no longer pending
 pub prefix_put : (before made rest prefix after : List ℕ) → made ≡ before ++ escaped prefix → rest ≡ prefix ++ after → made ++ rest_text after ≡ before ++ rest_text rest
@@ -16,7 +16,8 @@ longer xs ys more n k here there e =
     omega (arith, length-take-le n xs here, length-take-le k ys there, ap (λ l. length l) e, length-append (take n xs) more)
 
 -- the text of what was sent
-pub sent_text : (own : Addr) (reply : Option Reply) (sent : Option ℕ) (packet : Buffer) (text : List ℕ) → is_some sent ≡ true → text ≡ 192 ∷ rest_text (datagram_in packet)
-    → IsSent own reply sent packet → text ≡ text_for own reply
-sent_text own None sent packet text some e none = absurd (false≢true (sym (ap (λ o. is_some o) none) ∙ some))
-sent_text own (Some reply) sent packet text some e is = e ∙ ap (λ d. slip_text d) is.datagram
+pub sent_text : (key : Option Key) (own : Addr) (replies : List Reply) (sent : Option ℕ) (packet : Buffer) (text : List ℕ) → is_some sent ≡ true
+    → text ≡ 192 ∷ rest_text (datagram_in packet) → IsSentOver (leaving key) own replies sent packet → text ≡ text_sent key own replies
+sent_text key own [] sent packet text some e none = absurd (false≢true (sym (ap (λ o. is_some o) none) ∙ some))
+sent_text key own (reply ∷ []) sent packet text some e is = e ∙ ap (λ d. slip_text d) is.datagram ∙ sym (append-nil (wire_text key own reply))
+sent_text key own (reply ∷ other ∷ more) sent packet text some e is = absurd is

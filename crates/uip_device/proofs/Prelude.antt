@@ -2,6 +2,12 @@
 pub use Rattle.app_events.specs.Prelude.{AppSpec, CanSupply, IsAddr, IsByte, IsPaged, IsRepresented, IsU32, Pages, AppState}
 pub use Rattle.app_events.specs.declared.app.App.{Ghosts}
 pub use Rattle.device_values.specs.Prelude.{no_values, record_text, value_given, words}
+pub use Rattle.guarded_node.specs.Arrivals.{Arrival, Due, Received, TooLong, counted_at, events_at, guarded_counts, guarded_events, guarded_run, wire_bytes}
+pub use Rattle.guarded_node.specs.Runs.{HasRun, IsSentOver, TakesEvents}
+pub use Rattle.guarded_node.specs.Wire.{arriving, leaving}
+pub use Rattle.guarded_node.specs.declared.guard.Guard.{Guard}
+pub use Rattle.guarded_node.specs.declared.guard.GuardCounts.{GuardCounts}
+pub use Rattle.guarded_node.specs.declared.guard.Rules.{Rules}
 pub use Rattle.file_tree.specs.Prelude.{AreApart, SiteContent, files_of}
 pub use Rattle.file_tree.specs.declared.file_id.FileId.{FileId}
 pub use Rattle.httpd.proofs.Finding.{found_place, hits_left, no_place, place_is}
@@ -16,10 +22,10 @@ pub use Rattle.protosocket.proofs.Cuts.{cut_at, found, missing, whole}
 pub use Rattle.protosocket.specs.Prelude.{Line, is_query_mark, is_stop, none_at_all, word_of}
 pub use Rattle.protosocket.specs.declared.stops.Stops.TheVariants.{Space, SpaceOrLine}
 pub use Rattle.serve_loop.proofs.ByteLaws.{slip_brings_bytes}
-pub use Rattle.serve_loop.proofs.NodeLaws.{node_on, node_step}
-pub use Rattle.serve_loop.proofs.RunLaws.{run-text-append, text_of-joined}
+pub use Rattle.serve_loop.proofs.NodeLaws.{node_on}
 pub use Rattle.serve_loop.proofs.SlipServeLaws.{sent_text_on_line}
-pub use Rattle.serve_loop.specs.Prelude.{CarriesBytes, IsNode, beat, came_by, event_by, events_after, initial_station, is_beat, line_events, output_by, slip_medium, text_for, text_of}
+pub use Rattle.serve_loop.specs.Prelude.{CarriesBytes, IsNode, came_by, initial_station, is_beat, line_events, output_by, slip_medium, text_of}
+pub use Rattle.sip_hash.specs.declared.key.Key.{Key}
 pub use Rattle.site_image.specs.Prelude.{File, file_named, has_name}
 pub use Rattle.std.proofs.Common.{Bool, List, None, Option, Some, [], ap, append-nil, append_assoc, arith, drop, false, get_or, if◌then◌else◌, inl, inr, ◌⊎◌, length, length-append, length-drop, length-take, lit<, map, option_map, refl, replicate, subst, sym, take, true, ℕ, ◌*◌, ◌++◌, ◌+◌, ◌-◌, ◌<◌, ◌∙◌, ◌∷◌, ◌≡◌, ◌≤◌, true≢false, find, cond, suc, zero, ◌||◌, position}
 pub use Rattle.std.proofs.lemmas.Bool.{false≢true, eqb-true, lt-ltb}
@@ -30,14 +36,14 @@ pub use Rattle.std.proofs.lemmas.List.Elements.{All-append, All-cons, All-drop, 
 pub use Rattle.std.specs.List.{All, flat_map, slice_index_or, before_first, list_any}
 pub use Rattle.std.specs.Option.{is_some, option_map_or}
 pub use Rattle.std.specs.Prelude.{⊤, nat_eq, slice_get, codes, IfSome}
-pub use Rattle.uip_device.specs.Prelude.{AllHandOutSent, Answered, Answers, AnswersAll, AnswersOver, AnswersMove, Bring, Call, Calls, CallsConform, CallsForDatagram, DoesNothing, Drains, Feeds, Gives, HandsOut, HasDelivered, Inputs, IsFreshDevice, IsOfBytes, KeepsU32, Makes, Move, MoveTrace, OutputIsSent, SendsOver, Spoils, Writing, byte_calls, bytes_of_call, bytes_of_move, calls_after, datagram_sent, datagrams_handed, datagrams_sent, events_by, events_of_calls, events_of_move, first_numbers, goes_by_datagram, is_by_datagram, left_text_of, lefts_of, line_handed, line_sent, moves_of, node_reached, rest_text, run_move, text_to_come, tick_calls, with_value, write_value, ChangesNode}
+pub use Rattle.uip_device.specs.Prelude.{AllHandOutSent, Answered, Answers, AnswersAll, AnswersOver, AnswersMove, Bring, Call, Calls, CallsConform, CallsForDatagram, DoesNothing, Drains, Feeds, Gives, HandsOut, HasDelivered, Inputs, IsFreshDevice, IsOfBytes, KeepsU32, Makes, Move, MoveTrace, OutputIsSent, SendsOver, Spoils, Writing, LineIsServed, TookArrivals, arrival_of, arrivals_after, arrivals_by, arrivals_of_calls, arrivals_of_move, byte_calls, bytes_of_call, bytes_of_move, calls_after, counts_of_move, counts_reached, datagram_sent, datagrams_handed, datagrams_sent, events_of_move, guard_reached, first_numbers, goes_by_datagram, is_by_datagram, left_text_of, lefts_of, line_handed, line_sent, moves_of, node_reached, rest_text, run_move, text_sent, text_to_come, tick_arrivals, tick_calls, wire_text, with_value, write_value, ChangesNode}
 pub use Rattle.uip_device.specs.Query.{QueryContent, kept_query, kept_text, place_wanted, query_after, query_by, query_in, text_after_mark, ReadsQuery, query_for}
 pub use Rattle.uip_device.specs.declared.device.Device.{Device}
 pub use Rattle.uip_edge.proofs.Reported.{moved_on}
 pub use Rattle.uip_edge.specs.declared.item.Item.{Item}
 pub use Rattle.uip_edge.specs.declared.item.Item.TheVariants.{Byte, Quiet}
 pub use Rattle.uip_node.proofs.Basics.{choose}
-pub use Rattle.uip_node.specs.Prelude.{AbstractNode, Event, HasBytes, IsSent, Node, Periodic, Reply, Represents, Steps, event_of, initial_node, joined, run, seen, step, tick}
+pub use Rattle.uip_node.specs.Prelude.{AbstractNode, Event, HasBytes, Node, Periodic, Ran, Reply, Represents, event_of, initial_node, joined, reply_bytes, run, seen, step}
 pub use Rattle.uip_slip.proofs.FrameLaws.{completed_by, completed_reported}
 pub use Rattle.uip_slip.specs.Prelude.{Datagram, FeedsPrefix, Frame, IsNoise, Overlong, PartState, State, WasFed, completed, escaped, escaped_byte, frames, is_free, open_bytes, reported_by, slip_text, state_in}
 pub use Rattle.uip_wire.specs.declared.addr.Addr.{Addr}

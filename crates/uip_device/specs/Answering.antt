@@ -12,7 +12,9 @@ use Rattle.web_pages.specs.Prelude.{reply_pieces_by, ScriptPiece, Plain, Made, W
 use Rattle.uip_wire.specs.declared.addr.Addr.{Addr}
 use Rattle.tcp_machine.specs.Prelude.{Sockets}
 use Rattle.node_laws.specs.Prelude.{Arrives, Asker, AsksOverLoss, TraceEntry, bare_acks, exchanges_with, fresh}
+use Rattle.guarded_node.specs.declared.guard.Rules.{Rules}
 use Rattle.uip_device.specs.Devices.{Answered}
+use Rattle.uip_device.specs.Moves.{Writing}
 use Rattle.uip_device.specs.Keeping.{CallsConform}
 use Rattle.uip_device.specs.WebDevices.{value_pages, value_spec}
 
@@ -68,8 +70,9 @@ ValuePagesAnswer =
 -- decided, and is received whole before any slot is called twenty times. Text follows each value of its page.
 abbrev pub WebCallsArrive : Type 0
 WebCallsArrive =
-    (files : List File) (served : ℕ → Bool) (own : Addr) (all : List Answered) (lefts : List (List ℕ))
-    → (conforms : CallsConform (value_spec files) (value_pages files) served own all lefts) → (a : Asker) (p : Sockets)
+    (files : List File) (served : ℕ → Bool) (gives : Writing) (numbers : List ℕ) (rules : Rules) (own : Addr)
+    (all : List Answered) (lefts : List (List ℕ))
+    → (conforms : CallsConform (value_spec files) (value_pages files) served gives numbers rules own all lefts) → (a : Asker) (p : Sockets)
     → wanted a.request ≢ NotYet → text_follows_values (answer_pieces words files (wanted a.request)) ≡ true → (incarnation : List TraceEntry)
     → AsksOverLoss a p 19 (flat_map (λ it. it.turns) conforms.moves) incarnation
     → texts_by words a.mss (answer_pieces words files (wanted a.request)) < bare_acks (fresh a (exchanges_with p incarnation))

@@ -1,10 +1,10 @@
--- The calls of a device, and the events that they cause at its node.
+-- The calls of a device, and what they bring to its guarded node.
 use Rattle.std.specs.Prelude.{◌≡◌, ◌⊎◌, ℕ, Bool, true, false, ◌+◌, ◌-◌, List, [], ◌∷◌, ◌++◌, length, map, slice_index, if◌then◌else◌}
-use Rattle.uip_wire.specs.declared.addr.Addr.{Addr}
 use Rattle.uip_edge.specs.declared.item.Item.{Item}
 use Rattle.uip_edge.specs.declared.item.Item.TheVariants.{Byte, Quiet}
-use Rattle.uip_node.specs.Prelude.{event_of, Event, Periodic}
-use Rattle.serve_loop.specs.Prelude.{events_after, is_beat}
+use Rattle.uip_slip.specs.Prelude.{Frame, Datagram, Overlong, completed}
+use Rattle.serve_loop.specs.Prelude.{is_beat}
+use Rattle.guarded_node.specs.Arrivals.{Arrival, Received, TooLong, Due}
 
 -- A call. Over a serial line bytes are fed, a slot is called, or pending output is drained. Over a datagram link a datagram is received,
 -- or a slot is called. A refused call, or one that reads a count, does nothing.
@@ -31,20 +31,37 @@ bytes_of_call _ = []
 abbrev pub StopsAtEnd : List ℕ → ℕ → Type 0
 StopsAtEnd bytes taken = (taken ≡ length bytes) ⊎ (slice_index bytes (taken - 1) ≡ 192)
 
--- The events of a call at the node with the address `own`, after the bytes fed before. They are the frames that its bytes complete, its
--- datagram, or the call of its slot. Draining causes none.
-abbrev pub events_by : List ℕ → Call → Addr → List Event
-events_by before (Feeds bytes) own = events_after own 0 before (map Byte bytes)
-events_by before (Calls slot) own = Periodic slot ∷ []
-events_by before Drains own = []
-events_by before (Inputs datagram) own = event_of own datagram ∷ []
-events_by before (CallsForDatagram slot) own = Periodic slot ∷ []
-events_by before DoesNothing own = []
+-- what a frame of the line brings
+abbrev pub arrival_of : Frame → Arrival
+arrival_of (Datagram bytes) = Received bytes
+arrival_of Overlong = TooLong
 
--- the events of calls in order, after the bytes fed before
-abbrev pub events_of_calls : List ℕ → List Call → Addr → List Event
-events_of_calls before [] own = []
-events_of_calls before (call ∷ calls) own = events_by before call own ++ events_of_calls (before ++ bytes_of_call call) calls own
+-- a tick is a periodic call of each slot, in order
+abbrev pub tick_arrivals : List Arrival
+tick_arrivals = map Due (0 ∷ 1 ∷ 2 ∷ 3 ∷ 4 ∷ 5 ∷ 6 ∷ 7 ∷ 8 ∷ 9 ∷ [])
+
+-- what the items of a line bring at a pace, after the bytes before; with pace 0 no byte causes a tick
+abbrev pub arrivals_after : ℕ → List ℕ → List Item → List Arrival
+arrivals_after pace before [] = []
+arrivals_after pace before (Byte b ∷ items) =
+    map arrival_of (completed before b) ++ (if is_beat pace (length before + 1) then tick_arrivals else [])
+    ++ arrivals_after pace (before ++ b ∷ []) items
+arrivals_after pace before (Quiet ∷ items) = tick_arrivals ++ arrivals_after pace before items
+
+-- What a call brings, after the bytes fed before: the frames that its bytes complete, its datagram, or the call of its slot. Draining
+-- brings nothing.
+abbrev pub arrivals_by : List ℕ → Call → List Arrival
+arrivals_by before (Feeds bytes) = arrivals_after 0 before (map Byte bytes)
+arrivals_by before (Calls slot) = Due slot ∷ []
+arrivals_by before Drains = []
+arrivals_by before (Inputs datagram) = Received datagram ∷ []
+arrivals_by before (CallsForDatagram slot) = Due slot ∷ []
+arrivals_by before DoesNothing = []
+
+-- what calls bring in order, after the bytes fed before
+abbrev pub arrivals_of_calls : List ℕ → List Call → List Arrival
+arrivals_of_calls before [] = []
+arrivals_of_calls before (call ∷ calls) = arrivals_by before call ++ arrivals_of_calls (before ++ bytes_of_call call) calls
 
 -- the ten calls of a tick
 abbrev pub tick_calls : List Call

@@ -10,7 +10,10 @@ use Rattle.uip_node.specs.Prelude.{AbstractNode, initial_node, Node}
 use Rattle.uip_wire.specs.declared.addr.Addr.{Addr}
 use Rattle.uip_slip.specs.Prelude.{IsNoise, WasFed, frames, is_free, state_in}
 use Rattle.serve_loop.specs.Prelude.{IsNode}
-use Rattle.uip_device.specs.Calls.{Call, Feeds, bytes_of_call, events_by, is_by_datagram}
+use Rattle.sip_hash.specs.declared.key.Key.{Key}
+use Rattle.guarded_node.specs.Counts.{fresh_guard}
+use Rattle.guarded_node.specs.declared.guard.Rules.{Rules}
+use Rattle.uip_device.specs.Calls.{Call, Feeds, arrivals_by, bytes_of_call, is_by_datagram}
 use Rattle.uip_device.specs.Moves.{Move, Makes, Gives, Writing, goes_by_datagram, with_numbers}
 use Rattle.uip_device.specs.Handing.{FillsRoom, text_to_come}
 use Rattle.uip_device.specs.Sending.{HandsOut, SendsOver}
@@ -37,12 +40,28 @@ abbrev pub CompleteOne : {A S : Type 0} → List ℕ → Device A S → Type 0
 CompleteOne bytes d = (before : List ℕ) → HasDelivered before d → length (frames (before ++ bytes)) ≤ length (frames before) + 1
 
 -- A device at the address `own` that was fed nothing and asked for nothing. Its node represents the initial one, with an application of
--- this specification.
-pub record IsFreshDevice {A S : Type 0} (g : Ghosts A S) (m : AppSpec) (numbers : List ℕ) (own : Addr) (d : Device A S) : Type 0 where
+-- this specification. Its guard has these rules, and has done nothing.
+pub record IsFreshDevice {A S : Type 0} (g : Ghosts A S) (m : AppSpec) (numbers : List ℕ) (own : Addr) (rules : Rules)
+    (d : Device A S) : Type 0 where
+  pub guard : d.guard ≡ fresh_guard rules
   pub sound : IsSoundDevice g d
   pub input : HasDelivered [] d
   pub none : d.left ≡ None
   pub represented : IsNode g m own d.node (initial_node own numbers)
+
+-- A fresh device whose guard has no secret.
+pub record IsFreshWithoutSecret {A S : Type 0} (g : Ghosts A S) (d : Device A S) : Type 0 where
+  pub m : AppSpec
+  pub numbers : List ℕ
+  pub own : Addr
+  pub rules : Rules
+  pub none : rules.key ≡ None
+  pub fresh : IsFreshDevice g m numbers own rules d
+
+-- The guard has this secret now, and had none before. All else is unchanged.
+pub record IsProtected {A S : Type 0} (key : Key) (old new : Device A S) : Type 0 where
+  pub none : old.guard.rules.key ≡ None
+  pub set : new ≡ record old { guard = record old.guard { rules = record old.guard.rules { key = Some key } } }
 
 -- No connection is open: none has a row in the table of connections.
 abbrev pub is_node_idle : AbstractNode → Bool
@@ -56,12 +75,12 @@ row_in slot (row ∷ rows) = if row.slot == slot then Some row else row_in slot 
 abbrev pub connection_row : ℕ → AbstractNode → Option Row
 connection_row slot n = row_in slot (rows_from 0 n.connections)
 
--- A call returned these bytes. Whatever the device was fed before, it was then fed the bytes of the call too. Its node took the events of
--- the call. The bytes are from the pending output and from what the node sent (`HandsOut`).
+-- A call returned these bytes. Whatever the device was fed before, it was then fed the bytes of the call too. Its guarded node took what
+-- the call brings. The bytes are from the pending output and from what the node sent (`HandsOut`).
 pub record Answers {A S : Type 0} (g : Ghosts A S) (call : Call) (old new : Device A S) (handed : List ℕ) : Type 0 where
   pub input : (before : List ℕ) → HasDelivered before old → HasDelivered (before ++ bytes_of_call call) new
-  pub sends : (before : List ℕ) → HasDelivered before old → SendsOver g (events_by before call) old.node new.node
-      (λ own replies. HandsOut (is_by_datagram call) own (left_text_of old) handed (left_text_of new) replies)
+  pub sends : (before : List ℕ) → HasDelivered before old → SendsOver g (arrivals_by before call) old.guard new.guard old.node new.node
+      (λ own replies. HandsOut (is_by_datagram call) old.guard.rules.key own (left_text_of old) handed (left_text_of new) replies)
 
 -- A call for which a frame was lost that was partly received: as if any noise had come within it, just before the call.
 abbrev pub Spoils : {A S : Type 0} → Ghosts A S → Call → Device A S → Device A S → List ℕ → Type 0
@@ -80,9 +99,10 @@ pub record ChangesNode {A S : Type 0} (g : Ghosts A S) (change : List ℕ → Li
   pub packet : new.packet ≡ old.packet
   pub represented : (m : AppSpec) (own : Addr) (n : AbstractNode) → IsNode g m own old n → IsNode g m own new (with_numbers change n)
 
--- The counters of the application were changed between calls. The bytes fed and the pending output are unchanged, and the node represents
--- the same node with these counters.
+-- The counters of the application were changed between calls. The bytes fed, the pending output and the guard are unchanged, and the node
+-- represents the same node with these counters.
 pub record Changes {A S : Type 0} (g : Ghosts A S) (change : List ℕ → List ℕ) (old new : Device A S) : Type 0 where
+  pub guard : new.guard ≡ old.guard
   pub kept : g.config new.node.shared ≡ g.config old.node.shared
   pub input : (before : List ℕ) → HasDelivered before old → HasDelivered before new
   pub left : left_text_of new ≡ left_text_of old
@@ -109,11 +129,11 @@ AnswersAll {A = A} {S = S} g gives (it ∷ all) a c =
     (b : Device A S) × AnswersMove g gives it.move a b it.handed × AnswersAll g gives all b c
 
 -- The property holds for every fresh device and any moves in order, with their results.
-abbrev pub FromFresh : {A S : Type 0} → Ghosts A S → (AppSpec → Writing → List ℕ → Addr → List Answered → Device A S → Device A S → Type 0)
-    → Type 0
+abbrev pub FromFresh : {A S : Type 0} → Ghosts A S
+    → (AppSpec → Writing → List ℕ → Addr → Rules → List Answered → Device A S → Device A S → Type 0) → Type 0
 FromFresh {A = A} {S = S} g P =
-    (m : AppSpec) (gives : Writing) (numbers : List ℕ) (own : Addr) (all : List Answered) (old new : Device A S)
-    → IsFreshDevice g m numbers own old → AnswersAll g gives all old new → P m gives numbers own all old new
+    (m : AppSpec) (gives : Writing) (numbers : List ℕ) (own : Addr) (rules : Rules) (all : List Answered) (old new : Device A S)
+    → IsFreshDevice g m numbers own rules old → AnswersAll g gives all old new → P m gives numbers own rules all old new
 
 -- the pending output after each of these moves
 abbrev pub lefts_of : {A S : Type 0} (g : Ghosts A S) (gives : Writing) (all : List Answered) (a c : Device A S)

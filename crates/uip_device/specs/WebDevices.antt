@@ -1,5 +1,5 @@
 -- A device with the web server of a site, whose scripts can show values.
-use Rattle.std.specs.Prelude.{◌≡◌, ◌⊎◌, ◌-◌, ◌++◌, [], All, drop, Err, length, List, Ok, Result, take, ℕ, ⊤}
+use Rattle.std.specs.Prelude.{◌≡◌, ◌⊎◌, ◌-◌, ◌++◌, [], All, drop, Err, length, List, None, Ok, Option, Result, Some, take, ℕ, ⊤}
 use Rattle.site_image.specs.Prelude.{fault, read_image, File, IsImage}
 use Rattle.site_image.specs.declared.site_error.SiteError.{SiteError}
 use Rattle.site_image.specs.declared.site_error.SiteWhy.TheVariants.{PageTooLong}
@@ -10,10 +10,11 @@ use Rattle.device_values.specs.Prelude.{no_values, value_given, word_calls, word
 use Rattle.uip_device.specs.contracts.value_pages.ValuePagesApp.TheImpl.{ghosts}
 use Rattle.uip_device.specs.declared.device_web.DeviceWeb.{DeviceWeb}
 use Rattle.uip_device.specs.declared.value_pages.ValuePages.{ValuePages}
-use Rattle.uip_edge.specs.declared.item.Item.{Item}
 use Rattle.uip_node.specs.Prelude.{AbstractNode, initial_node, Node}
 use Rattle.uip_wire.specs.declared.addr.Addr.{Addr}
-use Rattle.serve_loop.specs.Prelude.{output_by, slip_medium, IsNode}
+use Rattle.serve_loop.specs.Prelude.{IsNode}
+use Rattle.sip_hash.specs.declared.key.Key.{Key}
+use Rattle.guarded_node.specs.declared.guard.Rules.{Rules}
 use Rattle.uip_device.specs.Devices.{IsFreshDevice, IsSoundDevice}
 use Rattle.uip_device.specs.Moves.{Move, Writing}
 use Rattle.uip_device.specs.Output.{datagrams_sent, line_sent, node_reached}
@@ -59,10 +60,14 @@ DeviceRepresents files own d n = NodeRepresents files own d.node n
 abbrev pub IsSoundWebDevice : WebDevice → Type 0
 IsSoundWebDevice d = IsSoundDevice ghosts d
 
--- The device serves these files at this address, was fed nothing, no file was requested, and no value was set.
-pub record IsFreshWebDevice (files : List File) (own : Addr) (d : WebDevice) : Type 0 where
+-- What the guard of a device goes by: its secret, if there is one, and the port of the pages.
+abbrev pub web_rules : Option Key → Rules
+web_rules key = record { key = key; pages = Some (record { 0 = 80 }) }
+
+-- The device serves these files at this address, has this secret or none, was fed nothing, no file was requested, and no value was set.
+pub record IsFreshWebDevice (files : List File) (own : Addr) (key : Option Key) (d : WebDevice) : Type 0 where
   pub files_are : files_of (site_in d) ≡ files
-  pub fresh : IsFreshDevice ghosts (value_spec files) (first_numbers files) own d
+  pub fresh : IsFreshDevice ghosts (value_spec files) (first_numbers files) own (web_rules key) d
 
 -- The site was loaded from exactly this image, which is bytes and contains its files. No page can be too long, whatever its scripts call.
 pub record IsOfImage (image : List ℕ) (site : SiteContent) : Type 0 where
@@ -73,10 +78,10 @@ pub record IsOfImage (image : List ℕ) (site : SiteContent) : Type 0 where
   pub read : read_image image ≡ Ok (files_of site)
   pub spelled : IsImage image (files_of site)
 
--- A fresh device at this address with the site of this image.
+-- A fresh device at this address with the site of this image, without a secret.
 pub record IsOpened (image : List ℕ) (own : Addr) (d : WebDevice) : Type 0 where
   pub site : IsOfImage image (site_in d)
-  pub fresh : IsFreshWebDevice (files_of (site_in d)) own d
+  pub fresh : IsFreshWebDevice (files_of (site_in d)) own None d
 
 -- The image contains files of which a page can be too long only because a script shows values. This is reported about the whole image.
 pub record IsLongWithValues (image : List ℕ) (error : SiteError) : Type 0 where
@@ -104,19 +109,16 @@ abbrev pub OpensDevice : List ℕ → Addr → Result WebDevice OpenFault → Ty
 OpensDevice image own (Ok d) = IsOpened image own d
 OpensDevice image own (Err fault) = FailsAs image fault
 
--- the output of the web server of a device for the items of a serial line, if no value is set
-abbrev pub web_output : List File → Addr → ℕ → List Item → List ℕ
-web_output files own pace items = output_by slip_medium (value_spec files) is_served (first_numbers files) own pace items
+-- The output of its initial node and its guard over moves: the encoded datagrams on the serial line, and the datagrams; and the node
+-- after them.
+abbrev pub web_line_sent : List File → Option Key → Addr → List Move → List ℕ
+web_line_sent files key own moves =
+    line_sent (value_spec files) is_served write_value (web_rules key) own [] moves (initial_node own (first_numbers files))
 
--- The output of its initial node over moves: the encoded datagrams on the serial line, and the datagrams; and the node after them.
-abbrev pub web_line_sent : List File → Addr → List Move → List ℕ
-web_line_sent files own moves =
-    line_sent (value_spec files) is_served write_value own [] moves (initial_node own (first_numbers files))
+abbrev pub web_datagrams_sent : List File → Option Key → Addr → List Move → List (List ℕ)
+web_datagrams_sent files key own moves =
+    datagrams_sent (value_spec files) is_served write_value (web_rules key) own [] moves (initial_node own (first_numbers files))
 
-abbrev pub web_datagrams_sent : List File → Addr → List Move → List (List ℕ)
-web_datagrams_sent files own moves =
-    datagrams_sent (value_spec files) is_served write_value own [] moves (initial_node own (first_numbers files))
-
-abbrev pub web_node_after : List File → Addr → List Move → AbstractNode
-web_node_after files own moves =
-    node_reached (value_spec files) is_served write_value own [] moves (initial_node own (first_numbers files))
+abbrev pub web_node_after : List File → Option Key → Addr → List Move → AbstractNode
+web_node_after files key own moves =
+    node_reached (value_spec files) is_served write_value (web_rules key) [] moves (initial_node own (first_numbers files))

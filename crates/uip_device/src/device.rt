@@ -6,21 +6,22 @@ ghost use Rattle.packet_buffer.specs.Prelude.{datagram_in};
 ghost use Rattle.uip_edge.specs.declared.item.Item.TheVariants.{Byte};
 ghost use Rattle.uip_slip.specs.Prelude.{FeedsPrefix, WasFed, frames, state_in};
 ghost use Rattle.uip_slip.specs.declared.fed.Fed.TheVariants.{More};
-ghost use Rattle.uip_node.specs.Prelude.{event_of};
-ghost use Rattle.serve_loop.specs.Prelude.{events_after, text_of};
-ghost use Rattle.uip_device.specs.Calls.{StopsAtEnd};
+ghost use Rattle.guarded_node.specs.Arrivals.Arrival.{Received};
+ghost use Rattle.uip_device.specs.Calls.{StopsAtEnd, arrivals_after};
 ghost use Rattle.uip_device.specs.Handing.{IsPartWritten, text_to_come};
-ghost use Rattle.uip_device.specs.Sending.{SendsOver};
+ghost use Rattle.uip_device.specs.Sending.{SendsOver, text_sent};
 
 use crate::datagrams::copy_sent;
 use crate::node_status::{is_node_idle, node_counter, node_row, node_ticks};
 use crate::pending_output::{LARGEST_TEXT, Written, hand_on, write_text};
 use app_events::{App, Row};
+use guarded_node::{Guard, guarded_input, guarded_input_in_place, guarded_periodic};
+use sip_hash::Key;
 use std::alloc::Global;
 use uip_edge::NoMemory;
 use uip_node::Node;
 use uip_slip::{Fed, FedRun, Part};
-use uip_wire::{Addr, LARGEST_DATAGRAM};
+use uip_wire::{Addr, LARGEST_DATAGRAM, Port};
 
 /// The bytes of a line that were consumed, and the bytes that were written at the start of the area.
 #[derive(Clone, Copy, Debug, PartialEq, Eq)]
@@ -29,12 +30,13 @@ pub struct FeedResult {
     pub written: usize,
 }
 
-/// A device: a node with an application, on a serial line or a link that carries whole IP datagrams.
+/// A device: a node with an application and its guard, on a serial line or a link that carries whole IP datagrams.
 /// [add: c-call] A method of `Device`.
 #[derive(Drop)]
 pub struct Device<A: App> {
     /// What is known of the frame that is received in the node's packet.
     pub part: Part,
+    pub guard: Guard,
     pub node: Node<A>,
     /// The bytes of the datagram in the packet whose text was written already; `None` if no output is pending.
     pub left: Option<usize>,
@@ -51,15 +53,16 @@ fn receive<A: App>(part: &mut Part, node: &mut Node<A>, bytes: &[u8]) -> FedRun
 }
 
 /// Inputs the datagram at the start of the node's packet and writes the text of the reply.
-fn answer<A: App>(node: &mut Node<A>, len: usize, out: &mut [u8]) -> Written
+fn answer<A: App>(guard: &mut Guard, node: &mut Node<A>, len: usize, out: &mut [u8]) -> Written
     requires most { len ≤ LARGEST_DATAGRAM }
     requires room { 0 < length out.old }
     ensures long { length out.new ≡ length out.old }
     ensures part { IsPartWritten (datagram_in node.new.packet) result.wrote result.left (length out.new) }
-    ensures sends { SendsOver A.App (λ own. event_of own (take len node.old.packet.area) ∷ []) node.old node.new (λ own replies. text_of own replies
+    ensures sends { SendsOver A.App (Received (take len node.old.packet.area) ∷ []) guard.old guard.new node.old node.new
+        (λ own replies. text_sent guard.old.rules.key own replies
         ≡ take result.wrote out.new ++ text_to_come (datagram_in node.new.packet) result.left) }
 {
-    let sent = node.input_in_place(len);
+    let sent = guarded_input_in_place(guard, node, len);
     write_text(node, sent, out)
 }
 
@@ -71,7 +74,13 @@ struct Taken {
 }
 
 /// Consumes all bytes, or those up to an END, so that at most one frame becomes complete, and writes the text of the reply.
-fn take<A: App>(part: &mut Part, node: &mut Node<A>, bytes: &[u8], out: &mut [u8]) -> Taken
+fn take<A: App>(
+    part: &mut Part,
+    guard: &mut Guard,
+    node: &mut Node<A>,
+    bytes: &[u8],
+    out: &mut [u8],
+) -> Taken
     requires some { 0 < length bytes.now }
     requires room { 0 < length out.old }
     ensures taken { (0 < result.count) × (result.count ≤ length bytes.now) }
@@ -82,8 +91,8 @@ fn take<A: App>(part: &mut Part, node: &mut Node<A>, bytes: &[u8], out: &mut [u8
     ensures part { IsPartWritten (datagram_in node.new.packet) result.written.wrote result.written.left (length out.new) }
     ensures fed { (before : List ℕ) → WasFed before (state_in node.old.packet.area part.old) → WasFed (before ++ take result.count bytes.now) (state_in node.new.packet.area part.new) }
     ensures sends { (before : List ℕ) → WasFed before (state_in node.old.packet.area part.old)
-        → SendsOver A.App (λ own. events_after own 0 before (map Byte (take result.count bytes.now))) node.old node.new
-        (λ own replies. text_of own replies
+        → SendsOver A.App (arrivals_after 0 before (map Byte (take result.count bytes.now))) guard.old guard.new node.old node.new
+        (λ own replies. text_sent guard.old.rules.key own replies
         ≡ take result.written.wrote out.new ++ text_to_come (datagram_in node.new.packet) result.written.left) }
 {
     let run = receive(part, node, bytes);
@@ -93,7 +102,7 @@ fn take<A: App>(part: &mut Part, node: &mut Node<A>, bytes: &[u8], out: &mut [u8
             node.count_overlong();
             Written::nothing()
         }
-        Fed::Datagram(len) => answer(node, len, out),
+        Fed::Datagram(len) => answer(guard, node, len, out),
     };
     Taken {
         count: run.count,
@@ -102,23 +111,47 @@ fn take<A: App>(part: &mut Part, node: &mut Node<A>, bytes: &[u8], out: &mut [u8
 }
 
 impl<A: App> Device<A> {
-    ghost use Rattle.std.specs.Prelude.{◌≡◌, ◌<◌, ◌≤◌, IfOk, None, Some, length, nat_lt, slice_get, take, true};
+    ghost use Rattle.std.specs.Prelude.{◌≡◌, ◌<◌, ◌≤◌, IfOk, None, Some, false, length, nat_lt, slice_get, take, true};
     ghost use Rattle.uip_node.specs.Counters.{counters, ticks_of};
     ghost use Rattle.uip_node.specs.Node.{AbstractNode};
     ghost use Rattle.uip_node.specs.Represents.{Represents};
     ghost use Rattle.uip_device.specs.Calls.{Calls, CallsForDatagram, Drains, Feeds, Inputs};
-    ghost use Rattle.uip_device.specs.Devices.{Answers, AnswersOver, CompleteOne, HasFilled, IsFreshDevice, IsSoundDevice, connection_row, is_node_idle};
+    ghost use Rattle.uip_device.specs.Devices.{Answers, AnswersOver, CompleteOne, HasFilled, IsFreshDevice, IsFreshWithoutSecret};
+    ghost use Rattle.uip_device.specs.Devices.{IsProtected, IsSoundDevice, connection_row, is_node_idle};
 
-    /// Returns a device at an address, whose application shares a value among its connections. No later call allocates memory (measured).
-    pub fn new(alloc: Global, own: Addr, shared: A::Shared) -> Result<Device<A>, NoMemory>
-        ensures fresh { IfOk result (λ d. IsFreshDevice A.App (A.app_spec (A.config shared)) (A.numbers shared) own d) }
+    /// Returns a device at an address, whose application shares a value among its connections, with the port of its pages, if there is one.
+    /// No later call allocates memory (measured).
+    pub fn new(
+        alloc: Global,
+        own: Addr,
+        pages: Option<Port>,
+        shared: A::Shared,
+    ) -> Result<Device<A>, NoMemory>
+        ensures fresh { IfOk result (λ d. IsFreshDevice A.App (A.app_spec (A.config shared)) (A.numbers shared) own
+            (record { key = None; pages = pages }) d) }
         ensures shared { IfOk result (λ d. d.node.shared ≡ shared) }
     {
         Ok(Device {
             part: Part::new(),
+            guard: Guard::new(pages),
             node: Node::new(alloc, own, shared)?,
             left: None,
         })
+    }
+
+    /// Sets the secret of the guard, which makes the sequence numbers unpredictable. It must be set before the first input: if there is a
+    /// secret, or the node has received a datagram or counted a tick, nothing changes and the result is false.
+    pub fn protect(&mut self, key: Key) -> bool
+        requires sound { IsSoundDevice A.App self.old }
+        ensures sound { IsSoundDevice A.App self.new }
+        ensures set { result ≡ true → IsProtected key self.old self.new }
+        ensures kept { result ≡ false → self.new ≡ self.old }
+        ensures fresh { IsFreshWithoutSecret A.App self.old → result ≡ true }
+    {
+        if node_ticks(&self.node) != 0 || node_counter(&self.node, 0) != 0 {
+            return false;
+        }
+        self.guard.protect(key)
     }
 
     /// Feeds received serial bytes, all of them or up to an END, so that at most one frame becomes complete. Writes the text of the reply,
@@ -138,7 +171,7 @@ impl<A: App> Device<A> {
         ensures full { HasFilled self.new result.written (length out.new) }
         ensures answers { Answers A.App (Feeds (take result.consumed bytes.now)) self.old self.new (take result.written out.new) }
     {
-        let taken = take(&mut self.part, &mut self.node, bytes, out);
+        let taken = take(&mut self.part, &mut self.guard, &mut self.node, bytes, out);
         self.left = taken.written.left;
         FeedResult {
             consumed: taken.count,
@@ -161,7 +194,7 @@ impl<A: App> Device<A> {
         ensures full { HasFilled self.new result (length out.new) }
         ensures answers { AnswersOver A.App (Calls slot) (nat_lt 0 result) self.old self.new (take result out.new) }
     {
-        let sent = self.node.periodic(slot);
+        let sent = guarded_periodic(&self.guard, &mut self.node, slot);
         match sent {
             None => 0,
             Some(_) => {
@@ -207,7 +240,7 @@ impl<A: App> Device<A> {
         ensures answers { AnswersOver A.App (Inputs datagram.now) true self.old self.new (take result out.new) }
     {
         self.part.give_up();
-        let sent = self.node.input(datagram);
+        let sent = guarded_input(&mut self.guard, &mut self.node, datagram);
         copy_sent(&self.node, sent, out)
     }
 
@@ -224,7 +257,7 @@ impl<A: App> Device<A> {
         ensures answers { AnswersOver A.App (CallsForDatagram slot) true self.old self.new (take result out.new) }
     {
         self.part.give_up();
-        let sent = self.node.periodic(slot);
+        let sent = guarded_periodic(&self.guard, &mut self.node, slot);
         copy_sent(&self.node, sent, out)
     }
 

@@ -1,12 +1,15 @@
 //! The SLIP text of a datagram, written in pieces (RFC 1055).
 
-ghost use Rattle.std.specs.Prelude.{◌≡◌, ◌<◌, ◌≤◌, ◌+◌, ◌*◌, ◌-◌, ◌++◌, ◌⊎◌, [], ◌∷◌, Option, Some, None, IfSome, is_some, length, take, true};
+ghost use Rattle.std.specs.Prelude.{◌≡◌, ◌<◌, ◌≤◌, ◌+◌, ◌*◌, ◌-◌, ◌++◌, ◌⊎◌, [], ◌∷◌, List, Option, Some, None, IfSome, is_some, length, take, true};
 ghost use Rattle.packet_buffer.specs.Prelude.{datagram_in};
 ghost use Rattle.uip_slip.specs.Prelude.{escaped};
 ghost use Rattle.uip_wire.specs.declared.addr.Addr.{Addr as Address};
-ghost use Rattle.uip_node.specs.Prelude.{Reply, IsSent};
-ghost use Rattle.serve_loop.specs.Prelude.{text_for};
+ghost use Rattle.sip_hash.specs.declared.key.Key.{Key};
+ghost use Rattle.uip_node.specs.Prelude.{Reply};
+ghost use Rattle.guarded_node.specs.Runs.{IsSentOver};
+ghost use Rattle.guarded_node.specs.Wire.{leaving};
 ghost use Rattle.uip_device.specs.Handing.{FillsRoom, IsPartWritten, text_to_come};
+ghost use Rattle.uip_device.specs.Sending.{text_sent};
 
 use app_events::App;
 use uip_node::Node;
@@ -118,14 +121,14 @@ fn put_end(out: &mut [u8])
     out[..1].copy_from_slice(&[END]);
 }
 
-/// Writes the text of the datagram that a call of the node sent, if it sent one, as far as there is room.
+/// Writes the text of the datagram that a call of the guarded node sent, if it sent one, as far as there is room.
 pub(crate) fn write_text<A: App>(node: &Node<A>, sent: Option<usize>, out: &mut [u8]) -> Written
     requires room { 0 < length out.old }
     ensures long { length out.new ≡ length out.old }
     ensures part { IsPartWritten (datagram_in node.now.packet) result.wrote result.left (length out.new) }
     ensures some { is_some sent ≡ true → 0 < result.wrote }
-    ensures text { (own : Address) (reply : Option Reply) → IsSent own reply sent node.now.packet
-        → take result.wrote out.new ++ text_to_come (datagram_in node.now.packet) result.left ≡ text_for own reply }
+    ensures text { (key : Option Key) (own : Address) (replies : List Reply) → IsSentOver (leaving key) own replies sent node.now.packet
+        → take result.wrote out.new ++ text_to_come (datagram_in node.now.packet) result.left ≡ text_sent key own replies }
 {
     match sent {
         None => Written::nothing(),

@@ -18,7 +18,7 @@ use file_tree::{FlashSite, LoadFault};
 use site_image::{SiteError, SiteWhy};
 use std::alloc::Global;
 use uip_edge::NoMemory;
-use uip_wire::Addr;
+use uip_wire::{Addr, Port, WEB_PORT};
 
 /// Why a device was not opened.
 #[derive(Clone, Copy, Debug, PartialEq, Eq)]
@@ -108,7 +108,7 @@ pub fn open_web(alloc: Global, image: &'static [u8], own: Addr) -> Result<WebDev
     let Ok(shared) = web_of(alloc, site) else {
         return Err(OpenFault::NoMemory);
     };
-    match Device::<ValuePages>::new(alloc, own, shared) {
+    match Device::<ValuePages>::new(alloc, own, Some(Port(WEB_PORT)), shared) {
         Ok(device) => Ok(device),
         Err(NoMemory) => Err(OpenFault::NoMemory),
     }

@@ -1,12 +1,13 @@
-use Rattle.frame_device.proofs.Prelude.{ℕ, ◌+◌, ◌-◌, ◌∷◌, ◌∙◌, [], ap, arith, refl, drop, take, Datagram}
+use Rattle.frame_device.proofs.Prelude.{ℕ, ◌+◌, ◌-◌, ◌∷◌, ◌∙◌, [], ap, arith, refl, drop, take, Datagram, guarded_link, leaving}
 use Rattle.frame_device.proofs.HereLaws.{brings_datagram, brings_own, brings_silent}
 use Rattle.frame_device.proofs.device.FrameDevice.input.Goals as goal
 
 pub returns-in-Nothing-clause-answers : goal.returns-in-Nothing-clause-answers
 returns-in-Nothing-clause-answers g c = record {
   kept = refl;
+  rules = refl;
   each = λ k m own s here.
-      brings_silent g.A.App (g.M.Frames.spec k) m own s (λ acts. g.M.Frames.did c.take.new.self k acts) c.args.self.now.node
+      brings_silent g.A.App (guarded_link (g.M.Frames.spec k) c.args.self.now.guard.rules) m own s (λ acts. g.M.Frames.did c.take.new.self k acts) c.args.self.now.node
       ((g.M.Frames.spec k).decodes (take c.args.len c.args.buf.now)) (rw c.in-Nothing.is at (c.take.ensures.reported k s.acts here.acted)) here.represented
       (c.take.ensures.did k s.acts here.acted);
 }
@@ -14,9 +15,10 @@ returns-in-Nothing-clause-answers g c = record {
 pub returns-in-Own-clause-answers : goal.returns-in-Own-clause-answers
 returns-in-Own-clause-answers g c = record {
   kept = refl;
+  rules = refl;
   each = λ k m own s here.
       let reported = rw c.in-Own.is at (c.take.ensures.reported k s.acts here.acted) in
-      brings_own g.A.App (g.M.Frames.spec k) m own s (λ acts. g.M.Frames.did c.take.new.self k acts) c.args.self.now.node
+      brings_own g.A.App (guarded_link (g.M.Frames.spec k) c.args.self.now.guard.rules) m own s (λ acts. g.M.Frames.did c.take.new.self k acts) c.args.self.now.node
       ((g.M.Frames.spec k).decodes (take c.args.len c.args.buf.now)) reported.0 _ reported.1 reported.2 here.represented (c.take.ensures.did k s.acts here.acted);
 }
 
@@ -26,11 +28,13 @@ returns-in-Datagram-clause-answers g c =
     let len = c.in-Datagram.len in
     let datagram = λ (n : ℕ). take n (drop at c.take.new.buf) in
     record {
-      kept = c.input-sent.ensures.same;
+      kept = c.guarded_input-sent.ensures.takes.same;
+      rules = c.guarded_input-sent.ensures.rules;
       each = λ k m own s here.
           let reported = rw c.in-Datagram.is at (c.take.ensures.reported k s.acts here.acted) in
-          brings_datagram g.A.App (g.M.Frames.spec k) m own s (λ acts. g.M.Frames.did c.take.new.self k acts) c.args.self.now.node c.input-sent.new.self c.input-sent.result
+          let w = guarded_link (g.M.Frames.spec k) c.args.self.now.guard.rules in
+          brings_datagram g.A.App w m own s (λ acts. g.M.Frames.did c.take.new.self k acts) c.args.self.now.node c.guarded_input-sent.new.node c.guarded_input-sent.result
           ((g.M.Frames.spec k).decodes (take c.args.len c.args.buf.now)) (datagram (at + len - at)) (take c.write_sent.result c.write_sent.new.out)
-          (reported ∙ ap (λ n. Datagram (datagram n) ∷ []) (omega arith)) c.input-sent.ensures.same c.input-sent.ensures.step
-          (λ acts reply did is. c.write_sent.ensures.text k acts own reply did is) here.represented (c.take.ensures.did k s.acts here.acted);
+          (reported ∙ ap (λ n. Datagram (datagram n) ∷ []) (omega arith)) c.guarded_input-sent.ensures.takes
+          (λ acts replies did is. c.write_sent.ensures.text k acts (leaving w.rules.key) own replies did is) here.represented (c.take.ensures.did k s.acts here.acted);
     }

@@ -1,4 +1,4 @@
-use Rattle.uip_device.proofs.Prelude.{map, take, Byte, datagram_in, events_after, left_text_of, text_to_come}
+use Rattle.uip_device.proofs.Prelude.{map, take, Byte, arrivals_after, datagram_in, left_text_of, text_to_come}
 use Rattle.uip_device.proofs.AnswerLaws.{none_left}
 use Rattle.uip_device.proofs.SendLaws.{on_line}
 use Rattle.uip_device.proofs.device.Device.feed.Goals as goal
@@ -11,7 +11,7 @@ returns-clause-answers g c =
     record {
       input = c.take-taken.ensures.fed;
       sends = λ before fed.
-          on_line g.A.App (λ own. events_after own 0 before (map Byte (take taken.count c.args.bytes.now))) old.node new (left_text_of old)
+          on_line g.A.App (arrivals_after 0 before (map Byte (take taken.count c.args.bytes.now))) old.guard c.take-taken.new.guard old.node new (left_text_of old)
           (take taken.written.wrote c.take-taken.new.out) (text_to_come (datagram_in new.packet) taken.written.left) (none_left old c.requires.none)
           (c.take-taken.ensures.sends before fed);
     }
