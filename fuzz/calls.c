@@ -92,6 +92,7 @@ static uip_result frame_in(tested *t, const byte *frame, size_t len, size_t room
     uip_result done = uip_input_frame(&t->handle, out, len, room);
     unsigned wanted = foretold(t, room < UIP_MAX_FRAME || len > room, ETHER);
     end(t, done, wanted, out, room, to, "uip_input_frame");
+    t->is_used |= wanted == UIP_OK;
     WANT(done.pending == 0 && done.consumed == (wanted == UIP_OK ? len : 0), "uip_input_frame took %zu of %zu bytes", done.consumed, len);
     return done;
 }
@@ -105,6 +106,7 @@ static uip_result frame_out(tested *t, unsigned slot, size_t room, text *to) {
     byte *out = begin_call(t, room);
     uip_result done = uip_periodic_frame(&t->handle, slot, out, room);
     end(t, done, foretold(t, slot >= UIP_SLOTS || room < UIP_MAX_FRAME, ETHER), out, room, to, "uip_periodic_frame");
+    t->is_used |= done.status == UIP_OK;
     WANT(done.pending == 0 && done.consumed == 0, "uip_periodic_frame left a text");
     return done;
 }
@@ -116,7 +118,7 @@ void refused_calls(tested *t) {
     static byte none[4096];
     text nowhere = {none, 0};
     int is_idle = t->is_open && !t->has_left && !t->is_ether;
-    switch (below(12)) {
+    switch (below(13)) {
     case 0: call_hear(t, none, 0, 2 + below(4000), &nowhere); break;
     case 1: call_hear(t, none, between(1, 100), below(2), &nowhere); break;
     case 2: call_slot(t, chance(50) ? UIP_SLOTS : (unsigned)random_next() | 0x10, is_idle ? 2 : below(4000), &nowhere); break;
@@ -126,6 +128,7 @@ void refused_calls(tested *t) {
     case 6: call_slot_datagram(t, chance(50) ? UIP_SLOTS : (unsigned)random_next() | 0x10, &nowhere); break;
     case 8: refused_words(t); break;
     case 9: frame_in(t, none, chance(50) ? below(100) : UIP_MAX_FRAME, frame_room(1), &nowhere); break;
+    case 12: late_protect(t); break;
     case 10: frame_in(t, none, 4001 + (size_t)random_next() % 1000000, frame_room(0), &nowhere); break;
     case 11: frame_out(t, chance(50) ? below(UIP_SLOTS) : UIP_SLOTS + below(9), frame_room(1), &nowhere); break;
     default:

@@ -19,6 +19,8 @@ static const site *open_site;
 static int is_last, is_given;    // whether the devices hear one event alone; whether a value was given to the first device alone
 static unsigned given_number;
 static value given;
+static secret used;               // that of the devices
+static unsigned periodic_calls;   // of each
 
 static size_t random_room(void) {
     unsigned kind = below(100);
@@ -93,13 +95,62 @@ static void take_sent(const byte *heard, size_t heard_len, const byte *datagram,
     heard_back(kept, len, 0);
 }
 
+static int is_page_port(unsigned port) { return port == 80; }
+
+static int is_segment(const byte *datagram, size_t len) { return !fault_of(counted.own, datagram, len) && datagram[9] == 6; }
+
+// What the guard sees as a datagram arrives: the rows of the device by datagrams, and the numbers that follow from what it sent.
+static guard_view guard_now(const byte *datagram, size_t len) {
+    guard_view g = {.secret = used, .has_pages = 1, .is_served = is_page_port};
+    memcpy(g.own, counted.own, 4);
+    if (!is_segment(datagram, len)) return g;    // it looks at no connection
+    for (unsigned slot = 0; slot < UIP_SLOTS; slot++) {
+        uip_row row = uip_connection(&by_datagrams.handle, slot);
+        held *c = g.slots + slot;
+        c->state = row.state, c->port = row.port, c->own_port = 80, c->count = row.count, c->tries = row.tries;
+        memcpy(c->peer, row.peer, 4);
+        if (row.state != UIP_CLOSED) numbers_are_known(c, (int)row.waiting);
+    }
+    return g;
+}
+
+// A reply to what no connection has: a SYN-ACK has the number of periodic calls, shifted; a RST the number that the segment named.
+static void reply_has_number(const guard_view *g, const byte *datagram, const byte *reply, size_t len) {
+    segment in, out;
+    if (!read_segment(reply, len, &out) || !read_segment(datagram, (size_t)datagram[2] << 8 | datagram[3], &in) || held_by(g, &in)) return;
+    unsigned first = periodic_calls + shift_of(&used, g->own, in.source, in.from, in.to);
+    unsigned wanted = out.flags & RST ? in.ack : first;
+    WANT(out.seq == wanted, "a reply to a stranger has the number %u, and %u was foretold", out.seq, wanted);
+}
+
+// What was dropped changes no row, and a connection that is given up makes room for the SYN.
+static void is_as_judged(const guard_view *g, judgement by_guard, const byte *datagram, size_t len, size_t sent_len) {
+    WANT(by_guard.what != DROPS || !sent_len, "a datagram was answered that the guard drops");
+    WANT(by_guard.what != GIVES_UP || sent_len == 44, "a SYN was not answered for which a connection is given up");
+    if (by_guard.what == PASSES || !is_segment(datagram, len)) return;
+    for (unsigned slot = 0; slot < UIP_SLOTS; slot++) {
+        uip_row row = uip_connection(&by_datagrams.handle, slot);
+        const held *c = g->slots + slot;
+        if (slot == by_guard.slot)
+            WANT(row.state == UIP_SYN_RCVD && !memcmp(row.peer, datagram + 12, 4), "slot %u was not given up", slot);
+        else
+            WANT(row.state == c->state && row.port == c->port && row.tries == c->tries, "the guard changed the row of slot %u", slot);
+    }
+}
+
 static void hear_one(const byte *datagram, size_t len) {
     static byte room[LARGEST];
     text sent = {room, 0};
-    model_hears(&counted, datagram, len);
+    guard_view g = guard_now(datagram, len);
+    judgement by_guard = judge(&g, datagram, len);
+    model_judged(&counted, by_guard);
+    if (by_guard.what != DROPS) model_hears(&counted, datagram, len);
+    counts.dropped += by_guard.what == DROPS, counts.gave_up += by_guard.what == GIVES_UP;
     call_datagram(&by_datagrams, datagram, len, &sent);
     counts.calls--, counts.others++;
+    is_as_judged(&g, by_guard, datagram, len, sent.len);
     frames_hear(datagram, len, room, sent.len);
+    if (sent.len) reply_has_number(&g, datagram, room, sent.len);
     take_sent(datagram, len, room, sent.len);
 }
 
@@ -206,6 +257,8 @@ void devices_hear(const byte *bytes, size_t len) {
 void devices_hear_datagram(const byte *datagram, size_t len) {
     static byte room[LARGEST];
     byte frame[2 * LARGEST + 2];
+    guard_view g = guard_now(datagram, len);
+    if (line_file && judge(&g, datagram, len).what != PASSES) return;    // uipd has no guard
     if (!how.is_mixed || has_open_frame() || chance(70)) {
         devices_hear(frame, write_frame(frame, datagram, len));
         return;
@@ -235,7 +288,7 @@ void devices_tick(unsigned slot) {
     if (has_open_frame() && !how.may_be_overlong) return;      // a lost frame would be counted in the pages of one device alone
     int was_idle = chance(5) && call_idle(&under_test);
     is_last = 1;
-    counted.ticks += slot == 0;
+    counted.ticks += slot == 0, periodic_calls++;
     call_slot_datagram(&by_datagrams, slot, &one);
     frames_tick(slot, sent_room, one.len);
     take_sent(0, 0, sent_room, one.len);
@@ -273,6 +326,16 @@ static void open_under_test(const site *s, const byte *own) {
     if (chance(30)) call_open_site(&under_test, damaged, below(100), own);
 }
 
+// All have one secret, or none.
+static void protect(void) {
+    used.is_set = !line_file && chance(70), periodic_calls = 0;
+    random_bytes(used.bytes, sizeof used.bytes);
+    if (!used.is_set) return;
+    call_protect(&under_test, used.bytes), call_protect(&whole, used.bytes), call_protect(&by_datagrams, used.bytes);
+    frames_protect(used.bytes);
+    if (chance(30)) late_protect(&under_test);
+}
+
 void devices_open(const site *s, const byte *own, const way *asked) {
     how = *asked;
     said.bytes = rooms[0], said_whole.bytes = rooms[1], said_by_datagrams.bytes = rooms[2];
@@ -287,6 +350,7 @@ void devices_open(const site *s, const byte *own, const way *asked) {
     call_open_site(&whole, s->image, s->len, own);
     call_open_site(&by_datagrams, s->image, s->len, own);
     frames_open(s, own);
+    protect();
 }
 
 void devices_close(void) {

@@ -129,6 +129,11 @@ void frames_open(const site *s, const byte *own) {
     if (chance(30)) call_open_site(&device, s->image, s->len, own);
 }
 
+void frames_protect(const byte *secret) {
+    call_protect(&device, secret);
+    counts.calls--, counts.others++;
+}
+
 void frames_close(void) {
     call_close_site(&device);
     for (unsigned k = below(3); k; k--) refused_calls(&device);

@@ -37,6 +37,7 @@ void frames_hear(const byte *datagram, size_t len, const byte *reply, size_t rep
 void frames_tick(unsigned slot, const byte *datagram, size_t len);
 void frames_give(unsigned number, const value *given);
 void frames_read(tested *other, const byte *name, size_t len);
+void frames_protect(const byte *secret);
 void frames_close(void);
 
 #endif

@@ -43,6 +43,12 @@ void model_hears(model *m, const byte *datagram, size_t len) {
     if (fault) m->numbers[fault]++;
 }
 
+void model_judged(model *m, judgement by_guard) {
+    m->guard[UIP_GUARD_DROPPED] += by_guard.what == DROPS;
+    if (by_guard.what != GIVES_UP) return;
+    m->guard[UIP_GUARD_GAVE_UP]++, m->numbers[UIP_DATAGRAMS_IN]++, m->numbers[UIP_TCP_IN]++;
+}
+
 void model_sends(model *m, const byte *datagram, size_t len) {
     segment s;
     m->numbers[UIP_DATAGRAMS_OUT]++;

@@ -59,20 +59,24 @@ unsigned hits_foretold(const byte *name, size_t len);
 unsigned least_hits(const byte *name, size_t len);                         // before what is being heard
 query query_foretold(const byte *name, size_t len);
 void row_is_foretold(unsigned slot, const uip_row *row);
+void numbers_are_known(held *c, int waits);                                // of a connection at port 80, from what was sent to its peer
 
 // model.c: what a node counts of datagrams that come and go.
 /* [add: counter] the length of the array */
-typedef struct { unsigned numbers[21], ticks; byte own[4]; } model;
+typedef struct { unsigned numbers[21], guard[3], ticks; byte own[4]; } model;    // `guard` by enum uip_guard_counter_id
 extern model counted;                                                      // of the devices in step, or of the first of two
 void model_hears(model *m, const byte *datagram, size_t len);
 void model_sends(model *m, const byte *datagram, size_t len);
+void model_judged(model *m, judgement by_guard);                           // before it hears: what the guard counts, and a RST for the node
 
 // reads.c: the calls that send nothing, of a handle of uip.h, each as it is foretold. The image stays while the device is open.
-typedef struct { uip_device handle; int is_open, has_left, is_ether; byte mac[6], mask[4], router[4]; area image; } tested;
+typedef struct { uip_device handle; int is_open, has_left, is_ether, has_secret, is_used; byte mac[6], mask[4], router[4]; area image; } tested;
 typedef struct { byte *bytes; size_t len; } text;
 void reads_begin(void);
 unsigned call_open_site(tested *t, const byte *image, size_t len, const byte *own);      // the status, as it was foretold
 void call_close_site(tested *t);
+void call_protect(tested *t, const byte *bytes);
+void late_protect(tested *t);                                              // refused
 void reads(tested *t, const model *least, const model *most);
 unsigned numbers_of(tested *t, unsigned number);
 void call_value(tested *t, unsigned long number, const byte *bytes, size_t len);

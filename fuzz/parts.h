@@ -21,7 +21,7 @@ _Noreturn void fail(const char *format, ...) __attribute__((format(printf, 1, 2)
 #define WANT(is_so, ...) do { if (!(is_so)) fail(__VA_ARGS__); } while (0)
 extern struct counts {
     unsigned long calls, others, refused, opens, bad_images, refusals, sessions, pages, whole, datagrams, pings;
-    unsigned long given, shown, changed, hits, rows, queries, framed, routed, taught;
+    unsigned long given, shown, changed, hits, rows, queries, framed, routed, taught, dropped, gave_up;
 } counts;
 void report_begin(unsigned long seed, int is_mixed);
 void report_end(void);
@@ -83,5 +83,15 @@ void mac_of(byte *to, const byte *address);
 
 // model.c: the counter of the check that a datagram fails at an address, or 0.
 unsigned fault_of(const byte *own, const byte *datagram, size_t len);
+
+// guard.c: the guard of a node. What it sees of a connection, in the numbers of the wire: RCV.NXT, SND.UNA and how many numbers after it are
+// outstanding, and the count and the tries of its row.
+typedef struct { int is_set; byte bytes[16]; } secret;
+typedef struct { unsigned state, port, own_port, rcv, una, out, count, tries; byte peer[4]; } held;
+typedef struct { secret secret; byte own[4]; int has_pages; int (*is_served)(unsigned port); held slots[UIP_SLOTS]; } guard_view;
+typedef struct { enum { PASSES, DROPS, GIVES_UP } what; unsigned slot; } judgement;
+judgement judge(const guard_view *g, const byte *datagram, size_t len);
+const held *held_by(const guard_view *g, const segment *s);                 // the connection of a segment, or 0
+unsigned shift_of(const secret *k, const byte *own, const byte *peer, unsigned port, unsigned own_port);
 
 #endif

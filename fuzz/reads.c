@@ -8,7 +8,7 @@
 
 enum { MOST_ROOM = 1 << 20, LOOKED_AT = 256 };
 
-static area image_in, words_in, own_in, mac_in, mask_in, router_in, outputs;
+static area image_in, words_in, own_in, mac_in, mask_in, router_in, secret_in, outputs;
 static byte before[2 * LOOKED_AT];
 static size_t heap_before;
 static uip_device handle_before;
@@ -16,7 +16,7 @@ static uip_device handle_before;
 void reads_begin(void) {
     image_in = area_new(1 << 20, 1);
     words_in = area_new(1 << 16, 1);
-    own_in = area_new(4, 1), mac_in = area_new(6, 1), mask_in = area_new(4, 1), router_in = area_new(4, 1);
+    own_in = area_new(4, 1), mac_in = area_new(6, 1), mask_in = area_new(4, 1), router_in = area_new(4, 1), secret_in = area_new(16, 1);
     outputs = area_new(MOST_ROOM, 0);
 }
 
@@ -92,7 +92,7 @@ unsigned call_open_site(tested *t, const byte *image, size_t len, const byte *ow
              opened.word, opened.entry, word, entry);
     }
     if (wanted == UIP_OK) {
-        t->is_open = 1, t->has_left = 0;
+        t->is_open = 1, t->has_left = t->has_secret = t->is_used = 0;
         return wanted;
     }
     WANT(heap_blocks == blocks, "uip_open took memory and opened no device");
@@ -118,6 +118,27 @@ static void told(const tested *t, unsigned status, int is_bad, const char *what)
     WANT(status == wanted, "%s answers %u, and %u was foretold", what, status, wanted);
     WANT(heap_calls == heap_before, "%s called the heap", what);
     WANT(!memcmp(&t->handle, &handle_before, sizeof t->handle), "%s wrote to the handle", what);
+}
+
+// It comes too late if there is a secret, or if the device has received a datagram or counted a tick; on Ethernet, a frame or a call of a slot.
+static int is_late(tested *t) {
+    if (t->has_secret || !t->is_open) return t->is_open;
+    return t->is_ether ? t->is_used : uip_ticks(&t->handle).number || uip_counter(&t->handle, UIP_DATAGRAMS_IN).number;
+}
+
+void call_protect(tested *t, const byte *bytes) {
+    int is_bad = is_late(t);
+    (void)begin_call(t, 0);
+    unsigned status = uip_protect(&t->handle, put_input(&secret_in, bytes, 16)), wanted = t->is_open ? UIP_OK : UIP_NO_DEVICE;
+    if (is_bad) wanted = UIP_BAD_ARGUMENT;
+    told(t, status, is_bad, "uip_protect");
+    t->has_secret |= wanted == UIP_OK;
+}
+
+void late_protect(tested *t) {
+    byte bytes[16];
+    random_bytes(bytes, 16);
+    if (!t->is_open || is_late(t)) call_protect(t, bytes);
 }
 
 void call_value(tested *t, unsigned long number, const byte *bytes, size_t len) {
@@ -202,9 +223,25 @@ unsigned numbers_of(tested *t, unsigned number) {
     return read.number;
 }
 
+#ifndef BOTH
+static void reads_guard(tested *t, const model *least, const model *most) {
+    size_t number = chance(90) ? between(1, 2) : chance(50) ? 0 : 3 + random_next();
+    int is_bad = number == 0 || number > 2;
+    (void)begin_call(t, 0);
+    uip_number read = uip_guard_counter(&t->handle, number);
+    told(t, read.status, is_bad, "uip_guard_counter");
+    if (read.status != UIP_OK) { WANT(read.number == 0, "uip_guard_counter was refused and tells %u", read.number); return; }
+    unsigned low = least->guard[number], high = most->guard[number];
+    WANT(read.number - low <= high - low, "the guard counts %u, and %u to %u was foretold", read.number, low, high);
+}
+#endif
+
 // Reads the ticks or a counter, which lies between what the model counted before and after what is being heard. 19 and 20 it does not
 // count.
 void reads(tested *t, const model *least, const model *most) {
+#ifndef BOTH    // the library of uip_both.h has no such call
+    if (chance(20)) { reads_guard(t, least, most); return; }
+#endif
     unsigned number = below(19), told = numbers_of(t, number);
     unsigned low = number ? least->numbers[number] : least->ticks, high = number ? most->numbers[number] : most->ticks;
     if (t->is_open) WANT(told - low <= high - low, "counter %u is %u, and %u to %u was foretold", number, told, low, high);

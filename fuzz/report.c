@@ -50,4 +50,5 @@ void report_end(void) {
            counts.given, counts.shown, counts.changed, counts.hits, counts.queries, counts.rows);
     printf("%lu datagrams sent in frames, %lu of them by the router; %lu addresses taught by ARP\n", counts.framed, counts.routed,
            counts.taught);
+    printf("%lu datagrams dropped by the guard, %lu connections given up\n", counts.dropped, counts.gave_up);
 }

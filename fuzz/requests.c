@@ -6,10 +6,10 @@
 enum { MOST_PEERS = 4096, HTTP = 80 };
 
 // A peer since its last SYN-ACK. `next` is the number that the node expects, `sent` the one of the last SYN, text or FIN that it sent,
-// and `again` how often a tick sent that once more.
+// `sent_len` how many numbers that takes, and `again` how often a tick sent it once more.
 typedef struct {
     byte address[4];
-    unsigned port, next, sent, again;
+    unsigned port, next, sent, sent_len, again;
     int has_sent, has_text, has_fin, has_received;    // `has_received`: text, in an earlier piece
     request request;
 } peer;
@@ -118,8 +118,14 @@ void requests_see(const byte *heard, size_t heard_len, const byte *sent, size_t 
     p->next = out.ack;
     if (!out.len && !(out.flags & (SYN | FIN))) return;
     p->again = p->has_sent && p->sent == out.seq ? p->again + 1 : 0;
-    p->has_sent = 1, p->sent = out.seq;
+    p->has_sent = 1, p->sent = out.seq, p->sent_len = (unsigned)out.len + !!(out.flags & (SYN | FIN));
     p->has_text |= out.len > 0, p->has_fin |= (out.flags & FIN) != 0;
+}
+
+void numbers_are_known(held *c, int waits) {
+    const peer *p = peer_at(c->peer, c->port);
+    WANT(p, "a connection has a peer that was never answered");
+    c->rcv = p->next, c->una = waits ? p->sent : p->sent + p->sent_len, c->out = waits ? p->sent_len : 0;
 }
 
 // A row by what was sent to its peer: text and FIN come behind SYN-RCVD, a FIN stands at the states that have sent one, and those that

@@ -29,7 +29,7 @@ words="-std=gnu11 -g -Wall -Wextra -I$top/include"
 build() { built=$1; shift; "$cc" $words "$@" "$library" -o "$out/$built" || fail "no $built was built"; }
 # The sources of the harness for uip_app.h.
 app="$here/app/*.c"
-shared="random report areas heap wire link arp model"
+shared="random report areas heap wire link arp model guard"
 for part in $shared; do app="$app $here/$part.c"; done
 # And for uip_both.h: those with the pages, and the clients that request them.
 both="-DBOTH $here/both/pages.c"
@@ -66,8 +66,8 @@ asan)
     exec "$out/fuzz_asan" 1000000 "${2:-1000000}" "${3:-1}" $4;;
 planted)
     calls="open open_ether feed periodic drain input periodic_datagram input_frame_area periodic_frame counter"
-    calls="$calls set_value hits query is_idle connection close"
-    planted 44 "$here/*.c" planted.c "$(printf 'uip_%s ' $calls)" 3000000 1 mixed;;
+    calls="$calls set_value hits query is_idle connection close protect guard_counter"
+    planted 49 "$here/*.c" planted.c "$(printf 'uip_%s ' $calls)" 3000000 1 mixed;;
 app)
     # shellcheck disable=SC2086
     build fuzz_app -O2 $app
@@ -77,8 +77,8 @@ app-asan)
     build fuzz_app_asan -O1 -fsanitize=address,undefined -fno-sanitize-recover=all $app
     exec "$out/fuzz_app_asan" 1000000 "${2:-1000000}" "${3:-1}";;
 app-planted)
-    calls="open listen input_frame_area periodic_frame read write close"
-    planted 67 "$app" app.c "node_writes node_listens $(printf 'uip_app_%s ' $calls)" 3000000 1;;
+    calls="open protect listen input_frame_area periodic_frame read write close"
+    planted 70 "$app" app.c "node_writes node_listens $(printf 'uip_app_%s ' $calls)" 3000000 1;;
 both)
     # shellcheck disable=SC2086
     build fuzz_both -O2 $both
@@ -88,8 +88,8 @@ both-asan)
     build fuzz_both_asan -O1 -fsanitize=address,undefined -fno-sanitize-recover=all $both
     exec "$out/fuzz_both_asan" 1000000 "${2:-1000000}" "${3:-1}";;
 both-planted)
-    calls="open_ether listen input_frame_area periodic_frame read write close set_value hits query is_idle connection ticks counter"
-    planted 99 "$both" both.c "node_writes node_listens node_receives $(printf 'uip_%s ' $calls)" 3000000 1;;
+    calls="open_ether protect listen input_frame_area periodic_frame read write close set_value hits query is_idle connection ticks counter"
+    planted 102 "$both" both.c "node_writes node_listens node_receives $(printf 'uip_%s ' $calls)" 3000000 1;;
 esac
 
 seconds=${1:-60}

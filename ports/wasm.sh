@@ -1,7 +1,7 @@
 # shellcheck shell=sh disable=SC2154,SC2086
 # The target wasm, for run.sh: node.wasm, a node for a page or for node. It exports the calls of uip.h, except those for Ethernet, which no
 # page makes, and what wasm.c lists.
-UIP_CALLS="open feed periodic drain input periodic_datagram ticks counter is_idle connection set_value hits query close"
+UIP_CALLS="open protect feed periodic drain input periodic_datagram ticks counter guard_counter is_idle connection set_value hits query close"
 
 wasm_link() { wasm-ld --no-entry --gc-sections --strip-all -O2 --stack-first "$@" || fail "wasm-ld failed"; }
 

@@ -42,6 +42,8 @@ export class Device {
   work: () => void;
   /** Opens the device with the image of a site (docs/FORMATS.md) and its address; 10.0.0.1 if none is given. */
   open(image: Uint8Array, own?: ArrayLike<number>): void;
+  /** Gives the device a secret of 16 random bytes, so that no host can predict its sequence numbers: once, before the first `feed` or `tick`. */
+  protect(secret?: Uint8Array): void;
   /** Feeds received serial bytes, cut in any way. */
   feed(bytes: Uint8Array, send: Send): void;
   /** Makes a tick, which is due each half second. */
@@ -53,6 +55,8 @@ export class Device {
   query(name: string): Query;
   /** The counter of an `enum uip_counter_id`, 1 to 20. */
   counter(number: number): number;
+  /** The counter of an `enum uip_guard_counter_id`: 1 for datagrams that the guard dropped, 2 for connections that it gave up. */
+  guardCounter(number: number): number;
   /** The connection of a slot, 0 to 9. */
   connection(slot: number): Connection;
   readonly connections: Connection[];

@@ -42,6 +42,14 @@ export class Device {
     throw new Refused(this.#word(0), why && `bad image: ${FAULTS[why] ?? "it is refused"} (${why} ${this.#word(1)})`);
   }
 
+  // Gives the device a secret of 16 random bytes, so that no host can predict its sequence numbers: once, before anything is received.
+  protect(secret = crypto.getRandomValues(new Uint8Array(16))) {
+    if (secret.length !== 16) throw new Refused(2, "a secret has 16 bytes");
+    this.#bytes().set(secret, this.#at.in);
+    const status = this.#calls.uip_protect(this.#at.device, this.#at.in);
+    if (status !== 0) throw new Refused(status);
+  }
+
   // Feeds received serial bytes. Passes each text that the device sends to `send`.
   feed(bytes, send) {
     for (let from = 0; from < bytes.length; from += MAX_IN) {
@@ -83,6 +91,7 @@ export class Device {
   get isIdle() { return this.#number("uip_is_idle") === 1; }
   get memory() { return this.#bytes().length; }
   counter(number) { return this.#number("uip_counter", number); }
+  guardCounter(number) { return this.#number("uip_guard_counter", number); }
 
   connection(slot) {
     const { result, device } = this.#at;

@@ -14,6 +14,7 @@
 #include <stdlib.h>
 #include <string.h>
 #include <sys/ioctl.h>
+#include <sys/random.h>
 #include <time.h>
 #include <unistd.h>
 #include "uip_app.h"
@@ -157,9 +158,11 @@ static void receive_until(double time) {
 
 int main(int argc, char **argv) {
     static const unsigned char own[4] = {10, 0, 0, 1}, mac[6] = {2, 0, 0, 0, 0, 1}, mask[4] = {255, 255, 255, 0}, router[4] = {10, 0, 0, 2};
+    unsigned char secret[16];
     if (argc != 3 && argc != 5) fail("uip_app INTERFACE SECONDS [PERCENT SEED]");
     if (argc == 5) percent = (unsigned)atoi(argv[3]), generator = (unsigned)atoi(argv[4]);
     if (uip_app_open(&device, own, mac, mask, router) != UIP_OK) fail("uip_app_open");
+    if (getrandom(secret, sizeof secret, 0) != sizeof secret || uip_app_protect(&device, secret) != UIP_OK) fail("uip_app_protect");
     if (uip_app_listen(&device, CONSOLE_PORT) != UIP_OK || uip_app_listen(&device, MODBUS_PORT) != UIP_OK) fail("uip_app_listen");
     size_t blocks = heap_blocks;
     signal(SIGTERM, stop);

@@ -21,7 +21,7 @@ extern size_t heap_blocks;    // of the heap: how many blocks are not freed
 #define REPLY "E\0\0\x1e\0\0\0\0\x40\1\x66\xdd\x0a\0\0\1\x0a\0\0\2\0\0\x3f\x1c\0\7\0\1"
 static const unsigned char request[] = REQUEST "\xc0\xdb", reply[] = REPLY "\xc0\xdb";
 static const unsigned char request_text[] = "\xc0" REQUEST "\xdb\xdc\xdb\xdd\xc0", reply_text[] = "\xc0" REPLY "\xdb\xdc\xdb\xdd\xc0";
-static const unsigned char image[] = "UIPSITE1\0", own[4] = {10, 0, 0, 1};
+static const unsigned char image[] = "UIPSITE1\0", own[4] = {10, 0, 0, 1}, secret[16] = {7, 1, 250, 33, 98, 4, 71, 180};
 // Frames between 02:00:00:00:00:02, which has 10.0.0.2, and 02:00:00:00:00:01, which has 10.0.0.1 (RFC 894, RFC 826): an ARP request and
 // its reply, the echo request and its reply, and the ARP request for 10.0.0.2.
 #define PEER "\2\0\0\0\0\2"
@@ -83,6 +83,8 @@ static void without_a_device(void) {
     expect(uip_counter(&device, UIP_DATAGRAMS_IN).status == UIP_NO_DEVICE, "uip_counter without a device");
     expect(uip_hits(&device, "/", 1).status == UIP_NO_DEVICE, "uip_hits without a device");
     expect(uip_query(&device, "/", 1, out, sizeof out).status == UIP_NO_DEVICE, "uip_query without a device");
+    expect(uip_protect(&device, secret) == UIP_NO_DEVICE, "uip_protect without a device");
+    expect(uip_guard_counter(&device, UIP_GUARD_DROPPED).status == UIP_NO_DEVICE, "uip_guard_counter without a device");
     expect(uip_is_idle(&device).status == UIP_NO_DEVICE, "uip_is_idle without a device");
     expect(uip_connection(&device, 0).status == UIP_NO_DEVICE, "uip_connection without a device");
     expect(uip_set_value(&device, 0, "7", 1) == UIP_NO_DEVICE, "uip_set_value without a device");
@@ -99,6 +101,8 @@ static void opening(void) {
     size_t blocks = heap_blocks;
     expect(uip_open(&device, image, 10, own).status == UIP_HAS_DEVICE, "uip_open twice");
     expect(uip_open_ether(&device, image, 10, own, mac, mask, router).status == UIP_HAS_DEVICE, "uip_open_ether after uip_open");
+    expect(uip_protect(&device, secret) == UIP_OK, "uip_protect");
+    expect(uip_protect(&device, secret) == UIP_BAD_ARGUMENT, "uip_protect twice");
     expect(blocks > 0 && heap_blocks == blocks, "the heap while a device is open");
 }
 
@@ -111,6 +115,8 @@ static void bad_calls(void) {
     expect(is(uip_input_frame(&device, out, 60, sizeof out), UIP_WRONG_LINK, 0, 0), "uip_input_frame on a line");
     expect(is(uip_periodic_frame(&device, 0, out, sizeof out), UIP_WRONG_LINK, 0, 0), "uip_periodic_frame on a line");
     expect(uip_counter(&device, 0).status == UIP_BAD_ARGUMENT && uip_counter(&device, 21).status == UIP_BAD_ARGUMENT, "uip_counter of none");
+    expect(uip_guard_counter(&device, 0).status == UIP_BAD_ARGUMENT && uip_guard_counter(&device, 3).status == UIP_BAD_ARGUMENT,
+           "uip_guard_counter of none");
     expect(uip_connection(&device, UIP_SLOTS).status == UIP_BAD_ARGUMENT, "uip_connection of slot 10");
     expect(uip_query(&device, "/", 1, out, UIP_MAX_QUERY - 1).status == UIP_BAD_ARGUMENT, "uip_query with too little room");
     expect(uip_set_value(&device, UIP_VALUES, "7", 1) == UIP_BAD_ARGUMENT, "uip_set_value of no number");
@@ -140,6 +146,8 @@ static void successful_calls(void) {
     uip_number ticks = uip_ticks(&device), replies = uip_counter(&device, UIP_ECHO_REPLIES_OUT);
     expect(ticks.status == UIP_OK && ticks.number == 3, "uip_ticks");
     expect(replies.status == UIP_OK && replies.number == 3, "uip_counter");
+    uip_number dropped = uip_guard_counter(&device, UIP_GUARD_DROPPED), gave_up = uip_guard_counter(&device, UIP_GUARD_GAVE_UP);
+    expect(dropped.status == UIP_OK && dropped.number == 0 && gave_up.status == UIP_OK && gave_up.number == 0, "uip_guard_counter");
     uip_number idle = uip_is_idle(&device);
     expect(idle.status == UIP_OK && idle.number == 1, "uip_is_idle");
     uip_row row = uip_connection(&device, UIP_SLOTS - 1);
@@ -172,6 +180,7 @@ static void opening_on_ethernet(void) {
     expect(opened.status == UIP_OK && opened.entry == 0 && device.is_open == 2, "uip_open_ether");
     expect(uip_open_ether(&device, image, 10, own, mac, mask, router).status == UIP_HAS_DEVICE, "uip_open_ether twice");
     expect(uip_open(&device, image, 10, own).status == UIP_HAS_DEVICE, "uip_open after uip_open_ether");
+    expect(uip_protect(&device, secret) == UIP_OK, "uip_protect on Ethernet");
 }
 
 static void bad_calls_on_ethernet(void) {
@@ -219,6 +228,8 @@ static void successful_calls_on_ethernet(void) {
     expect(ticks.status == UIP_OK && ticks.number == before + 1, "uip_ticks on Ethernet");
     expect(replies.status == UIP_OK && replies.number == 4, "uip_counter on Ethernet");
     expect(idle.status == UIP_OK && idle.number == 1, "uip_is_idle on Ethernet");
+    expect(uip_protect(&device, secret) == UIP_BAD_ARGUMENT, "uip_protect too late");
+    expect(uip_guard_counter(&device, UIP_GUARD_DROPPED).status == UIP_OK, "uip_guard_counter on Ethernet");
     uip_row row = uip_connection(&device, 0);
     expect(row.status == UIP_OK && row.state == UIP_CLOSED, "uip_connection on Ethernet");
     uip_number hits = uip_hits(&device, "/lamp-on.html", 13);

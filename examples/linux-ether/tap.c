@@ -11,6 +11,7 @@
 #include <stdlib.h>
 #include <string.h>
 #include <sys/ioctl.h>
+#include <sys/random.h>
 #include <time.h>
 #include <unistd.h>
 #include "uip.h"
@@ -79,6 +80,7 @@ static void receive_until(double time) {
 
 int main(int argc, char **argv) {
     static const unsigned char own[4] = {10, 0, 0, 1}, mac[6] = {2, 0, 0, 0, 0, 1}, mask[4] = {255, 255, 255, 0}, router[4] = {10, 0, 0, 2};
+    unsigned char secret[16];
     FILE *file = argc == 4 ? fopen(argv[1], "rb") : 0;
     if (!file) fail("uip_tap IMAGE INTERFACE SECONDS");
     size_t len = fread(image, 1, sizeof image, file);
@@ -87,6 +89,8 @@ int main(int argc, char **argv) {
         fprintf(stderr, "uip_open_ether returned status %u %s %u\n", opened.status, opened.word, opened.entry);
         return 1;
     }
+    if (getrandom(secret, sizeof secret, 0) != sizeof secret) fail("getrandom");
+    expect_ok(uip_protect(&device, secret));
     size_t blocks = heap_blocks;
     signal(SIGTERM, stop);
     tap = open_tap(argv[2]);

@@ -3,6 +3,8 @@
 
 int serves_pages(void) { return 0; }
 
+void pages_judged(const node *n, judgement by_guard) { (void)n, (void)by_guard; }
+
 void pages_count(const node *n) { (void)n; }
 
 void page_opens(connection *c) { (void)c; }

@@ -40,9 +40,12 @@ typedef struct {
     byte datagram[LARGEST];
     size_t datagram_len, arrived_len;
     const byte *arrived;
+    secret secret;
+    int is_used;    // a frame was received, or a slot was called: a secret would come too late
 } node;
 // Those with `sent` write the frame that is sent and return its length, or 0.
 int node_listens(node *n, unsigned port);    // 1 if the port is open then
+int node_protects(node *n, const byte *bytes);    // 0 if it comes too late
 size_t node_receives(node *n, const byte *frame, size_t len, byte *sent);
 size_t node_ticks(node *n, unsigned slot, byte *sent);
 int node_can_write(const node *n, unsigned slot, size_t taken);
@@ -57,6 +60,7 @@ void calls_begin(void);
 void call_open(device *d, const byte *own, const byte *mac, const byte *mask, const byte *router);
 void call_close(device *d);
 int call_listen(device *d, unsigned port);    // 1 if the port was opened, or was open
+void call_secret(device *d);
 void call_frame(device *d, const byte *frame, size_t len, size_t room, sent_frame *sent);
 void call_tick(device *d, size_t slot, size_t room, sent_frame *sent);
 uip_received call_read(device *d, size_t slot, size_t room, byte *bytes);
@@ -90,7 +94,8 @@ void peer_was_written(client *c, size_t taken, const byte *text, size_t len, uns
 // The pages at port 80 and their clients: ../both/pages.c, or alone.c, which has none. Of the first device alone.
 enum { WEB_PORT = 80 };
 int serves_pages(void);
-void pages_count(const node *n);                             // what arrived, before anything else
+void pages_judged(const node *n, judgement by_guard);        // what the guard did with what arrived
+void pages_count(const node *n);                             // what passed it, before anything else
 void page_opens(connection *c);                              // the connection is established
 void page_receives(connection *c, const byte *bytes, size_t len);
 void page_is_asked(connection *c);                           // fixes of its page what is due now

@@ -5,7 +5,7 @@
 
 enum { MOST_ROOM = 8192, GUARD = 64 };
 
-static area own_in, mac_in, mask_in, router_in, text_in, outputs;
+static area own_in, mac_in, mask_in, router_in, secret_in, text_in, outputs;
 static byte before[MOST_ROOM], *out;
 static size_t heap_before, out_room;
 static node_handle handle_before;
@@ -13,7 +13,7 @@ static byte guard;
 
 void calls_begin(void) {
     own_in = area_new(4, 1), mac_in = area_new(6, 1), mask_in = area_new(4, 1), router_in = area_new(4, 1);
-    text_in = area_new(1 << 16, 1);
+    secret_in = area_new(16, 1), text_in = area_new(1 << 16, 1);
     outputs = area_new(MOST_ROOM + GUARD, 0);
 #ifdef BOTH
     reads_begin();
@@ -120,6 +120,15 @@ int call_listen(device *d, unsigned port) {
     return end(d, status, wanted, NAMED(listen));
 }
 
+void call_secret(device *d) {
+    byte bytes[16];
+    random_bytes(bytes, sizeof bytes);
+    begin(d, 0, &guard, 0);
+    unsigned status = CALL(protect)(&d->on.handle, put_input(&secret_in, bytes, sizeof bytes)), wanted = foretold(d, 0);
+    if (wanted == UIP_OK && !node_protects(&d->node, bytes)) wanted = UIP_BAD_ARGUMENT;
+    end(d, status, wanted, NAMED(protect));
+}
+
 void call_frame(device *d, const byte *frame, size_t len, size_t room, sent_frame *sent) {
     begin(d, room, frame, len);
     uip_result done = CALL(input_frame)(&d->on.handle, out, len, room);
@@ -182,6 +191,7 @@ void wrong_call(device *d) {
     size_t too_long = chance(70) ? UIP_MAX_MESSAGE + 1 : between(UIP_MAX_MESSAGE + 1, sizeof bytes);
     random_bytes(bytes, 300);
     if (serves_pages() && chance(30)) { pages_refuse(d); return; }
+    if (chance(10) && (!d->on.is_open || d->node.is_used || d->node.secret.is_set)) { call_secret(d); return; }
     switch (below(11)) {
     case 0: call_frame(d, bytes, below((unsigned)small + 1), small, &sent); break;
     case 1: call_frame(d, bytes, room + 1 + below(5000), room, &sent); break;

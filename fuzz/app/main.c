@@ -53,6 +53,7 @@ static void show(unsigned long seed) {
            app_counts.opened, app_counts.reads, app_counts.written, app_counts.taken, app_counts.compared);
     printf("%lu segments sent again by ticks, %lu connections with too many bytes, %lu resets, %lu plain closes, %lu silences\n",
            app_counts.again, app_counts.overruns, app_counts.resets, app_counts.ends, app_counts.silences);
+    printf("%lu datagrams dropped by the guard, %lu connections given up\n", counts.dropped, counts.gave_up);
     pages_show();
 }
 

@@ -12,9 +12,15 @@ static unsigned get2(const byte *from) { return (unsigned)from[0] << 8 | from[1]
 
 // ---- what is sent
 
-// The datagram of a segment; the node counts its TCP datagrams in the identification.
+static unsigned shift_to(const node *n, const byte *peer, unsigned port, unsigned own_port) {
+    return shift_of(&n->secret, n->host.own, peer, port, own_port);
+}
+
+// The datagram of a segment, with its number as it goes to the wire; the node counts its TCP datagrams in the identification.
 static size_t datagram(node *n, const segment *s, byte *to) {
-    size_t len = write_segment(to, s);
+    segment shifted = *s;
+    shifted.seq += shift_to(n, s->target, s->to, s->from);
+    size_t len = write_segment(to, &shifted);
     n->ident++;
     to[4] = (byte)(n->ident >> 8), to[5] = (byte)n->ident;
     repair_sums(to, len);
@@ -207,12 +213,13 @@ static unsigned mss_in(const byte *options, size_t len) {
     return 0;
 }
 
-static void read_heard(const byte *d, heard *h) {
+static void read_heard(const node *n, const byte *d, heard *h) {
     size_t total = get2(d + 2), head = (size_t)(d[32] >> 4) * 4;
     WANT(read_segment(d, total, &h->s), "the harness does not read a sound segment");
     memcpy(h->text, h->s.text, h->s.len);
     h->s.mss = mss_in(d + 40, head - 20);
     h->s.flags &= 63;
+    h->s.ack -= shift_to(n, h->s.source, h->s.from, h->s.to);
 }
 
 static size_t echo(const byte *d, byte *to) {
@@ -229,7 +236,7 @@ static size_t on_datagram(node *n, const byte *d, size_t len, byte *to) {
     static heard h;
     if (fault_of(n->host.own, d, len)) return 0;
     if (d[9] == 1) return echo(d, to);
-    read_heard(d, &h);
+    read_heard(n, d, &h);
     return on_segment(n, &h, to);
 }
 
@@ -254,8 +261,36 @@ static int is_for_closed_port(const node *n, const byte *frame, size_t len) {
     return len >= 38 && frame[14] == 0x45 && frame[23] == 6 && !is_open(n, get2(frame + 36));
 }
 
+static int is_any(unsigned port) { return port != 0; }    // no segment to a port that is not open comes so far
+
+// What the guard does with what arrived (../guard.c): 0 if it is dropped. A connection that is given up gets a RST of no peer.
+static int passes_guard(node *n) {
+    guard_view g = {.secret = n->secret, .has_pages = serves_pages(), .is_served = is_any};
+    memcpy(g.own, n->host.own, 4);
+    for (unsigned k = 0; k < UIP_SLOTS; k++) {
+        const connection *c = n->slots + k;
+        uip_row row = node_row(n, k);
+        held *h = g.slots + k;
+        h->state = c->state, h->port = c->port, h->own_port = c->own_port, h->count = row.count, h->tries = row.tries, h->rcv = c->rcv;
+        h->una = c->una + shift_to(n, c->peer, c->port, c->own_port), h->out = c->len;
+        memcpy(h->peer, c->peer, 4);
+    }
+    judgement by_guard = judge(&g, n->arrived, n->arrived_len);
+    counts.dropped += by_guard.what == DROPS, counts.gave_up += by_guard.what == GIVES_UP;
+    if (by_guard.what == GIVES_UP) closed(n->slots + by_guard.slot, NOTHING);
+    pages_judged(n, by_guard);
+    return by_guard.what != DROPS;
+}
+
+int node_protects(node *n, const byte *bytes) {
+    if (n->is_used || n->secret.is_set) return 0;
+    n->secret.is_set = 1;
+    memcpy(n->secret.bytes, bytes, sizeof n->secret.bytes);
+    return 1;
+}
+
 size_t node_receives(node *n, const byte *frame, size_t len, byte *sent) {
-    n->datagram_len = 0, n->arrived = 0;
+    n->datagram_len = 0, n->arrived = 0, n->is_used = 1;
     if (len <= ETHER_HEAD || len > LONGEST_FRAME) return 0;
     if (memcmp(frame, n->host.mac, 6) && memcmp(frame, everyone, 6)) return 0;
     unsigned type = get2(frame + 12);
@@ -263,6 +298,7 @@ size_t node_receives(node *n, const byte *frame, size_t len, byte *sent) {
     if (type != 0x800) return 0;
     if (is_for_closed_port(n, frame, len)) { app_counts.dropped++; return 0; }
     n->arrived = frame + ETHER_HEAD, n->arrived_len = len - ETHER_HEAD;
+    if (!passes_guard(n)) return 0;
     pages_count(n);
     return sends(n, on_datagram(n, n->arrived, n->arrived_len, n->datagram), sent);
 }
@@ -296,7 +332,7 @@ static step ticked(node *n, connection *c) {
 
 size_t node_ticks(node *n, unsigned slot, byte *sent) {
     connection *c = n->slots + slot;
-    n->calls++, n->host.ticks += slot == 0, n->arrived = 0;
+    n->calls++, n->host.ticks += slot == 0, n->arrived = 0, n->is_used = 1;
     return sends(n, send_step(n, c, ticked(n, c), n->datagram), sent);
 }
 

@@ -212,6 +212,7 @@ static void open_device(device *d, const byte *own, const byte *mac) {
     call_open(d, own, mac, mask, router);
     if (!d->on.is_open) call_open(d, own, mac, mask, router);
     if (chance(30)) call_open(d, own, mac, mask, router);    // UIP_HAS_DEVICE
+    if (chance(70)) call_secret(d);
 }
 
 void program_begin(void) {

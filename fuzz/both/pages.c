@@ -15,6 +15,8 @@ int serves_pages(void) { return 1; }
 
 // ---- what a connection sends
 
+void pages_judged(const node *n, judgement by_guard) { if (n == &devices->node) model_judged(&counted, by_guard); }
+
 void pages_count(const node *n) { if (n == &devices->node) model_hears(&counted, n->arrived, n->arrived_len); }
 
 // [add: counter] a number that the model does not foretell

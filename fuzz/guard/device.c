@@ -42,11 +42,7 @@ static void open_device(char *own) {
 
 static void protect(const char *secret) {
     if (read_bytes(secret, bytes) != 16) fail("a secret has 16 bytes");
-#ifdef PROTECTED   // the header has the call
     if (uip_protect(&device, bytes) != UIP_OK) fail("the secret was refused");
-#else
-    fail("this library has no uip_protect");
-#endif
 }
 
 static void rows(void) {

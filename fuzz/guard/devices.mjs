@@ -14,29 +14,14 @@ const SECRET = Uint8Array.from([7, 1, 250, 33, 98, 4, 71, 180, 26, 9, 222, 61, 1
 export const STATE = new Uint8Array(readFileSync(join(top, "examples/state.img")));
 export const SITE = new Uint8Array(readFileSync(join(top, "examples/site.img")));
 
-// Makes a device, and returns it with the exports of its module.
-export function madeDevice() {
-  const Real = WebAssembly.Instance;
-  let instance;
-  WebAssembly.Instance = function (module, imports) { return instance = new Real(module, imports); };
-  const device = new Device(code);
-  WebAssembly.Instance = Real;
-  return { device, exports: instance.exports };
-}
-
 // web/node.wasm, which is fed frames of a serial line.
 class WasmDevice {
   constructor(image, own, isProtected) {
-    const { device, exports } = madeDevice();
-    Object.assign(this, { device, exports });
-    device.open(image, own);
-    if (!isProtected) return;
-    if (!exports.uip_protect) throw new Error("web/node.wasm has no uip_protect");
-    new Uint8Array(exports.memory.buffer).set(SECRET, exports.in.value);
-    if (exports.uip_protect(exports.device.value, exports.in.value) !== 0) throw new Error("the secret was refused");
+    this.device = new Device(code);
+    this.device.open(image, own);
+    if (isProtected) this.device.protect(SECRET);
   }
 
-  get memory() { return this.exports.memory.buffer; }
   sent(call) {
     const bytes = [];
     call(text => bytes.push(...text));
@@ -90,17 +75,14 @@ class ProgramDevice {
   }
 }
 
-// A node. `program` is the command of a program as device.c; without one it is web/node.wasm. `guard` makes a model of the guard that
-// stands before it; `isProtected` gives the device a secret.
+// A node. `program` is the command of a program as device.c; without one it is web/node.wasm. `isProtected` gives the device a secret.
 export class Node {
-  constructor({ image = STATE, own = [10, 0, 0, 1], program, guard, isProtected } = {}) {
+  constructor({ image = STATE, own = [10, 0, 0, 1], program, isProtected } = {}) {
     this.device = program ? new ProgramDevice(program, image, own, isProtected) : new WasmDevice(image, own, isProtected);
-    Object.assign(this, { own, image });
-    this.guard = guard?.(this.device, image, own);
   }
 
-  input(datagram) { return (this.guard ?? this.device).input(datagram); }
-  tick(count = 1) { return Array.from({ length: count }, () => (this.guard ?? this.device).tick()).flat(); }
+  input(datagram) { return this.device.input(datagram); }
+  tick(count = 1) { return Array.from({ length: count }, () => this.device.tick()).flat(); }
   get states() { return this.device.rows.map(row => row.state); }
   get live() { return this.device.rows.filter(row => row.state !== "CLOSED"); }
   hits(name) { return this.device.hits(name); }

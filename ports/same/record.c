@@ -68,6 +68,14 @@ uip_opened __wrap_uip_open_ether(uip_device *d, const unsigned char *image, size
     return opened;
 }
 
+unsigned __real_uip_protect(uip_device *d, const unsigned char secret[16]);
+unsigned __wrap_uip_protect(uip_device *d, const unsigned char secret[16]) {
+    record r = begun(PROTECT, d, 0, 16, 0, 0);
+    unsigned status = __real_uip_protect(d, secret);
+    returned(&r, status, 0, secret, 0, 0);
+    return status;
+}
+
 #define RESULTS(name, op, parameters, arguments, which, in, in_len) \
     uip_result __real_##name parameters; \
     uip_result __wrap_##name parameters { \
@@ -118,6 +126,9 @@ uip_result __wrap_uip_input_frame_area(uip_device *d, unsigned char *out, size_t
     }
 NUMBERS(uip_ticks, TICKS, (uip_device *d), (d), 0, 0, 0)
 NUMBERS(uip_counter, COUNTER, (uip_device *d, size_t number), (d, number), number, 0, 0)
+#ifndef BOTH
+NUMBERS(uip_guard_counter, GUARD_COUNTER, (uip_device *d, size_t number), (d, number), number, 0, 0)
+#endif
 NUMBERS(uip_is_idle, IS_IDLE, (uip_device *d), (d), 0, 0, 0)
 NUMBERS(uip_hits, HITS, (uip_device *d, const void *name, size_t len), (d, name, len), 0, name, len)
 

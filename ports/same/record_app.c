@@ -14,6 +14,14 @@ unsigned __wrap_uip_app_open(uip_app *d, const unsigned char own[4], const unsig
     return status;
 }
 
+unsigned __real_uip_app_protect(uip_app *d, const unsigned char secret[16]);
+unsigned __wrap_uip_app_protect(uip_app *d, const unsigned char secret[16]) {
+    record r = begun(APP_PROTECT, d, 0, 16, 0, 0);
+    unsigned status = __real_uip_app_protect(d, secret);
+    returned(&r, status, 0, secret, 0, 0);
+    return status;
+}
+
 // The frame lies at the start of `frame`, and what comes after it was filled.
 uip_result __real_uip_app_input_frame_area(uip_app *d, unsigned char *frame, size_t room, size_t len);
 uip_result __wrap_uip_app_input_frame_area(uip_app *d, unsigned char *frame, size_t room, size_t len) {

@@ -19,6 +19,7 @@ static uip_result call(const record *r, const unsigned char *input, const unsign
     (void)left;
     switch (r->op) {
     case APP_OPEN: return of_status(uip_app_open(d, input, input + 4, input + 10, input + 14));
+    case APP_PROTECT: return of_status(uip_app_protect(d, input));
     case APP_INPUT_FRAME: __builtin_memcpy(out, input, len); return uip_app_input_frame(d, out, number, room);
     case APP_PERIODIC_FRAME: return uip_app_periodic_frame(d, number, out, room);
     OWN_CASES(uip_app_listen, uip_app_read, uip_app_write)

@@ -71,6 +71,14 @@ INLINE uip_number of_number(u64 both) {
 #endif
 
 #if IS_SERIAL || IS_WHOLE
+uip_number uip_guard_counter(uip_device *device, size_t number) {
+    u64 both;
+    BEGIN
+    both = port_uip_guard_counter(d, number);
+    END
+    return of_number(both);
+}
+
 uip_opened uip_open(uip_device *device, const unsigned char *image, size_t len, const unsigned char own[4]) {
     u64 opened[2];
     BEGIN
@@ -120,6 +128,14 @@ uip_result uip_periodic_frame(uip_device *device, size_t slot, unsigned char *fr
 #endif
 
 #if !IS_APP
+unsigned uip_protect(uip_device *device, const unsigned char secret[16]) {
+    unsigned status;
+    BEGIN
+    status = (unsigned)port_uip_protect(d, (u8 *)secret);
+    END
+    return status;
+}
+
 uip_number uip_ticks(uip_device *device) {
     u64 both;
     BEGIN
@@ -237,6 +253,14 @@ unsigned uip_app_open(uip_app *device, const unsigned char own[4], const unsigne
     unsigned status;
     BEGIN
     status = (unsigned)port_uip_app_open(d, (u8 *)own, (u8 *)mac, (u8 *)mask, (u8 *)router);
+    END
+    return status;
+}
+
+unsigned uip_app_protect(uip_app *device, const unsigned char secret[16]) {
+    unsigned status;
+    BEGIN
+    status = (unsigned)port_uip_app_protect(d, (u8 *)secret);
     END
     return status;
 }
