@@ -137,6 +137,7 @@ SMALL(8)
 SMALL(16)
 SMALL(32)
 SMALL(64)
+INLINE u64 rotl64(u64 n, unsigned by) { return n << by | n >> (64 - by); }    /* by 1 to 63 */
 INLINE u16 bswap16(u16 n) { return (u16)(n << 8 | n >> 8); }
 INLINE u32 bswap32(u32 n) { return n << 24 | (n & 0xff00) << 8 | (n >> 8 & 0xff00) | n >> 24; }
 INLINE u64 bswap48(u64 n) { return (u64)bswap32((u32)n) << 16 | bswap16((u16)(n >> 32)); }

@@ -7,6 +7,7 @@ from .text import Text, reads_of
 from .values import Values
 
 PURE = re.compile(r"@llvm\.(umin|umax|smin|smax|usub\.sat|uadd\.sat|bswap)\.(i\d+)$")
+FUNNEL = "@llvm.fshl.i64"    # of one number with itself it is a rotation
 MOVES = re.compile(r"@llvm\.(memset\.p0|memmove\.p0\.p0|memcpy\.p0\.p0)\.i64$")
 
 
@@ -182,6 +183,10 @@ class Memory(Values):
         if found := PURE.match(it.callee):
             text = f"{found[1].replace('.', '')}{bits(found[2])}({', '.join(text.text for text in texts)})"
             self.give(it, found[2], Text(text, True, reads_of(*texts)))
+        elif it.callee == FUNNEL:
+            (_, first), (_, second), (_, count) = it.arguments
+            require(first == second and count.isdigit() and 0 < int(count) < 64, f"the intrinsic {it.callee} but for a rotation")
+            self.give(it, "i64", Text(f"rotl64({texts[0].text}, {count})", True, reads_of(texts[0])))
         elif it.callee == "@llvm.trap":
             self.line("TRAP();")
         elif it.callee != "@llvm.assume":
