@@ -1,3 +1,6 @@
+#ifndef UIP_SOURCE              /* the library is uip.c, compiled with the program */
+#define UIP_SOURCE
+#endif
 /*
  * uip.h - the C interface of Lowunbisa, a TCP/IP node with a small web server
  *
@@ -341,14 +344,14 @@ uip_opened uip_open_ether(uip_device *device, const unsigned char *image, size_t
  *
  *   secret    16 random bytes, other ones for each device ("A secret" in docs/FIRMWARE.md). They are copied
  *
- *   Status    UIP_NO_DEVICE; UIP_WRONG_LINK (a device on Ethernet has no guard yet); UIP_BAD_ARGUMENT (it has
- *             a secret already, or its node took a datagram, or slot 0 was called: nothing changes); UIP_OK
+ *   Status    UIP_NO_DEVICE; UIP_BAD_ARGUMENT (it has a secret already, or its node took a datagram, or slot 0
+ *             was called; on Ethernet: or it took a frame, or any slot was called. Nothing changes); UIP_OK
  *
- * A device for a serial line or for datagrams has a guard, also without a secret. It drops what no host that
- * follows TCP sends: a datagram from an address that no host may have, a RST that is not at RCV.NXT, and
- * segments that could not be accepted. If a SYN finds no slot, the guard gives up a connection for it: one in
- * FIN_WAIT_2, else one in SYN_RCVD, else one of another host that has four slots or more. The peer of that
- * connection is sent nothing; its next segment is answered by a RST.
+ * A device has a guard, also without a secret. It drops what no host that follows TCP sends: a datagram from
+ * an address that no host may have, a RST that is not at RCV.NXT, and segments that could not be accepted. If
+ * a SYN finds no slot, the guard gives up a connection for it: one in FIN_WAIT_2, else one in SYN_RCVD, else
+ * one of another host that has four slots or more. The peer of that connection is sent nothing; its next
+ * segment is answered by a RST.
  *
  * In the guarantee (docs/GUARANTEE.md) such a connection received a RST that is of no host, and what was
  * dropped did not arrive.
@@ -577,7 +580,7 @@ uip_number uip_ticks(uip_device *device);
 uip_number uip_counter(uip_device *device, size_t number);
 
 /* Returns a counter of the guard, by its enum uip_guard_counter_id. Status: UIP_BAD_ARGUMENT; UIP_NO_DEVICE;
- * UIP_WRONG_LINK (a device on Ethernet has no guard yet); UIP_OK.
+ * UIP_OK.
  */
 uip_number uip_guard_counter(uip_device *device, size_t number);
 
@@ -611,7 +614,7 @@ void rattle_dealloc(void *block);
 #define UIP_ROUNDED(len) (((size_t)(len) + 15) / 16 * 16)
 #define UIP_MEMORY(files) \
     (UIP_ROUNDED(28 * (size_t)(files)) + UIP_ROUNDED(2 * (size_t)(files)) + UIP_ROUNDED(4 * (size_t)(files)) + 4032)
-#define UIP_MEMORY_ETHER(files) (UIP_MEMORY(files) + 80)
+#define UIP_MEMORY_ETHER(files) (UIP_MEMORY(files) + 96)
 
 /* ---- 12 Inline functions ----------------------------------------------------------------------- */
 

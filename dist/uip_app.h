@@ -6,6 +6,7 @@
  * Rules, statuses, frames and ticks are those of uip.h.
  *
  *   uip_app_open(device, own, mac, mask, router)             opens a device on Ethernet
+ *   uip_app_protect(device, secret)                          gives it a secret, before the first frame
  *   uip_app_listen(device, port)                             opens a port, one of at most four
  *   uip_app_input_frame(device, frame, len, room)            takes a frame, writes the reply in its place
  *   uip_app_periodic_frame(device, slot, frame, room)        runs the timers of one slot
@@ -77,10 +78,10 @@ enum {
 typedef struct uip_app { unsigned is_open; void *at; } uip_app;
 #define UIP_APP_INIT {0, NULL}
 
-/* The bytes of heap that one device needs: three blocks, of 1500, 4720 and 592 bytes, each rounded up to a
+/* The bytes of heap that one device needs: three blocks, of 1500, 4720 and 640 bytes, each rounded up to a
  * multiple of 16 (measured on x86-64, m4, rv32 and wasm).
  */
-#define UIP_APP_MEMORY 6816
+#define UIP_APP_MEMORY 6864
 
 /* The result of uip_app_read.
  *   ready    1 if uip_app_write can send a message on this connection now, else 0
@@ -105,6 +106,25 @@ typedef struct uip_received { unsigned status, ready, port; size_t len; } uip_re
  */
 unsigned uip_app_open(uip_app *device, const unsigned char own[4], const unsigned char mac[6],
                       const unsigned char mask[4], const unsigned char router[4]);
+
+/* Gives a device a secret, so that no host can predict its sequence numbers (RFC 6528). Call it once, after
+ * opening and before the first frame and the first call of a slot.
+ *
+ *   secret    16 random bytes, other ones for each device ("A secret" in docs/FIRMWARE.md). They are copied
+ *
+ *   Status    UIP_NO_DEVICE; UIP_BAD_ARGUMENT (it has a secret already, or a frame was received or a slot was
+ *             called: nothing changes); UIP_OK
+ *
+ * A device has a guard, also without a secret. It drops what no host that follows TCP sends: a datagram from
+ * an address that no host may have, a RST that is not at RCV.NXT, and segments that could not be accepted. If
+ * a SYN finds no slot, the guard gives up a connection for it: one in FIN_WAIT_2, else one in SYN_RCVD. No
+ * connection of yours is given up while it is open. The peer of one that is given up is sent nothing; its
+ * next segment is answered by a RST.
+ *
+ * In the guarantee (docs/GUARANTEE.md) such a connection received a RST that is of no host, and what was
+ * dropped did not arrive.
+ */
+unsigned uip_app_protect(uip_app *device, const unsigned char secret[16]);
 
 /* Opens a port: connections to it are accepted from now on, until uip_app_close. If it is open already,
  * nothing changes. The call may come at any time, also while there are connections.

@@ -10,7 +10,7 @@
  *   uip_write(device, slot, taken, text, len, last, frame, room)      answers it by one message
  *   UIP_BOTH_MEMORY(files)                         the bytes of heap that a device needs
  *
- *   Library     libuip_both_c.a, or uip.c with UIP_BOTH. It has these calls of uip.h: uip_open_ether,
+ *   Library     libuip_both_c.a, or uip.c with UIP_BOTH. It has these calls of uip.h: uip_open_ether, uip_protect,
  *               uip_input_frame, uip_periodic_frame, uip_tick_frames, uip_set_value, uip_hits, uip_query, uip_ticks,
  *               uip_is_idle, uip_needs_ticks, uip_counter, uip_connection and uip_close. It has no call for a serial
  *               line or for datagrams, and none of uip_app.h.
@@ -46,7 +46,7 @@ extern "C" {
  */
 
 /* The bytes of heap that one device needs, for an image of `files` files, 1 or more. They are the six blocks of
- * uip_open_ether, with 4800 bytes in the place of 1600 and 1288 in the place of 976, each rounded up to a multiple of
+ * uip_open_ether, with 4800 bytes in the place of 1600 and 1336 in the place of 1024, each rounded up to a multiple of
  * 16 (measured on x86-64; every target of ports has the same blocks).
  */
 #define UIP_BOTH_MEMORY(files) (UIP_MEMORY_ETHER(files) + 3520)
