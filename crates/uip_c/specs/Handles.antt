@@ -21,7 +21,7 @@ IsReady files own key kept = IsLine (IsFreshWebDevice files own key) kept
 abbrev pub OpensAs : List File → Addr → Kept → Kept → Type 0
 OpensAs files own old new = (old ≡ NoDevice) × IsReady files own None new
 
--- There was a device without a secret, for a line or on Ethernet, and there still is one, which has this secret. All else is as it was.
+-- There was a device for a line without a secret, or one on Ethernet, and there still is one, which has this secret. All else is as it was.
 abbrev pub ProtectsLine : Key → Kept → Kept → Type 0
 ProtectsLine key old new = StillHas OnLine (IsProtected key) old new
 
