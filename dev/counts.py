@@ -7,7 +7,7 @@ import re
 
 from repository import read, tracked
 
-MOST_IMPORTS = 9.1          # of 100 lines
+MOST_IMPORTS = 9.2          # of 100 lines
 MOST_LONG_CLAUSES = 38
 LONG = 200                  # characters of a clause
 IMPORT = re.compile(r"(?:unfoldable )?(?:pub(?:\(\w+\))? )?(?:unfoldable )?use ")

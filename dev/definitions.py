@@ -20,8 +20,9 @@ names, file by file. What an earlier section has is not repeated.
 `python3 dev.py docs` fails if it differs. `python3 dev.py trusted text NAME` prints what any other
 definition rests on, in this form.
 """
-# The transition of a node. The trace is that of `step`, whatever it does, and the conclusion names no transition.
-CLOSED = ("uip_node.specs.Node.step",)
+# Definitions of which the first alone is printed. The trace is that of `step`, whatever it does, and the conclusion names no transition.
+# The guard chooses the events of the trace by `guarded`, and its lens shifts numbers by a hash: no conclusion depends on which.
+CLOSED = ("uip_node.specs.Node.step", "guarded_node.specs.Guarded.guarded", "sip_hash.specs.SipHash.sip_hash")
 # What is printed first of what a statement rests on: its conclusion, before its hypotheses.
 FIRST = {"node_laws.specs.TraceConforms.EveryTraceOfPagesConforms": ("node_laws.specs.TraceConforms.TraceConforms",
                                                                      "app_events.specs.Pages.IsPaged", "uip_node.specs.Laws.HasBytes")}
