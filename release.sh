@@ -81,11 +81,12 @@ examples() {
     put examples/firmware/door_site examples/firmware/door_site/*
     put examples/common examples/board/main.c examples/board/state.c examples/board/ether.c examples/board/app.c examples/board/both.c \
         examples/board/answer.c examples/board/answer.h examples/board/alarm.h examples/board/board.h examples/board/ring.h \
-        examples/board/ring.c examples/board/runtime.c examples/board/site.S examples/board/link.ld \
-        examples/linux-app/console.c examples/linux-app/modbus.c ports/boards/start.h
+        examples/board/ring.c examples/board/runtime.c examples/board/site.S \
+        examples/linux-app/console.c examples/linux-app/modbus.c
     put examples/common/fallback examples/board/fallback/string.h
-    put examples/m4 ports/archive/m4/Makefile ports/boards/mps2.c ports/boards/lan9118.c ports/boards/cortex_m.h
-    put examples/rv32 ports/archive/rv32/Makefile ports/boards/riscv.c
+    put examples boards/shared.h boards/cortex_m.h boards/riscv.h boards/link.ld
+    put examples/m4 ports/archive/m4/Makefile boards/mps2-an386/board.c boards/mps2-an386/ether.c
+    put examples/rv32 ports/archive/rv32/Makefile boards/virt-rv32/board.c
     put examples/linux ports/archive/linux/Makefile examples/linux-c/heap.c examples/linux-ether/tap.c
     put dist dist/*
     put examples examples/serve.c

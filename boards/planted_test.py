@@ -32,7 +32,7 @@ FAULTS = (
      "    for (volatile unsigned *at = __data_start; at < __data_end; at++) *at = *from++;\n", "    (void)from;\n",
      board("data"), "without their initial values"),
     ("the link script refuses .data", "boards/link.ld",
-     "    ASSERT(SIZEOF(.boot)", '    ASSERT(SIZEOF(.data) == 0, "the start code copies no data")\n    ASSERT(SIZEOF(.boot)',
+     "    ASSERT(", '    ASSERT(SIZEOF(.data) == 0, "the start code copies no data")\n    ASSERT(',
      board("data"), "copies no data"),
     ("the linker does not know the size of the memory", "boards/link.ld",
      "LENGTH = ram_len", "LENGTH = 64K", board("small"), "took more memory"),

@@ -128,12 +128,12 @@ esac
 
 # ---- the firmware, or the node of the page
 
-main=main site=$top/examples/site.img link=serial
+main=main site=$top/examples/site.img link=serial driver=board loop=WAITS
 case "$work" in
 state) main=state site=$top/examples/state.img;;
 ether-usage) main=ether link=no_mac;;
 ether|app|both) [ "$target" = m4 ] || fail "the one board with a driver for its Ethernet controller is that of m4"
-    main=$work board=lan9118 link=$work;;
+    main=$work driver=ether loop=ETHER link=$work;;
 esac
 site=${SITE:-$site}
 firmware() {
@@ -142,25 +142,26 @@ firmware() {
     case "$link" in
     serial) set -- "$example/ring.c"; linked=libuip_c.a heap="UIP_MEMORY($files)";;
     ether) linked=libuip_c_ether.a heap="UIP_MEMORY_ETHER($files)";;
-    no_mac) set -- "$example/ring.c" "$ports/boards/no_mac.c"; linked=libuip_c_ether.a heap="UIP_MEMORY_ETHER($files)";;
+    no_mac) set -- "$example/ring.c" "$ports/no_mac.c"; linked=libuip_c_ether.a heap="UIP_MEMORY_ETHER($files)";;
     app) linked=libuip_app_c.a heap="UIP_APP_MEMORY";;
     both) linked=libuip_both_c.a heap="UIP_BOTH_MEMORY($files)";;
     esac
     case "$link" in app|both) set -- "$example/answer.c" "$top/examples/linux-app/console.c" "$top/examples/linux-app/modbus.c";; esac
-    set -- "$@" "$example/runtime.c" "$ports/boards/$board.c" "$example/$main.c"
+    set -- "$@" "$example/runtime.c" "$top/boards/$board/$driver.c" "$example/$main.c"
     for source; do
         object=$to/$(basename "$source" .c).o
-        c_code -Os "$source" -o "$object"
+        case "$source" in "$top"/boards/*) object=$to/driver.o;; esac
+        c_code -Os -DLOOP_$loop "$source" -o "$object"
         shift
         set -- "$@" "$object"
     done
     c_code -Os -include uip_both.h "-DUIP_HEAP_SIZE=$heap" "$top/support/heap.c" -o "$to/heap.o"
     c_code -DSITE="\"$site\"" "$example/site.S" -o "$to/site.o"
-    set -- -T "$example/link.ld" --defsym "flash_at=$flash" --defsym "ram_at=$ram" --discard-locals --gc-sections \
-        "$@" "$to/heap.o" "$to/site.o" "$to/$linked"
+    set -- -T "$top/boards/link.ld" --defsym "flash_at=$flash" --defsym flash_len=2M --defsym "ram_at=$ram" --defsym ram_len=64K \
+        --defsym stack_len=8K --discard-locals --gc-sections "$@" "$to/heap.o" "$to/site.o" "$to/$linked"
     ld.lld -Map="$to/board.map" -o "$to/board.elf" "$@" && ld.lld --oformat binary -o "$to/board.bin" "$@" || fail "ld.lld failed"
     case "$board" in
-    riscv) run=$to/flash.bin; cp "$to/board.bin" "$run" && truncate -s 32M "$run";;    # the size of the board's flash
+    virt-*) run=$to/flash.bin; cp "$to/board.bin" "$run" && truncate -s 32M "$run";;    # the size of the board's flash
     *) run=$to/board.elf;;
     esac
 }

@@ -3,7 +3,7 @@
 #
 #     triple, words     the words for clang
 #     c_words           further words for C alone
-#     board             the file of its board in boards/; none for aarch64-small and wasm
+#     board             the folder of its board in ../boards; none for aarch64-small and wasm
 #     flash, ram        the addresses of flash and memory on that board
 #     machine           the words that start qemu; {} is replaced by the firmware
 #     memory_at         the address of the memory as qemu's monitor sees it
@@ -12,13 +12,13 @@ TARGETS="m0 m3 m4 m7 m33 rv32 rv64 aarch64-small wasm"
 
 choose_cortex_m() {
     triple=$1; words="-mcpu=$2 ${FLOAT:--mfloat-abi=soft}"; c_words="-fshort-enums${FLOAT:+ -DUIP_HARD_FLOAT}"
-    board=mps2; flash=0x00000000 ram=0x20000000; machine="qemu-system-arm -M $3 -kernel {}"
+    board=mps2-an386; flash=0x00000000 ram=0x20000000; machine="qemu-system-arm -M $3 -kernel {}"
     user=qemu-arm package=qemu-user
 }
 
 choose_riscv() {
     triple=riscv$1-unknown-elf; words=$2
-    board=riscv; flash=0x20000000 ram=0x80000000
+    board=virt-rv32; flash=0x20000000 ram=0x80000000
     machine="qemu-system-riscv$1 -M virt -bios none -drive if=pflash,unit=0,format=raw,readonly=on,file={}"
     user=qemu-riscv$1 package=qemu-user
 }

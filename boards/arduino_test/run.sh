@@ -28,7 +28,7 @@ object board arm-none-eabi-gcc -ffreestanding -DLOOP_WAITS -DRING=512 "$boards/m
 object ring arm-none-eabi-gcc -ffreestanding -DRING=512 "$example/ring.c"
 object runtime arm-none-eabi-gcc -ffreestanding -fno-builtin "$example/runtime.c"
 }
-sizes="flash_at=0 flash_len=256K ram_at=0x20000000 ram_len=16K stack_len=8192 boot_len=0"
+sizes="flash_at=0 flash_len=256K ram_at=0x20000000 ram_len=16K stack_len=8192"
 # shellcheck disable=SC2046
 arm-none-eabi-gcc -mcpu=cortex-m0 -mthumb -nostdlib -T "$boards/link.ld" -Wl,--gc-sections $(printf -- '-Wl,--defsym=%s ' $sizes) "$out"/*.o -lgcc \
     -o "$out/firmware.elf" || fail "the sketch was not linked"

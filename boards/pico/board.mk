@@ -2,7 +2,6 @@ NAME=Raspberry Pi Pico: RP2040, Cortex-M0+ of 12 MHz here
 CORE=cortex-m0plus
 FLASH_AT=0x10000000
 FLASH_LEN=2048K
-BOOT_LEN=256
 BOOT=$(here)/pico/boot2.S
 RAM_AT=0x20000000
 RAM_LEN=256K

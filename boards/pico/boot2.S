@@ -32,3 +32,4 @@ form:           .word 0x001f0300        // frames of 32 bits, standard SPI, EEPR
 command:        .word 0x03000218        // 03h; an instruction of 8 bits, an address of 24
 vectors:        .word 0x10000100
 vector_table:   .word 0xe000ed08
+    .org    256                         // as long as its ROM reads

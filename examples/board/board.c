@@ -1,11 +1,14 @@
-// The board: its serial port (PL011), its clock (the generic timer) and its interrupt controller (GICv2). Compiled with the general
-// registers alone, since the interrupt saves no others.
-#include "ring.h"
+// The board: its serial port (PL011), its clock (the generic timer) and its interrupt controller (GICv2). Compiled with LOOP_WAITS, and with the
+// general registers alone, since the interrupt saves no others.
+#include "../../boards/shared.h"
 
-#define REG(at) (*(volatile unsigned *)(unsigned long)(at))
-enum { CONTROLLER = 0x200000, PORT = 0x400000 };    // as the map of start.S has them
-enum { DATA = PORT, FLAGS = PORT + 0x18, LINE = PORT + 0x2c, CONTROL = PORT + 0x30, LEVELS = PORT + 0x34, MASK = PORT + 0x38 };
-enum { RECEIVE_EMPTY = 1 << 4, SEND_FULL = 1 << 5, OVERRUN = 1 << 11, RECEIVED = 1 << 4, RECEIVE_TIMEOUT = 1 << 6 };
+enum { CONTROLLER = 0x200000, PORT_AT = 0x400000, CLOCK = 24000000 };    // as the map of start.S has them; the clock of the port
+#define UART PORT_AT
+#ifdef LINE_RATE
+#define can_send port_can_send
+#endif
+#include "../../boards/pl011.h"
+
 enum { ENABLE = CONTROLLER + 0x100, TARGETS = CONTROLLER + 0x800, ON = CONTROLLER + 0x10000, LEAST = CONTROLLER + 0x10004 };
 enum { ACKNOWLEDGE = CONTROLLER + 0x1000c, END = CONTROLLER + 0x10010 };
 enum { CLOCK_LINE = 30, PORT_LINE = 33 };
@@ -23,23 +26,25 @@ static unsigned long clock_rate(void) {
 }
 
 static void clock_wakes_at(unsigned long time) { __asm__ volatile("msr cntp_cval_el0, %0; isb" : : "r"(time)); }
+static void interrupts_masked(void) { __asm__ volatile("msr daifset, #2" : : : "memory"); }
+static void interrupts_unmasked(void) { __asm__ volatile("msr daifclr, #2" : : : "memory"); }
+static void sleep(void) { __asm__ volatile("dsb sy; wfi"); }
 
-void port_receives(int is_on) { REG(MASK) = is_on ? RECEIVED | RECEIVE_TIMEOUT : 0; }
-
-void interrupts(int are_on) {
-    if (are_on) __asm__ volatile("msr daifclr, #2" : : : "memory");
-    else __asm__ volatile("msr daifset, #2" : : : "memory");
+#ifdef LINE_RATE    // bytes a second: a real line takes its time, qemu's does not
+#undef can_send
+static int can_send(void) {
+    static unsigned long free_at;
+    if (clock_now() < free_at || !port_can_send()) return 0;
+    free_at = clock_now() + clock_rate() / LINE_RATE;
+    return 1;
 }
+#endif
 
-void wait_for_interrupt(void) { __asm__ volatile("dsb sy; wfi"); }
-
-void board_start(void) {
+static void start(void) {
     REG(CONTROL) = 0;
-    REG(LINE) = 3 << 5 | 1 << 4;           // 8 bits, with its queues
-    REG(LEVELS) = 0;                       // interrupt early, and also if only a few bytes came
-    port_receives(1);
-    REG(CONTROL) = 1 << 9 | 1 << 8 | 1;    // receive, send, on
-    (void)REG(DATA);                       // a byte from before the port was open: unread, it may block all further ones
+    port_on();
+    port_interrupts(1, 0);
+    (void)take();                          // a byte from before the port was open: unread, it may block all further ones
     REG(ENABLE) = 1u << CLOCK_LINE;
     REG(ENABLE + 4) = 1u << (PORT_LINE - 32);
     ((volatile unsigned char *)(unsigned long)TARGETS)[PORT_LINE] = 1;
@@ -48,33 +53,28 @@ void board_start(void) {
     REG(ON) = 1;
     clock_wakes_at(clock_now() + clock_rate() / 2);
     __asm__ volatile("msr cntp_ctl_el0, %0; isb" : : "r"(1ul));
-    interrupts(1);
+}
+
+void board_start(void) {
+    start();
+    interrupts_unmasked();
 }
 
 // start.S calls it at each interrupt.
 void board_interrupt(void) {
     unsigned line = REG(ACKNOWLEDGE);
-    while (!ring_is_full() && !(REG(FLAGS) & RECEIVE_EMPTY)) {
-        unsigned data = REG(DATA);
-        ring_put((unsigned char)data);
-        if (data & OVERRUN) port_lost++;
-    }
-    port_receives(!ring_is_full());
+    serve_port();
     if ((line & 0x3ff) == CLOCK_LINE) {
         unsigned long time;
         __asm__ volatile("mrs %0, cntp_cval_el0" : "=r"(time));
         clock_wakes_at(time + clock_rate() / 2);
-        tick_passed();
+        half_second();
     }
     REG(END) = line;
 }
 
-void port_put(unsigned char byte) {
-#ifdef LINE_RATE    // bytes a second: a real line takes its time, qemu's does not
-    static unsigned long free_at;
-    while (clock_now() < free_at) {}
-    free_at = clock_now() + clock_rate() / LINE_RATE;
-#endif
-    while (REG(FLAGS) & SEND_FULL) {}
-    REG(DATA) = byte;
+// start.S calls it first.
+void begin(void) {
+    memory_start();
+    main();
 }

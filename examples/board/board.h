@@ -22,7 +22,7 @@ static inline int tick_is_due(unsigned *ticks) {
     return 1;
 }
 
-// A board on Ethernet has these in place of the port (ports/boards/lan9118.c).
+// A board on Ethernet has these in place of the port (boards/mps2-an386/ether.c).
 void mac_start(const unsigned char mac[6]);                     // begins to receive frames for this address and for all, and to send
 size_t mac_receive(unsigned char *frame, size_t room);          // the length of a frame that was waiting, or 0
 void mac_send(const unsigned char *frame, size_t len);          // waits until the controller accepts the frame

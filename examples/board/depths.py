@@ -27,7 +27,9 @@ def main():
     with tempfile.TemporaryDirectory() as room:
         elf = os.path.join(room, "calls.elf")
         wanted = [word for call in calls for word in ("-u", call)]
-        layout = ["-T", os.path.join(os.path.dirname(os.path.abspath(__file__)), "link.ld"), "--defsym", "flash_at=0", "--defsym", "ram_at=0x20000000"]
+        sizes = {"flash_at": "0", "flash_len": "2M", "ram_at": "0x20000000", "ram_len": "64K", "stack_len": "8K"}
+        layout = ["-T", os.path.join(os.path.dirname(os.path.abspath(__file__)), "../../boards/link.ld")]
+        layout += [word for name, value in sizes.items() for word in ("--defsym", f"{name}={value}")]
         subprocess.run(["ld.lld", "-e", calls[0], "--gc-sections", "--discard-locals", *layout, *wanted, "-o", elf, *objects, library], check=True)
         frames, called, _ = usage.read_code(elf)
     needed = sorted(((usage.depth(call, frames, called), call) for call in calls), reverse=True)

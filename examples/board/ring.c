@@ -4,7 +4,6 @@
 
 unsigned char ring[RING];
 volatile unsigned ring_received, ring_taken, ring_ticks;
-unsigned port_lost;
 
 port_bytes port_waiting(void) {
     unsigned len = ring_received - ring_taken, at = ring_taken % RING;

@@ -12,7 +12,6 @@
 extern unsigned char ring[RING];
 extern volatile unsigned ring_received, ring_taken;    // counts of bytes, modulo 2^32
 extern volatile unsigned ring_ticks;
-extern unsigned port_lost;                             // how often the port reported that it lost bytes
 
 static inline int ring_is_full(void) { return ring_received - ring_taken == RING; }
 

@@ -40,13 +40,14 @@ compile() {
 }
 compile "$here/start.S" -o "$out/start.o"
 compile "$here/$main.c" -o "$out/$main.o"
-for part in board ring runtime; do compile -mgeneral-regs-only "$here/$part.c" -o "$out/$part.o"; done
+for part in board ring runtime; do compile -mgeneral-regs-only -DLOOP_WAITS "$here/$part.c" -o "$out/$part.o"; done
 compile "$heap" "$top/support/heap.c" -o "$out/heap.o"
 compile -DSITE="\"$site\"" "$here/site.S" -o "$out/site.o"
 # A firmware by its name, of the object files that it has of its own.
 link() {
     to=$out/$1; shift
-    set -- -T "$here/link.ld" --defsym flash_at=0 --defsym ram_at=0x800000 --gc-sections \
+    set -- -T "$top/boards/link.ld" --defsym flash_at=0 --defsym flash_len=2M --defsym ram_at=0x800000 --defsym ram_len=64K \
+        --defsym stack_len=8K --gc-sections \
         "$out/start.o" "$@" "$out/ring.o" "$out/runtime.o" "$out/heap.o" "$out/site.o" "$library"
     "$lld" -Map="$to.map" -o "$to.elf" "$@" && "$lld" --oformat binary -o "$to.bin" "$@" || fail "ld.lld failed"
 }
@@ -76,7 +77,7 @@ map)
 early)
     exec python3 "$here/early.py" "$out/$name.bin";;
 line)
-    compile -mgeneral-regs-only -DLINE_RATE=1920 "$here/board.c" -o "$out/slow_board.o"
+    compile -mgeneral-regs-only -DLOOP_WAITS -DLINE_RATE=1920 "$here/board.c" -o "$out/slow_board.o"
     link slow "$out/slow_board.o" "$out/$main.o"
     fetch="python3 $top/examples/fetch.py $pages"
     browse "$out/slow.bin" --baud 19200 -- sh -c "$fetch & one=\$!; $fetch && wait \$one" >"$out/line.txt"; status=$?

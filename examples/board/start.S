@@ -1,6 +1,5 @@
 // Reset: at 0 in flash, in EL1, with nothing set up. Turns on the SIMD registers, maps flash and memory as ordinary and the devices as
-// devices (compiled code makes unaligned accesses, which device memory refuses), clears .bss, paints the stack, so that its greatest
-// depth can be told, and runs main. A fault stops behind the reset code, where the table of vectors has its entries, with its cause in
+// devices (compiled code makes unaligned accesses, which device memory refuses), and calls begin of board.c. A fault stops behind the reset code, where the table of vectors has its entries, with its cause in
 // x0 to x2; where main ends, the board stops with its answer in x0.
     .section .start, "ax"
     .balign 2048
@@ -30,21 +29,9 @@ _start:
     msr     sctlr_el1, x0
     isb
 
-    ldr     x1, =__bss_start
-    ldr     x2, =__bss_end
-1:  cmp     x1, x2
-    b.hs    2f
-    str     xzr, [x1], #8
-    b       1b
-2:  ldr     x1, =__stack_low
     ldr     x2, =__stack_top
-    ldr     x3, =0xa5a5a5a5a5a5a5a5
-3:  cmp     x1, x2
-    b.hs    4f
-    str     x3, [x1], #8
-    b       3b
-4:  mov     sp, x2
-    bl      main
+    mov     sp, x2
+    bl      begin
 halt:
     msr     daifset, #2                 // no interrupt goes on behind the end
 5:  wfi

@@ -125,7 +125,6 @@ def print_run(at, path, static):
     used = len(stack) - next((i for i, byte in enumerate(stack) if byte != PAINT), len(stack))
     heap = number("heap_used")
     print(f"memory in this run: {static + used + heap} bytes: static {static}, stack {used}, heap {heap}")
-    print(f"the port lost bytes {number('port_lost')} times")
 
 
 def main():
@@ -134,8 +133,9 @@ def main():
     firmware = sys.argv[1]
     at = read_map(firmware + ".map")
     image = at.get("site_image_end", 0) - at.get("site_image", 0)    # a firmware with an application of its own has none
-    static = at["__bss_end"] - at["__bss_start"]
-    print(f"flash: {at['__flash_end'] - at['__flash_start'] - image} bytes, and {image} of the site's image")
+    data = at["__data_end"] - at["__data_start"]
+    static = at["__bss_end"] - at["__bss_start"] + data    # without the heap
+    print(f"flash: {at['__data_from'] - at['__flash_start'] + data - image} bytes, and {image} of the site's image")
     print(f"static memory: {static} bytes")
     if shutil.which("llvm-objdump"):
         print_depth(firmware + ".elf")

@@ -1,6 +1,8 @@
-// The Ethernet controller LAN9118 of qemu's mps2-an386 (Cortex-M4), in place of the UART of mps2.c. A frame passes through its queues in words.
+// The Ethernet controller LAN9118 of qemu's mps2-an386. A frame passes through its queues in words. The board has no lamp.
+#define CLOCK 25000000
 #define LINE 13
-#include "cortex_m.h"
+#define LINES [16 + LINE] = interrupt_port
+#include "../cortex_m.h"
 
 #define MAC 0x40200000
 enum { RX_DATA = MAC, TX_DATA = MAC + 0x20, RX_STATUS = MAC + 0x40, INTERRUPT_FORM = MAC + 0x54, INTERRUPT_STATE = MAC + 0x58,
@@ -9,20 +11,31 @@ enum { MAC_CONTROL = 1, MAC_HIGH = 2, MAC_LOW = 3 };                       // re
 enum { RX_ON = 4, TX_ON = 8, RECEIVED = 8, BAD_FRAME = 1 << 15, CHECK = 4, HEAD = 8 };
 enum { ACTIVE_HIGH = 0x111, SEND_WITHOUT_STATUS = 6, WHOLE_FRAME = 0x3000 };
 
-volatile unsigned ring_ticks;
-unsigned clock_ticks(void) { return ring_ticks; }
-
 static void set(unsigned which, unsigned value) {
     REG(DATA) = value;
     REG(COMMAND) = 1u << 31 | which;
     while (REG(COMMAND) >> 31) {}
 }
 
-// Before its form is set the line is active low: the processor would be interrupted without an end.
-void board_start(void) {
-    REG(INTERRUPT_FORM) = ACTIVE_HIGH;
-    start_interrupts();
+static unsigned frames_waiting(void) { return REG(RX_USED) >> 16 & 0xff; }
+
+static void port_interrupts(int receives, int sends) {
+    (void)sends;
+    REG(INTERRUPT_ENABLE) = receives ? RECEIVED : 0;
 }
+
+static int frame_waits(void) {
+    REG(INTERRUPT_STATE) = RECEIVED;
+    return frames_waiting() != 0;
+}
+
+// Before its form is set the line is active low: the processor would be interrupted without an end.
+static void start(void) {
+    REG(INTERRUPT_FORM) = ACTIVE_HIGH;
+    ENABLE_LINE(LINE);
+}
+
+void lamp(int is_on) { (void)is_on; }
 
 void mac_start(const unsigned char mac[6]) {
     set(MAC_HIGH, mac[4] | mac[5] << 8);
@@ -30,8 +43,6 @@ void mac_start(const unsigned char mac[6]) {
     REG(TX_FORM) = SEND_WITHOUT_STATUS;
     set(MAC_CONTROL, RX_ON | TX_ON);
 }
-
-static unsigned frames_waiting(void) { return REG(RX_USED) >> 16 & 0xff; }
 
 // The length in the status includes the frame check sequence.
 size_t mac_receive(unsigned char *frame, size_t room) {
@@ -55,16 +66,4 @@ void mac_send(const unsigned char *frame, size_t len) {
         for (size_t k = 0; k < 4 && at + k < len; k++) word |= (unsigned)frame[at + k] << 8 * k;
         REG(TX_DATA) = word;
     }
-}
-
-static void interrupt_line(void) { REG(INTERRUPT_ENABLE) = 0; }
-
-void board_sleep(unsigned ticks) {
-    interrupts(0);
-    REG(INTERRUPT_STATE) = RECEIVED;
-    if (!frames_waiting() && ring_ticks == ticks) {
-        REG(INTERRUPT_ENABLE) = RECEIVED;
-        wait_for_interrupt();
-    }
-    interrupts(1);
 }
