@@ -53,7 +53,7 @@ link() {
 }
 if [ "$1" = ether ]; then
     compile "$here/ether.c" -o "$out/ether.o"
-    compile "$top/ports/boards/no_mac.c" -o "$out/no_mac.o"
+    compile "$top/ports/no_mac.c" -o "$out/no_mac.o"
     compile "$(echo "$heap" | sed s/UIP_MEMORY/UIP_MEMORY_ETHER/)" "$top/support/heap.c" -o "$out/heap.o"
     link ether "$out/board.o" "$out/ether.o" "$out/no_mac.o"
     exec python3 "$here/usage.py" "$out/ether"
