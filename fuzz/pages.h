@@ -67,7 +67,7 @@ typedef struct { unsigned numbers[21], guard[3], ticks; byte own[4]; } model;   
 extern model counted;                                                      // of the devices in step, or of the first of two
 void model_hears(model *m, const byte *datagram, size_t len);
 void model_sends(model *m, const byte *datagram, size_t len);
-void model_judged(model *m, judgement by_guard);                           // before it hears: what the guard counts, and a RST for the node
+void model_judged(model *m, judgement by_guard);                           // first: what the guard counts, and a RST for the node
 
 // reads.c: the calls that send nothing, of a handle of uip.h, each as it is foretold. The image stays while the device is open.
 typedef struct { uip_device handle; int is_open, has_left, is_ether, has_secret, is_used; byte mac[6], mask[4], router[4]; area image; } tested;

@@ -230,7 +230,7 @@ static void reads_guard(tested *t, const model *least, const model *most) {
     (void)begin_call(t, 0);
     uip_number read = uip_guard_counter(&t->handle, number);
     told(t, read.status, is_bad, "uip_guard_counter");
-    if (read.status != UIP_OK) { WANT(read.number == 0, "uip_guard_counter was refused and tells %u", read.number); return; }
+    if (read.status != UIP_OK) { WANT(read.number == 0, "uip_guard_counter was refused and has %u", read.number); return; }
     unsigned low = least->guard[number], high = most->guard[number];
     WANT(read.number - low <= high - low, "the guard counts %u, and %u to %u was foretold", read.number, low, high);
 }

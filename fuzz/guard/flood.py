@@ -3,14 +3,14 @@
 
     python3 fuzz/guard/flood.py [OPTION ..]
 
-It builds the device (tun.c, with the C file), and runs it behind a TUN interface in a network namespace of its own: nothing leaves it.
+It builds the device (tun.c, with the C file), and runs it on a TUN interface in a network namespace of its own: nothing leaves it.
 There it sends SYNs through a raw socket, each from another address of 172.16.0.0/12, and fetches pages by curl, one after the other.
 Each must be byte for byte the file. If a connection is reset before its page comes, curl tries again, as a user reloads. The result
-tells how many pages came at once. It ends with 0 if all came, and none was wrong.
+has how many pages came at once. It ends with 0 if all came, and none was wrong.
 
     --pages N       how many pages (100)
     --rate N        SYNs in a second (200)
-    --delay MS      each datagram reaches the device so much later (0)
+    --delay MS      each datagram reaches the device MS milliseconds later (0)
     --limit N       seconds for a try, with all that curl's TCP sends again (30)
     --tries N       how often a page may be tried (10)
     --source FILE   another C file than dist/uip.c, as planted.py makes

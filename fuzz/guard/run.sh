@@ -1,13 +1,13 @@
 #!/bin/sh
 # Attacks a device as a host that is not on the path can, and sends it the packets of known faults of small IP stacks.
 #
-#     sh fuzz/guard/run.sh                all of this: the library for C on this machine and on a Cortex-M4 under qemu, and web/node.wasm
+#     sh fuzz/guard/run.sh                all of this: the C file on this machine and on an ARM of 32 bits under qemu, and web/node.wasm
 #     sh fuzz/guard/run.sh bare           devices without a secret: exactly those attacks work that predict a number
 #     sh fuzz/guard/run.sh guarded        devices with a secret: each attack must fail
 #     sh fuzz/guard/run.sh planted        a fault in each rule of the guard, in a copy of dist/uip.c: an attack must find it
 #     sh fuzz/guard/run.sh flood          200 SYNs a second while Linux's curl fetches a hundred pages; without the rule on slots it fails
 #
-# It needs Node.js and a C compiler; the M4 arm-linux-gnueabi-gcc and qemu-arm; flood root or user namespaces, /dev/net/tun and curl. What
+# It needs Node.js and a C compiler; the ARM arm-linux-gnueabihf-gcc and qemu-arm; flood root or user namespaces, /dev/net/tun and curl. What
 # the machine does not have is skipped, with a line. SOURCE names another C file than dist/uip.c, CC another compiler.
 case "$1" in -h|--help) sed -n '2,11s/^# \{0,1\}//p' "$0"; exit 0;; esac
 here=$(cd "$(dirname "$0")" && pwd)
@@ -36,11 +36,11 @@ devices() {
     # shellcheck disable=SC2086
     library device $cc -O1
     both "$1" "this machine" "$out/device"
-    if command -v arm-linux-gnueabi-gcc >/dev/null && command -v qemu-arm >/dev/null; then
-        library device_m4 arm-linux-gnueabi-gcc -static -Os -mthumb -mcpu=cortex-m4
-        both "$1" "Cortex-M4" "qemu-arm $out/device_m4"
+    if command -v arm-linux-gnueabihf-gcc >/dev/null && command -v qemu-arm >/dev/null; then
+        library device_arm arm-linux-gnueabihf-gcc -static -Os -mthumb
+        both "$1" "ARM, Thumb-2" "qemu-arm $out/device_arm"
     else
-        echo "skipped: Cortex-M4: no arm-linux-gnueabi-gcc or no qemu-arm"
+        echo "skipped: ARM: no arm-linux-gnueabihf-gcc or no qemu-arm"
     fi
     both "$1" web/node.wasm
 }
