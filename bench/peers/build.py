@@ -175,7 +175,8 @@ class Build:
     def link(self, name, objects, *words):
         target = os.path.join(self.folder, name)
         library = [] if self.has_library else ["-nostdlib", "-lgcc", "-Wl,-z,noexecstack"]
-        run([*self.words, "-Wl,--gc-sections", "-o", target, *objects, *library, *words])
+        as_for_libgcc = [word.replace("_zicsr", "") for word in self.words]    # with zicsr gcc takes the libgcc of 64 bits
+        run([*as_for_libgcc, "-Wl,--gc-sections", "-o", target, *objects, *library, *words])
         return target
 
     def programs(self, objects, image):

@@ -116,6 +116,8 @@ BY_POINTER = {
     "get_tag_insert": "put_tag", "slipif_poll": "netif_input", "netif_add": "slipif_init", "ip4_output_if_src": "slipif_output_v4",
     "sys_check_timeouts": "tcpip_tcp_timer", "main": "port_send", "uip_feed_all": "port_send", "uip_tick_all": "port_send",
 }
+# How many frames a function that calls itself has at most: one for each of ten connections, and the last.
+RECURSIVE = {"slot_guard_choice_slots_of": 11}
 INTERRUPT_FRAME = {"arm-none-eabi-": 36, "riscv64-unknown-elf-": 0}    # what the processor itself saves, with its alignment
 
 
@@ -132,6 +134,9 @@ class Stack:
             if "__indirect_call" in calls:
                 calls |= self.named(BY_POINTER.get(self.short(name), ""), name)
                 calls.discard("__indirect_call")
+            if name in calls and self.short(name) in RECURSIVE:
+                calls.discard(name)
+                self.frames[name] *= RECURSIVE[self.short(name)]
 
     @staticmethod
     def short(name):
