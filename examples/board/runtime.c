@@ -69,6 +69,20 @@ uint64_t __udivdi3(uint64_t a, uint64_t b) { return divide(a, b).quotient; }
 uint64_t __umoddi3(uint64_t a, uint64_t b) { return divide(a, b).remainder; }
 #endif
 
+#if __SIZEOF_POINTER__ == 4 && !defined __arm__    // shifts of 64-bit numbers, by 0 to 63
+uint64_t __lshrdi3(uint64_t a, int by) {
+    uint32_t high = (uint32_t)(a >> 32), low = (uint32_t)a;
+    if (by >= 32) return high >> (by - 32);
+    return by ? (uint64_t)(high >> by) << 32 | (low >> by | high << (32 - by)) : a;
+}
+
+uint64_t __ashldi3(uint64_t a, int by) {
+    uint32_t high = (uint32_t)(a >> 32), low = (uint32_t)a;
+    if (by >= 32) return (uint64_t)(low << (by - 32)) << 32;
+    return by ? (uint64_t)(high << by | low >> (32 - by)) << 32 | low << by : a;
+}
+#endif
+
 #ifdef __arm__    // the names of Arm's run-time ABI
 void __aeabi_memcpy(void *to, const void *from, size_t len) { memcpy(to, from, len); }
 void __aeabi_memcpy4(void *to, const void *from, size_t len) { memcpy(to, from, len); }
