@@ -15,6 +15,7 @@ import sys
 HERE = os.path.dirname(os.path.abspath(__file__))
 README = os.path.join(HERE, "README.md")
 BEGIN, END = "<!-- table.py writes this table -->\n", "<!-- to here -->\n"
+RECURSIVE = {"slot_guard_choice_slots_of": 11}    # it calls itself for each of the ten slots, and once behind the last
 INTERRUPT_FRAME = {"arm": 36, "riscv32": 0}    # what the processor itself saves, with its alignment
 
 
@@ -44,7 +45,11 @@ class Calls:
             if size:
                 self.frames[title] = int(size[1])
         for source, target in re.findall(r'^edge: \{ sourcename: "([^"]*)" targetname: "([^"]*)"', text, re.M):
-            self.calls.setdefault(source, set()).add(target)
+            deep = RECURSIVE.get(re.sub(r"_\d+$", "", source.rsplit(":", 1)[-1].split(".")[0])) if source == target else None
+            if deep:
+                self.frames[source] *= deep
+            else:
+                self.calls.setdefault(source, set()).add(target)
 
     def depth(self, name, above=()):
         if name in above:

@@ -7,4 +7,4 @@ RING=128
 LOOP=waits
 PROCESSOR=arm
 MACHINE=stm32vldiscovery
-STACK=2208
+STACK=2624
