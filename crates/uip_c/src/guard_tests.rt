@@ -70,6 +70,9 @@ fn a_device_on_ethernet_is_protected_too(rt: HostRuntime) {
     );
     assert_eq!(rt; uip_protect(alloc, &mut device, SECRET), OK);
     assert_eq!(rt; uip_protect(alloc, &mut device, SECRET), BAD_ARGUMENT);
-    assert_eq!(rt; uip_guard_counter(alloc, &mut device, 1), UipNumber::read(0));
+    assert_eq!(rt;
+        uip_guard_counter(alloc, &mut device, 1),
+        UipNumber::read(0)
+    );
     close(&rt, alloc, device);
 }
