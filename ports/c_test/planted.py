@@ -3,6 +3,7 @@
 
     python3 ports/c_test/planted.py CLANG [MODULES]      MODULES random modules at most for each fault (20)
 """
+import itertools
 import os
 import shutil
 import subprocess
@@ -11,7 +12,7 @@ import tempfile
 
 sys.path.insert(0, os.path.dirname(os.path.dirname(os.path.abspath(__file__))))
 
-from c_test.run import HERE, Wrong, compared, modules
+from c_test.run import HERE, HOSTS, QUICK, Wrong, compared, modules
 
 PORTS = os.path.dirname(HERE)
 FAULTS = [    # the fault, the file in to_c/, its text, and the text that replaces it
@@ -78,15 +79,15 @@ def copied(room, file, old, new):
 
 
 def found_by(fault, clang, count):
-    """What finds a fault, or None."""
+    """What finds a fault, or None. The quick hosts try all modules first."""
     with tempfile.TemporaryDirectory() as room:
         os.mkdir(os.path.join(room, "ports"))
         to_c = copied(os.path.join(room, "ports"), *fault[1:])
-        for name, text in modules(count, 1):
+        for hosts, (name, text) in itertools.product((QUICK, HOSTS), list(modules(count, 1))):
             if text.startswith("; refused"):
                 continue
             try:
-                compared(text, clang, room, to_c)
+                compared(text, clang, room, to_c, hosts)
             except (Wrong, subprocess.TimeoutExpired) as why:
                 return f"{name}: {why}"
     return None

@@ -21,7 +21,8 @@ from to_c.forms import Unsupported
 from to_c.prepare import optimised
 
 TO_C = os.environ.get("TO_C", os.path.join(HERE, "..", "to_c.py"))
-HOSTS = (    # the quick ones first
+QUICK = (("tcc", ""), ("i686-linux-gnu-gcc -O0 -static", ""))
+HOSTS = (
     ("tcc", ""), ("i686-linux-gnu-gcc -O2 -static", ""), ("mips-linux-gnu-gcc -O1 -static", "qemu-mips"), ("gcc -O1", ""),
     ("clang -O1 -fsanitize=undefined,address -fno-sanitize-recover=all", ""), ("g++ -x c++ -O1", ""),
     ("s390x-linux-gnu-gcc -O2 -static", "qemu-s390x"))
@@ -58,15 +59,15 @@ def by_clang(text, clang):
         return run([program], "by clang", LIMIT), optimised(text, clang)
 
 
-def compared(text, clang, room, to_c=TO_C):
-    """Compares a module with its translation on each host that is here."""
+def compared(text, clang, room, to_c=TO_C, hosts=HOSTS):
+    """Compares a module with its translation on each of these hosts that is here."""
     module, c_file, program = (os.path.join(room, it) for it in ("m.ll", "m.c", "program"))
     main = os.path.join(HERE, "main.c")
     must, small = by_clang(text, clang)
     for kind, form in (("as it is", text), ("optimised", small)):
         write(module, form)
         run([sys.executable, to_c, "--plain", module, c_file], "to_c.py")
-        for compiler, runner in HOSTS:
+        for compiler, runner in hosts:
             words = compiler.split()
             if not shutil.which(words[0]) or (runner and not shutil.which(runner)):
                 continue
