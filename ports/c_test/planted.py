@@ -3,6 +3,7 @@
 
     python3 ports/c_test/planted.py CLANG [MODULES]      MODULES random modules at most for each fault (20)
 """
+import itertools
 import os
 import shutil
 import subprocess
@@ -11,7 +12,7 @@ import tempfile
 
 sys.path.insert(0, os.path.dirname(os.path.dirname(os.path.abspath(__file__))))
 
-from c_test.run import HERE, Wrong, compared, modules
+from c_test.run import HERE, HOSTS, QUICK, Wrong, compared, modules
 
 PORTS = os.path.dirname(HERE)
 FAULTS = [    # the fault, the file in to_c/, its text, and the text that replaces it
@@ -45,6 +46,8 @@ FAULTS = [    # the fault, the file in to_c/, its text, and the text that replac
     ("a load of 64 bits is below 2^32", "narrow.py", "        return FULL\n\n    @staticmethod\n    def of_binary", "        return SIZE\n\n    @staticmethod\n    def of_binary"),
     ("a shift to the right needs no upper half", "narrow.py", 'MODULAR = ("add",', 'MODULAR = ("lshr", "add",'),
     ("a comparison needs no upper half", "narrow.py", 'if it.form == "offset" or', 'if it.form in ("offset", "compare") or'),
+    ("a loop that wraps at 2^64 counts in 32 bits", "narrow.py", ' or not step.is_upward \\\n', ' \\\n'),
+    ("two structs that are made of one share a variable", "memory.py", "if it.value in self.built and self.uses[it.value] == 1:", "if it.value in self.built:"),
     ("slots that are in use at once share memory", "slots.py", "if not any(conflicts[name] & self.bit[other] for other in group):", "if True:"),
     ("an address has the alignment of its best choice", "alignment.py", "modulus = min(one[0], other[0])", "modulus = max(one[0], other[0])\n    return modulus, 0"),
     ("an offset does not change an alignment", "alignment.py", "return fact and (fact[0], (fact[1] + by) % fact[0])", "return fact"),
@@ -76,15 +79,15 @@ def copied(room, file, old, new):
 
 
 def found_by(fault, clang, count):
-    """What finds a fault, or None."""
+    """What finds a fault, or None. The quick hosts try all modules first."""
     with tempfile.TemporaryDirectory() as room:
         os.mkdir(os.path.join(room, "ports"))
         to_c = copied(os.path.join(room, "ports"), *fault[1:])
-        for name, text in modules(count, 1):
+        for hosts, (name, text) in itertools.product((QUICK, HOSTS), list(modules(count, 1))):
             if text.startswith("; refused"):
                 continue
             try:
-                compared(name, text, clang, room, to_c)
+                compared(text, clang, room, to_c, hosts)
             except (Wrong, subprocess.TimeoutExpired) as why:
                 return f"{name}: {why}"
     return None

@@ -5,6 +5,7 @@
 
 Each module is translated as it is, and optimised first. A module of cases/ whose first line is `; refused: WHY` must be refused with WHY.
 """
+import functools
 import glob
 import os
 import shutil
@@ -20,17 +21,21 @@ from to_c.forms import Unsupported
 from to_c.prepare import optimised
 
 TO_C = os.environ.get("TO_C", os.path.join(HERE, "..", "to_c.py"))
-HOSTS = (("gcc -O1", ""), ("i686-linux-gnu-gcc -O2 -static", ""), ("mips-linux-gnu-gcc -O1 -static", "qemu-mips"), ("tcc", ""),
-         ("clang -O1 -fsanitize=undefined,address -fno-sanitize-recover=all", ""), ("g++ -x c++ -O1", ""),
-         ("s390x-linux-gnu-gcc -O2 -static", "qemu-s390x"))
+QUICK = (("tcc", ""), ("i686-linux-gnu-gcc -O0 -static", ""))
+HOSTS = (
+    ("tcc", ""), ("i686-linux-gnu-gcc -O2 -static", ""), ("mips-linux-gnu-gcc -O1 -static", "qemu-mips"), ("gcc -O1", ""),
+    ("clang -O1 -fsanitize=undefined,address -fno-sanitize-recover=all", ""), ("g++ -x c++ -O1", ""),
+    ("s390x-linux-gnu-gcc -O2 -static", "qemu-s390x"))
+LIMIT = 120 * int(os.environ.get("PATIENCE", "1"))    # seconds of a program, which takes less than one
 
 
 class Wrong(Exception):
     """A module whose translation does not do what it does."""
 
 
-def run(words, what):
-    done = subprocess.run(words, capture_output=True, text=True, timeout=120, check=False)
+def run(words, what, limit=None):
+    """The output of a command. A program of a module may have no end, so it has a limit; a compiler has none."""
+    done = subprocess.run(words, capture_output=True, text=True, timeout=limit, check=False)
     if done.returncode:
         lines = (done.stdout + done.stderr).strip().splitlines()
         raise Wrong(f"{what}: {lines[-1] if lines else done.returncode}")
@@ -42,23 +47,32 @@ def write(path, text):
         file.write(text)
 
 
-def compared(name, text, clang, room, to_c=TO_C):
-    """Compares a module with its translation on each host that is here."""
-    module, object_file, c_file, program = (os.path.join(room, it) for it in ("m.ll", "m.o", "m.c", "program"))
-    write(module, text)
+@functools.lru_cache(None)
+def by_clang(text, clang):
+    """What a module does by clang alone, and its optimised text."""
     main = os.path.join(HERE, "main.c")
-    run([clang, "-w", "--target=x86_64-unknown-linux-gnu", "-O0", "-c", "-x", "ir", module, "-o", object_file], "clang")
-    run(["gcc", "-w", "-DMODULE", main, object_file, "-o", program], "gcc")
-    must = run([program], f"{name} by clang")
-    for kind, text_of in (("as it is", lambda: text), ("optimised", lambda: optimised(text, clang))):
-        write(module, text_of())
+    with tempfile.TemporaryDirectory() as room:
+        module, object_file, program = (os.path.join(room, it) for it in ("m.ll", "m.o", "program"))
+        write(module, text)
+        run([clang, "-w", "--target=x86_64-unknown-linux-gnu", "-O0", "-c", "-x", "ir", module, "-o", object_file], "clang")
+        run(["gcc", "-w", "-DMODULE", main, object_file, "-o", program], "gcc")
+        return run([program], "by clang", LIMIT), optimised(text, clang)
+
+
+def compared(text, clang, room, to_c=TO_C, hosts=HOSTS):
+    """Compares a module with its translation on each of these hosts that is here."""
+    module, c_file, program = (os.path.join(room, it) for it in ("m.ll", "m.c", "program"))
+    main = os.path.join(HERE, "main.c")
+    must, small = by_clang(text, clang)
+    for kind, form in (("as it is", text), ("optimised", small)):
+        write(module, form)
         run([sys.executable, to_c, "--plain", module, c_file], "to_c.py")
-        for compiler, runner in HOSTS:
+        for compiler, runner in hosts:
             words = compiler.split()
             if not shutil.which(words[0]) or (runner and not shutil.which(runner)):
                 continue
             run([*words, "-w", f"-I{HERE}/../../include", f'-DTRANSLATION="{c_file}"', main, "-o", program], f"{kind}, {compiler}")
-            if run([*runner.split(), program], f"{kind}, {compiler}") != must:
+            if run([*runner.split(), program], f"{kind}, {compiler}", LIMIT) != must:
                 raise Wrong(f"{kind}, {compiler}: it differs")
 
 
@@ -93,7 +107,7 @@ def main():
                 if first.startswith("; refused: "):
                     refused(text, first.removeprefix("; refused: "), room)
                 else:
-                    compared(name, text, words[0], room)
+                    compared(text, words[0], room)
             except (Wrong, Unsupported, subprocess.TimeoutExpired) as why:
                 wrong += 1
                 print(f"WRONG: {name}: {why}", flush=True)

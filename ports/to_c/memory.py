@@ -134,12 +134,17 @@ class Memory(Values):
         self.give(it, "i64" if is_wide else "ptr", value if is_wide else self.pointer(value))
 
     def insert(self, it):
+        """A value in which one field is new: a variable of its own, or that of a value which no other instruction uses."""
         text = self.value(it.given, it.part)
         old = None if it.value == "poison" else self.value(it.value, it.kind)
-        local = self.whole(it)
-        if old:
-            self.line(f"{local} = {old.text};")
-        self.line(f"{local}.f{it.index} = {text.text};")
+        if it.value in self.built and self.uses[it.value] == 1:
+            self.values[it.result], self.kinds[it.result] = old, it.kind
+        else:
+            local = self.whole(it)
+            if old:
+                self.line(f"{local} = {old.text};")
+        self.built.add(it.result)
+        self.line(f"{self.values[it.result].text}.f{it.index} = {text.text};")
 
     def field(self, it):
         whole, kind = self.value(it.value, it.kind), parts_of(it.kind)[int(it.index)]

@@ -31,8 +31,25 @@ class Bounds:
             self.note_branch(label, block.end)
             for it in block.body:
                 self.note_use(label, it)
+        self.ends = {}      # by the next number of a loop that counts up: what it becomes at the end
+        for label, inside in shape.loops.items():
+            self.note_counting(label, inside)
 
     # -- facts of places
+
+    def note_counting(self, label, inside):
+        """Notes the loops that count up until a number equals another. They pass over that only if a sum wraps, which `nuw` excludes."""
+        made = {it.result for place in inside for it in self.shape.blocks[place].body}
+        for phi in self.shape.blocks[label].body:
+            for source, value in phi.sources.items() if phi.form == "phi" and phi.kind == "i64" else ():
+                step = self.made.get(value)
+                if source not in inside or step is None or step.form != "binary" or step.how != "add" or not step.is_upward \
+                        or step.one != phi.result or not is_constant(step.other) or int(step.other) <= 0:
+                    continue
+                for place, how, other in self.facts.get(value, ()):
+                    is_here = place == (source, label) if isinstance(place, tuple) else self.shape.dominates(place, source)
+                    if how == "ne" and is_here and other not in made:
+                        self.ends[value] = other
 
     def note_branch(self, label, end):
         if end.form == "branch" and end.yes != end.no:
@@ -103,7 +120,8 @@ class Bounds:
         if it.form == "cast":
             return 2**bits(it.kind) - 1 if it.how == "zext" else FULL
         if it.form == "binary":
-            return self.of_binary(it, self.at(it.one, label), self.at(it.other, label))
+            bound = self.of_binary(it, self.at(it.one, label), self.at(it.other, label))
+            return min(bound, self.of(self.ends[it.result])) if it.result in self.ends else bound
         if it.form == "number":
             return FULL if it.value in self.wide else SIZE
         if it.form == "phi":

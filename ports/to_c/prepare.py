@@ -4,7 +4,11 @@ import subprocess
 
 from .forms import ANY, ATTRIBUTES, META, NAME, STRUCT, VALUE, parts_of, require
 
-CLANG = ("--target=x86_64-unknown-linux-gnu", "-Os", "-mllvm", "-force-attribute=optsize", "-fno-vectorize", "-fno-slp-vectorize",
+# A loop of few rounds is written out where that is short: at most 24 rounds are looked at, and up to four times as much is short where most of
+# a round is known beforehand, as in a loop that adds to one counter of twenty.
+UNROLL = [word for option in ("threshold=30", "max-iteration-count-to-analyze=24", "max-percent-threshold-boost=400")
+          for word in ("-mllvm", f"-unroll-{option}")]
+CLANG = ("--target=x86_64-unknown-linux-gnu", "-Os", "-mllvm", "-force-attribute=optsize", "-fno-vectorize", "-fno-slp-vectorize", *UNROLL,
          "-S", "-emit-llvm", "-x", "ir", "-", "-o", "-")
 LOAD = re.compile(rf"  ({NAME}) = load ptr, ptr (\S+), align (\d+)(.*)")
 STORE = re.compile(r"  store ptr (\S+), ptr (\S+), align (\d+)")

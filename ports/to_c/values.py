@@ -19,7 +19,7 @@ class Values:
         self.function, self.shape, self.facts, self.names = function, shape, facts, names
         self.wide, self.sized = facts.wide.of(function.name), facts.narrow.of(function.name)
         self.lines, self.depth, self.top = [], 1, []    # `top` has the declarations at the start
-        self.values, self.pending, self.slot_texts = {}, {}, set()
+        self.values, self.pending, self.slot_texts, self.built = {}, {}, set(), set()
         self.kinds = {name: self.kind_of(name, kind) for name, kind in zip(function.names, function.kinds)}
         self.taken = set(names.values()) | reserved
         self.count_uses()
