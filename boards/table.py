@@ -15,7 +15,7 @@ import sys
 HERE = os.path.dirname(os.path.abspath(__file__))
 README = os.path.join(HERE, "README.md")
 BEGIN, END = "<!-- table.py writes this table -->\n", "<!-- to here -->\n"
-RECURSIVE = {"slot_guard_choice_slots_of": 11}    # it calls itself for each of the ten slots, and once behind the last
+RECURSIVE = {"slot_guard_choice_slots_of": 11}    # it calls itself for each of the ten slots, and once after the last
 INTERRUPT_FRAME = {"arm": 36, "riscv32": 0}    # what the processor itself saves, with its alignment
 
 

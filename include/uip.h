@@ -339,7 +339,8 @@ uip_opened uip_open_ether(uip_device *device, const unsigned char *image, size_t
 /* Gives a device a secret, so that no host can predict its sequence numbers (RFC 6528). Call it once, after
  * opening and before the first input and the first tick.
  *
- *   secret    16 random bytes, other ones for each device ("A secret" in docs/FIRMWARE.md). They are copied
+ *   secret    16 random bytes, new ones at each start if you can: with the same ones the numbers repeat after
+ *             a reset. Never the same for two devices ("A secret" in docs/FIRMWARE.md). They are copied
  *
  *   Status    UIP_NO_DEVICE; UIP_BAD_ARGUMENT (it has a secret already, or its node took a datagram, or slot 0
  *             was called; on Ethernet: or it took a frame, or any slot was called. Nothing changes); UIP_OK
@@ -517,10 +518,10 @@ UIP_INLINE unsigned uip_tick_frames(uip_device *device, unsigned char *frame, si
  *
  * The node reads a value of a page when the peer has acknowledged all bytes of the reply that come before
  * it, the HTTP header included. So if you see a request, and set a value before the next call that takes
- * input, the reply to this request has it. Each value of a page costs a round trip, and two values may be of
- * two moments: make one value of what belongs together. A segment that is sent again has the same bytes,
- * also if the value has changed. Between two empty values without text between them the reply waits for a
- * tick.
+ * input, the reply to this request has it. Each value of a page costs a round trip, and two values, also
+ * the same number twice, may be of two moments: make one value of what belongs together. A segment that is
+ * sent again has the same bytes, also if the value has changed. Between two empty values without text between
+ * them the reply waits for a tick.
  */
 unsigned uip_set_value(uip_device *device, size_t number, const void *text, size_t len);
 

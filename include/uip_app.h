@@ -110,7 +110,8 @@ unsigned uip_app_open(uip_app *device, const unsigned char own[4], const unsigne
 /* Gives a device a secret, so that no host can predict its sequence numbers (RFC 6528). Call it once, after
  * opening and before the first frame and the first call of a slot.
  *
- *   secret    16 random bytes, other ones for each device ("A secret" in docs/FIRMWARE.md). They are copied
+ *   secret    16 random bytes, new ones at each start if you can: with the same ones the numbers repeat after
+ *             a reset. Never the same for two devices ("A secret" in docs/FIRMWARE.md). They are copied
  *
  *   Status    UIP_NO_DEVICE; UIP_BAD_ARGUMENT (it has a secret already, or a frame was received or a slot was
  *             called: nothing changes); UIP_OK
