@@ -138,6 +138,16 @@ static void is_as_judged(const guard_view *g, judgement by_guard, const byte *da
     }
 }
 
+// Text beside the ACK of a FIN is taken, and nothing is sent for it (FIN-WAIT-1 to FIN-WAIT-2).
+static void text_with_ack_of_fin(const guard_view *g, const byte *datagram, size_t len) {
+    segment in;
+    if (!is_segment(datagram, len) || !read_segment(datagram, (size_t)datagram[2] << 8 | datagram[3], &in)) return;
+    const held *c = held_by(g, &in);
+    if (!c || c->state != UIP_FIN_WAIT_1) return;
+    uip_row row = uip_connection(&by_datagrams.handle, (size_t)(c - g->slots));
+    if (row.state == UIP_FIN_WAIT_2) takes_silently(c, in.len);
+}
+
 static void hear_one(const byte *datagram, size_t len) {
     static byte room[LARGEST];
     text sent = {room, 0};
@@ -151,6 +161,7 @@ static void hear_one(const byte *datagram, size_t len) {
     is_as_judged(&g, by_guard, datagram, len, sent.len);
     frames_hear(datagram, len, room, sent.len);
     if (sent.len) reply_has_number(&g, datagram, room, sent.len);
+    else text_with_ack_of_fin(&g, datagram, len);
     take_sent(datagram, len, room, sent.len);
 }
 

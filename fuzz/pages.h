@@ -59,6 +59,7 @@ unsigned hits_foretold(const byte *name, size_t len);
 unsigned least_hits(const byte *name, size_t len);                         // before what is being heard
 query query_foretold(const byte *name, size_t len);
 void row_is_foretold(unsigned slot, const uip_row *row);
+void takes_silently(const held *c, size_t len);                            // bytes that no segment acknowledges yet
 void numbers_are_known(held *c, int waits);                                // of a connection at port 80, from what was sent to its peer
 
 // model.c: what a node counts of datagrams that come and go.

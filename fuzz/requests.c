@@ -128,6 +128,11 @@ void numbers_are_known(held *c, int waits) {
     c->rcv = p->next, c->una = waits ? p->sent : p->sent + p->sent_len, c->out = waits ? p->sent_len : 0;
 }
 
+void takes_silently(const held *c, size_t len) {
+    peer *p = peer_at(c->peer, c->port);
+    if (p) p->next += (unsigned)len;
+}
+
 // A row by what was sent to its peer: text and FIN come behind SYN-RCVD, a FIN stands at the states that have sent one, and those that
 // wait for nothing have nothing outstanding.
 void row_is_foretold(unsigned slot, const uip_row *row) {
