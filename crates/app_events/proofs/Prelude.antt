@@ -1,5 +1,6 @@
 -- The names that the proofs of this crate cite: of std, of the crates below, and of its own definitions. Declares nothing.
-pub use Rattle.app_events.specs.Prelude.{AppSpec, AppState, CanSupply, CanSend, FixedRepresents, Grows, IsLawful, IsPrefixOf, IsRepresented, fixed_same_left, fixed_spec, fixed_text, hello, text_left}
+pub use Rattle.app_events.specs.Prelude.{AppSpec, AppState, CanSupply, CanSend, FixedRepresents, Grows, IsLawful, IsPrefixOf, IsRepresented}
+pub use Rattle.app_events.specs.Prelude.{fixed_same_left, fixed_spec, fixed_text, hello, text_left}
 pub use Rattle.app_events.specs.declared.fixed.Fixed.{Fixed}
 pub use Rattle.app_events.specs.declared.want.Want.{Want}
 pub use Rattle.app_events.specs.declared.want.Want.TheVariants.{Send}

@@ -5,7 +5,8 @@ use Rattle.app_pair.specs.PairNumbers.{with_own}
 use Rattle.app_pair.specs.PairSpec.{KeepsCaptures, by_port, one_of_two, spec_at}
 use Rattle.app_pair.specs.TwoApplications.{ActsAs, NumbersAfter, PairIsTwoApplications}
 use Rattle.app_pair.specs.Lemmas.NumberLaws.{others_stay, own_back}
-use Rattle.app_pair.specs.Lemmas.PairLaws.{at_first, at_second, pair_again, sees_acked, sees_connected, sees_newdata, sees_polled, sees_prepare}
+use Rattle.app_pair.specs.Lemmas.PairLaws.{at_first, at_second, pair_again, sees_acked, sees_connected, sees_newdata, sees_polled}
+use Rattle.app_pair.specs.Lemmas.PairLaws.{sees_prepare}
 
 numbers_after : (second : Bool) (before own : List ℕ) → NumbersAfter second before (with_own second own before) own
 numbers_after second before own = record { its_own = own_back second own before; others = others_stay second own before }

@@ -38,7 +38,8 @@ pub written : (a : Counter) (n : ℕ) → CanSupply means Represents a tt n → 
 written a n says p s = rw (s.at, s.number) (output p.own p.input p.acked n s.within (can a n says p s))
 
 -- how far the offset may move
-pub moves : (a : Counter) (n : ℕ) → CanSupply means Represents a tt n → (p : AppState) → CounterRepresents a p → p.acked + n ≤ length (counter_text p.own p.input)
+pub moves : (a : Counter) (n : ℕ) → CanSupply means Represents a tt n → (p : AppState) → CounterRepresents a p
+    → p.acked + n ≤ length (counter_text p.own p.input)
 moves a n says p s =
     let k : n ≤ length (text_left counter_spec p) = can a n says p s in
     omega (arith, k, s.within, length-drop p.acked (counter_text p.own p.input))

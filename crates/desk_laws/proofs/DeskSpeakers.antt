@@ -1,5 +1,11 @@
 -- The output model of the desk at each port: the shell's session at port 23, and the pages of its files at any other.
-use Rattle.desk_laws.proofs.Prelude.{All, ◌≡◌, ℕ, ◌<◌, ◌≤◌, ◌==◌, Bool, true, false, not, inl, inr, List, [], ◌++◌, length, refl, sym, ap, ◌∙◌, subst, arith, append-nil, if◌then◌else◌, eqb-true, IsSnapshot, IsPaged, MayWant, AppSpec, Snapshot, AppState, Now, Want, Close, File, SiteContent, IsLoaded, files_of, pages_of, web_spec, keeps_page_laws, choose, not-true, IsServed, World, Side, AtPorts, ReceivesSome, KeepsReceived, Speaker, HasOutputModel, page_by, TELNET_PORT, desk_spec, app_spec_at, at_shell, at_web, StaysAtPort, is_stopped, shell_spec, take_capture, DeliversPrefix, sessions, desk_steady, keeps_session, two_applications}
+use Rattle.desk_laws.proofs.Prelude.{All, ◌≡◌, ℕ, ◌<◌, ◌≤◌, ◌==◌, Bool, true, false, not, inl, inr, List, [], ◌++◌, length, refl, sym, ap}
+use Rattle.desk_laws.proofs.Prelude.{◌∙◌, subst, arith, append-nil, if◌then◌else◌, eqb-true, IsSnapshot, IsPaged, MayWant, AppSpec}
+use Rattle.desk_laws.proofs.Prelude.{Snapshot, AppState, Now, Want, Close, File, SiteContent, IsLoaded, files_of, pages_of, web_spec}
+use Rattle.desk_laws.proofs.Prelude.{keeps_page_laws, choose, not-true, IsServed, World, Side, AtPorts, ReceivesSome, KeepsReceived}
+use Rattle.desk_laws.proofs.Prelude.{Speaker, HasOutputModel, page_by, TELNET_PORT, desk_spec, app_spec_at, at_shell, at_web, StaysAtPort}
+use Rattle.desk_laws.proofs.Prelude.{is_stopped, shell_spec, take_capture, DeliversPrefix, sessions, desk_steady, keeps_session}
+use Rattle.desk_laws.proofs.Prelude.{two_applications}
 use Rattle.desk_laws.proofs.ShortSessions.{sessions_short}
 
 abbrev pub session_speaker : Speaker
@@ -45,7 +51,8 @@ module _ (site : SiteContent) (loaded : IsLoaded site) where
   still_session : (p q : AppState) → q.port ≡ p.port → session_speaker.here p ≡ true → session_speaker.here q ≡ true
   still_session p q e h = ap (λ (n : ℕ). n == TELNET_PORT) e ∙ h
 
-  session_receives : (numbers : List ℕ) (p : AppState) (piece : List ℕ) → session_speaker.here p ≡ true → ReceivesSome session_speaker p (desk.newdata numbers p piece).part piece
+  session_receives : (numbers : List ℕ) (p : AppState) (piece : List ℕ) → session_speaker.here p ≡ true
+      → ReceivesSome session_speaker p (desk.newdata numbers p piece).part piece
   session_receives numbers p piece h =
       let f : DeliversPrefix p (shell_spec.newdata numbers p piece).part piece = keeps_session.delivers_text numbers p piece in
       let port : (desk.newdata numbers p piece).part.port ≡ p.port = keeps_port.newdata numbers p piece in
@@ -67,7 +74,8 @@ module _ (site : SiteContent) (loaded : IsLoaded site) where
   session_keeps : (p q : AppState) → q.port ≡ p.port → session_speaker.here p ≡ true → (q.input ≡ p.input) × (q.own ≡ p.own) → KeepsReceived session_speaker p q
   session_keeps p q e h x = record { here = still_session p q e h; input = x.0; lost = ap (λ (n : ℕ). n == 1) x.1 }
 
-  session_prepares : (numbers : List ℕ) (p : AppState) (now : Now) → session_speaker.here p ≡ true → KeepsReceived session_speaker p (desk.prepare numbers p now)
+  session_prepares : (numbers : List ℕ) (p : AppState) (now : Now) → session_speaker.here p ≡ true
+      → KeepsReceived session_speaker p (desk.prepare numbers p now)
   session_prepares numbers p now h =
       as_shell files p.port (λ m. (m.prepare numbers p now).port ≡ p.port → KeepsReceived session_speaker p (m.prepare numbers p now)) h
       (λ e. session_keeps p (shell_spec.prepare numbers p now) e h
@@ -84,7 +92,8 @@ module _ (site : SiteContent) (loaded : IsLoaded site) where
       as_shell files p.port (λ m. (m.polled numbers p).part.port ≡ p.port → KeepsReceived session_speaker p (m.polled numbers p).part) h
       (λ e. session_keeps p (shell_spec.polled numbers p).part e h (refl, refl)) (keeps_port.polled numbers p)
 
-  session_closes : (numbers : List ℕ) (p : AppState) → session_speaker.here p ≡ true → p.acked ≤ length (desk.output p) → desk.want numbers p ≡ Close → MayWant (page_by session_speaker) p Close
+  session_closes : (numbers : List ℕ) (p : AppState) → session_speaker.here p ≡ true → p.acked ≤ length (desk.output p)
+      → desk.want numbers p ≡ Close → MayWant (page_by session_speaker) p Close
   session_closes numbers p h =
       as_shell files p.port (λ m. p.acked ≤ length (m.output p) → m.want numbers p ≡ Close → MayWant (page_by session_speaker) p Close) h
       (λ fits e. subst (λ (w : Want). MayWant sessions p w) e (keeps_session.wants numbers p fits))
@@ -117,7 +126,8 @@ module _ (site : SiteContent) (loaded : IsLoaded site) where
   web_keeps : (p q : AppState) → q.port ≡ p.port → (web_speaker files).here p ≡ true → q.input ≡ p.input → KeepsReceived (web_speaker files) p q
   web_keeps p q e h x = record { here = still_web p q e h; input = x; lost = refl }
 
-  web_receives : (numbers : List ℕ) (p : AppState) (piece : List ℕ) → (web_speaker files).here p ≡ true → ReceivesSome (web_speaker files) p (desk.newdata numbers p piece).part piece
+  web_receives : (numbers : List ℕ) (p : AppState) (piece : List ℕ) → (web_speaker files).here p ≡ true → ReceivesSome (web_speaker files) p
+      (desk.newdata numbers p piece).part piece
   web_receives numbers p piece h = record {
     here = still_web p (desk.newdata numbers p piece).part (keeps_port.newdata numbers p piece) h;
     prefix = piece;
@@ -128,7 +138,8 @@ module _ (site : SiteContent) (loaded : IsLoaded site) where
     no_more = λ e. absurd (cc);
   }
 
-  web_closes : (numbers : List ℕ) (p : AppState) → (web_speaker files).here p ≡ true → p.acked ≤ length (desk.output p) → desk.want numbers p ≡ Close → MayWant (page_by (web_speaker files)) p Close
+  web_closes : (numbers : List ℕ) (p : AppState) → (web_speaker files).here p ≡ true → p.acked ≤ length (desk.output p)
+      → desk.want numbers p ≡ Close → MayWant (page_by (web_speaker files)) p Close
   web_closes numbers p h fits =
       as_web files p.port (λ m. m.want numbers p ≡ Close → MayWant (page_by (web_speaker files)) p Close) h
       (λ e. subst (λ (w : Want). MayWant (pages_of files) p w) e (web_laws.wants numbers p))
@@ -144,9 +155,12 @@ module _ (site : SiteContent) (loaded : IsLoaded site) where
     connected_here = λ numbers port h. ap (λ (n : ℕ). not (n == TELNET_PORT)) (keeps_port.connected numbers port) ∙ h;
     connected_input = λ numbers port h. as_web files port (λ m. (m.connected numbers port).part.input ≡ []) h (web_laws.connected_input numbers port);
     newdata = web_receives;
-    prepare = λ numbers p now h. web_keeps p (desk.prepare numbers p now) (keeps_port.prepare numbers p now) h (as_web files p.port (λ m. (m.prepare numbers p now).input ≡ p.input) h (web_laws.prepare_input numbers p now));
-    acked = λ numbers p n h. web_keeps p (desk.acked numbers p n).part (keeps_port.acked numbers p n) h (as_web files p.port (λ m. (m.acked numbers p n).part.input ≡ p.input) h (web_laws.acked_input numbers p n));
-    polled = λ numbers p h. web_keeps p (desk.polled numbers p).part (keeps_port.polled numbers p) h (as_web files p.port (λ m. (m.polled numbers p).part.input ≡ p.input) h (web_laws.polled_same numbers p).input);
+    prepare = λ numbers p now h. web_keeps p (desk.prepare numbers p now) (keeps_port.prepare numbers p now) h
+        (as_web files p.port (λ m. (m.prepare numbers p now).input ≡ p.input) h (web_laws.prepare_input numbers p now));
+    acked = λ numbers p n h. web_keeps p (desk.acked numbers p n).part (keeps_port.acked numbers p n) h
+        (as_web files p.port (λ m. (m.acked numbers p n).part.input ≡ p.input) h (web_laws.acked_input numbers p n));
+    polled = λ numbers p h. web_keeps p (desk.polled numbers p).part (keeps_port.polled numbers p) h
+        (as_web files p.port (λ m. (m.polled numbers p).part.input ≡ p.input) h (web_laws.polled_same numbers p).input);
     closes = web_closes;
   }
 
@@ -171,6 +185,7 @@ module _ (site : SiteContent) (loaded : IsLoaded site) where
   }
 
   -- what is served by a speaker is due
-  pub served_due : (w : World) (side : Side) (shell : Bool) → IsServed (page_by (speaker_by shell)) w side → IsServed (if shell then sessions else pages_of files) w side
+  pub served_due : (w : World) (side : Side) (shell : Bool) → IsServed (page_by (speaker_by shell)) w side
+      → IsServed (if shell then sessions else pages_of files) w side
   served_due w side true h = record { prefix = h.prefix; all = h.all; whole = h.whole }
   served_due w side false h = record { prefix = h.prefix; all = h.all; whole = h.whole }

@@ -1,5 +1,9 @@
 -- The laws of the link world at the desk.
-use Rattle.desk_laws.proofs.Prelude.{◌==◌, inl, inr, AppSpec, SiteContent, IsLoaded, files_of, pages_of, DeliveredBytes, World, Framed, in_step_plainly, in_step_where, AtPorts, G, other, reset, evict, mark, act_good, opening_framed, served_in, reached_plainly, reached_where, again_exactly_plainly, again_exactly_where, same_bytes_plainly, same_bytes_where, tick, TELNET_PORT, desk_spec, desk_steady, DeskMarksRepeats, DeskOneSegment, DeskRepeatsSameBytes, DeskSendsAgain, DeskServes, IsReachedByDesk}
+use Rattle.desk_laws.proofs.Prelude.{◌==◌, inl, inr, AppSpec, SiteContent, IsLoaded, files_of, pages_of, DeliveredBytes, World, Framed}
+use Rattle.desk_laws.proofs.Prelude.{in_step_plainly, in_step_where, AtPorts, G, other, reset, evict, mark, act_good, opening_framed}
+use Rattle.desk_laws.proofs.Prelude.{served_in, reached_plainly, reached_where, again_exactly_plainly, again_exactly_where}
+use Rattle.desk_laws.proofs.Prelude.{same_bytes_plainly, same_bytes_where, tick, TELNET_PORT, desk_spec, desk_steady, DeskMarksRepeats}
+use Rattle.desk_laws.proofs.Prelude.{DeskOneSegment, DeskRepeatsSameBytes, DeskSendsAgain, DeskServes, IsReachedByDesk}
 use Rattle.desk_laws.proofs.DeskBytes.{desk_sends}
 use Rattle.desk_laws.proofs.DeskSpeakers.{desk_ports, served_due}
 
@@ -31,7 +35,8 @@ module _ (site : SiteContent) (loaded : IsLoaded site) where
 
   walked : (w : World) → IsReachedByDesk site w → Walked w
   walked w r = elim r [
-    | inl any ↦ reached_where desk (pages_of (files_of site)) (desk_steady site loaded) DeliveredBytes (desk_sends site loaded) Walked (act_good desk ports) (opening_framed desk ports) w any
+    | inl any ↦ reached_where desk (pages_of (files_of site)) (desk_steady site loaded) DeliveredBytes (desk_sends site loaded) Walked
+        (act_good desk ports) (opening_framed desk ports) w any
     | inr plain ↦ reached_plainly desk (desk_steady site loaded) Walked (act_good desk ports) (opening_framed desk ports) w plain
   ]
 

@@ -1,5 +1,10 @@
 -- How long a session is: each byte received completes one command at most, and no command has more than 1032 bytes of text.
-use Rattle.desk_laws.proofs.Prelude.{All, codes, Bool, true, false, ℕ, ◌+◌, ◌*◌, ◌==◌, ◌≤◌, List, [], ◌∷◌, ◌++◌, length, arith, if◌then◌else◌, length-append, lit<, lit≤, All-head, All-tail, IsSnapshot, Snapshot, length_at_most, capture_of, capture_text, Capture, Empty, texts_short, choose, Command, Refuse, Help, Stats, Conns, Ticks, Quit, Blank, Other, Awaits, Token, all_commands, commands, commands_in, is_quit, next_awaits, tokens, until_quit, Text, Second, Choice, Byte, Answer, function_of, needs_capture, plain_reply, reply_with, transcript, SessionsAreShort}
+use Rattle.desk_laws.proofs.Prelude.{All, codes, Bool, true, false, ℕ, ◌+◌, ◌*◌, ◌==◌, ◌≤◌, List, [], ◌∷◌, ◌++◌, length, arith}
+use Rattle.desk_laws.proofs.Prelude.{if◌then◌else◌, length-append, lit<, lit≤, All-head, All-tail, IsSnapshot, Snapshot, length_at_most}
+use Rattle.desk_laws.proofs.Prelude.{capture_of, capture_text, Capture, Empty, texts_short, choose, Command, Refuse, Help, Stats, Conns}
+use Rattle.desk_laws.proofs.Prelude.{Ticks, Quit, Blank, Other, Awaits, Token, all_commands, commands, commands_in, is_quit, next_awaits}
+use Rattle.desk_laws.proofs.Prelude.{tokens, until_quit, Text, Second, Choice, Byte, Answer, function_of, needs_capture, plain_reply}
+use Rattle.desk_laws.proofs.Prelude.{reply_with, transcript, SessionsAreShort}
 
 -- ---- a byte brings one command at most
 

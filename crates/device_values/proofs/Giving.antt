@@ -1,5 +1,9 @@
 -- A value that is set is shown, and the others stay.
-use Rattle.device_values.proofs.Prelude.{All, ◌≡◌, ℕ, ◌+◌, ◌-◌, ◌*◌, ◌%◌, ◌<◌, ◌≤◌, Bool, true, false, List, ◌∷◌, ◌++◌, drop, get_or, length, ltb, map, min, replicate, take, refl, sym, ap, ◌∙◌, append_assoc, arith, length-append, ltb-false, ltb-true, drop-append-le, get_or-append_right, get_or_append_left, length-drop, length-replicate, length-take-le, take-append-drop, take-append-le, take_at, drop-append-add, get_or-append_seam, take-append_seam, IsByte, GivenIsShown, value_given, value_of}
+use Rattle.device_values.proofs.Prelude.{All, ◌≡◌, ℕ, ◌+◌, ◌-◌, ◌*◌, ◌%◌, ◌<◌, ◌≤◌, Bool, true, false, List, ◌∷◌, ◌++◌, drop, get_or}
+use Rattle.device_values.proofs.Prelude.{length, ltb, map, min, replicate, take, refl, sym, ap, ◌∙◌, append_assoc, arith, length-append}
+use Rattle.device_values.proofs.Prelude.{ltb-false, ltb-true, drop-append-le, get_or-append_right, get_or_append_left, length-drop}
+use Rattle.device_values.proofs.Prelude.{length-replicate, length-take-le, take-append-drop, take-append-le, take_at, drop-append-add}
+use Rattle.device_values.proofs.Prelude.{get_or-append_seam, take-append_seam, IsByte, GivenIsShown, value_given, value_of}
 use Rattle.device_values.proofs.Bytes.{low_same}
 
 -- a value is determined by its length and by its 32 bytes
@@ -37,7 +41,8 @@ trailing_bytes prefix more n history =
     let split : 33 * n + 1 ≡ length prefix + (33 * n + 1 - length prefix) = omega (arith, history) in
     ap (λ k. take 32 (drop k (prefix ++ more))) split ∙ ap (λ l. take 32 l) (drop-append-add prefix more (33 * n + 1 - length prefix))
 
-same_after : (prefix other more : List ℕ) (n : ℕ) → length prefix ≡ length other → length prefix ≤ 33 * n → value_of (prefix ++ more) n ≡ value_of (other ++ more) n
+same_after : (prefix other more : List ℕ) (n : ℕ) → length prefix ≡ length other → length prefix ≤ 33 * n → value_of (prefix ++ more) n
+    ≡ value_of (other ++ more) n
 same_after prefix other more n same history =
     let past_other : length other ≤ 33 * n = omega (arith, same, history) in
     same_value (prefix ++ more) (other ++ more) n

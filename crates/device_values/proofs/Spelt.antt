@@ -1,5 +1,6 @@
 -- A text that is escaped byte by byte.
-use Rattle.device_values.proofs.Prelude.{◌≡◌, ℕ, ◌+◌, ◌<◌, List, ◌++◌, ap, ◌∙◌, flat_map, get_or, length, take, get_or_default, flat_map_next}
+use Rattle.device_values.proofs.Prelude.{◌≡◌, ℕ, ◌+◌, ◌<◌, List, ◌++◌, ap, ◌∙◌, flat_map, get_or, length, take, get_or_default}
+use Rattle.device_values.proofs.Prelude.{flat_map_next}
 
 -- one byte more is spelled
 pub one_more : (f : ℕ → List ℕ) (text before now : List ℕ) (at : ℕ) → before ≡ flat_map f (take at text) → now ≡ before ++ f (get_or text at 0)

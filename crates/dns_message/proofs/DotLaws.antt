@@ -1,5 +1,8 @@
 -- A text cut at its first dot.
-use Rattle.dns_message.proofs.Prelude.{◌≡◌, ℕ, ◌+◌, ◌<◌, ◌≤◌, suc, Bool, true, false, ◌&&◌, eqb, List, [], ◌∷◌, ◌++◌, length, take, drop, get_or, refl, sym, ap, ◌∙◌, arith, add-one, length-take, Option, None, Some, is_some, nat_le, split_at, get_or-take, All-from_get_or, length-slice_split, slice_split_at, slice_split_none, IsFirstByte, is_byte, labels}
+use Rattle.dns_message.proofs.Prelude.{◌≡◌, ℕ, ◌+◌, ◌<◌, ◌≤◌, suc, Bool, true, false, ◌&&◌, eqb, List, [], ◌∷◌, ◌++◌, length, take, drop}
+use Rattle.dns_message.proofs.Prelude.{get_or, refl, sym, ap, ◌∙◌, arith, add-one, length-take, Option, None, Some, is_some, nat_le}
+use Rattle.dns_message.proofs.Prelude.{split_at, get_or-take, All-from_get_or, length-slice_split, slice_split_at, slice_split_none}
+use Rattle.dns_message.proofs.Prelude.{IsFirstByte, is_byte, labels}
 
 not_true : (b : Bool) → (b ≡ true → ⊥) → b ≡ false
 not_true true h = absurd (h refl)

@@ -1,5 +1,8 @@
 -- A query is read back as the question that was asked.
-use Rattle.dns_message.proofs.Prelude.{◌≡◌, ℕ, ◌+◌, ◌≤◌, Bool, true, false, ◌&&◌, leb, List, [], ◌∷◌, ◌++◌, length, drop, refl, sym, ap, ◌∙◌, arith, append_assoc, flat_map, join_with_byte, list_all, join_with_byte-slice_split, same_word, bytes_of, reads_back, udp_data, query_message, is_label, is_label_byte, is_domain, label_bytes, labels, IsAsked, QueriesAreReadBack, has_label_size, query_datagram, way_there}
+use Rattle.dns_message.proofs.Prelude.{◌≡◌, ℕ, ◌+◌, ◌≤◌, Bool, true, false, ◌&&◌, leb, List, [], ◌∷◌, ◌++◌, length, drop, refl, sym, ap}
+use Rattle.dns_message.proofs.Prelude.{◌∙◌, arith, append_assoc, flat_map, join_with_byte, list_all, join_with_byte-slice_split, same_word}
+use Rattle.dns_message.proofs.Prelude.{bytes_of, reads_back, udp_data, query_message, is_label, is_label_byte, is_domain, label_bytes}
+use Rattle.dns_message.proofs.Prelude.{labels, IsAsked, QueriesAreReadBack, has_label_size, query_datagram, way_there}
 
 both_true : (a b : Bool) → (a && b) ≡ true → (a ≡ true) × (b ≡ true)
 both_true true b e = (refl, e)

@@ -1,5 +1,8 @@
 -- The walks over names and records, one step at a time.
-use Rattle.dns_message.proofs.Prelude.{◌≡◌, ℕ, zero, suc, ◌+◌, ◌<◌, ◌≤◌, Bool, true, false, cond, eqb, if◌then◌else◌, ltb, slice_index, List, [], ◌∷◌, length, drop, refl, sym, ap, ◌∙◌, arith, add-one, Option, None, Some, after_the_name, after_pointer, Record, address_in, answer_by, answer_of_records, first_record, is_address, records, records_by, Answer, Address, find}
+use Rattle.dns_message.proofs.Prelude.{◌≡◌, ℕ, zero, suc, ◌+◌, ◌<◌, ◌≤◌, Bool, true, false, cond, eqb, if◌then◌else◌, ltb, slice_index}
+use Rattle.dns_message.proofs.Prelude.{List, [], ◌∷◌, length, drop, refl, sym, ap, ◌∙◌, arith, add-one, Option, None, Some, after_the_name}
+use Rattle.dns_message.proofs.Prelude.{after_pointer, Record, address_in, answer_by, answer_of_records, first_record, is_address, records}
+use Rattle.dns_message.proofs.Prelude.{records_by, Answer, Address, find}
 
 pub skipped : (k : ℕ) (bytes : List ℕ) → k ≤ length bytes → after_the_name k bytes ≡ after_the_name 0 (drop k bytes)
 skipped zero bytes h = refl
@@ -24,7 +27,8 @@ label_first [] count h same some short = absurd (omega arith)
 label_first (b ∷ bytes) count h same some short =
     let e : b ≡ count = sym same in
     ap (λ c. after_the_name 0 (c ∷ bytes)) e
-    ∙ ap (λ t. if t then Some bytes else if ltb count 64 then after_the_name count bytes else if ltb count 192 then None else after_pointer bytes) (some_count count some)
+    ∙ ap (λ t. if t then Some bytes else if ltb count 64 then after_the_name count bytes else if ltb count 192 then None else after_pointer
+    bytes) (some_count count some)
     ∙ ap (λ t. if t then after_the_name count bytes else if ltb count 192 then None else after_pointer bytes) (short_count count short)
 
 not_address_by : (b : Bool) (content : List ℕ) → ◌≡◌ {A = Option (List ℕ)} (if b then Some content else None) None → b ≡ false

@@ -1,5 +1,11 @@
 -- The records that are read from bytes are those that the bytes represent.
-use Rattle.dns_message.proofs.Prelude.{◌≡◌, ℕ, zero, suc, ◌+◌, ◌-◌, ◌*◌, ◌<◌, ◌≤◌, ◌⊎◌, inl, inr, Bool, true, false, ◌&&◌, eqb, leb, ltb, if◌then◌else◌, List, [], ◌∷◌, ◌++◌, length, length-append, length-take, length-drop, map, take, drop, slice_index, slice_range, Option, Some, None, option_and_then, refl, sym, ap, ◌∙◌, append_assoc, arith, subst, get_or-append, drop_split, drop-drop, drop_at, get_or-take, take-append-drop, take_at, AllByRecursion, flat_map, list_all, word_at, passes, not_less, after_the_name, after_pointer, label_bytes, AreSpelled, IsSpelled, RecordsAreSpelled, Spelled, has_label_size, is_ending, record_of, spelled_bytes, Record, first_record, record_after, records, records_by}
+use Rattle.dns_message.proofs.Prelude.{◌≡◌, ℕ, zero, suc, ◌+◌, ◌-◌, ◌*◌, ◌<◌, ◌≤◌, ◌⊎◌, inl, inr, Bool, true, false, ◌&&◌, eqb, leb, ltb}
+use Rattle.dns_message.proofs.Prelude.{if◌then◌else◌, List, [], ◌∷◌, ◌++◌, length, length-append, length-take, length-drop, map, take, drop}
+use Rattle.dns_message.proofs.Prelude.{slice_index, slice_range, Option, Some, None, option_and_then, refl, sym, ap, ◌∙◌, append_assoc}
+use Rattle.dns_message.proofs.Prelude.{arith, subst, get_or-append, drop_split, drop-drop, drop_at, get_or-take, take-append-drop, take_at}
+use Rattle.dns_message.proofs.Prelude.{AllByRecursion, flat_map, list_all, word_at, passes, not_less, after_the_name, after_pointer}
+use Rattle.dns_message.proofs.Prelude.{label_bytes, AreSpelled, IsSpelled, RecordsAreSpelled, Spelled, has_label_size, is_ending, record_of}
+use Rattle.dns_message.proofs.Prelude.{spelled_bytes, Record, first_record, record_after, records, records_by}
 use Rattle.dns_message.proofs.RecordLaws.{label_first}
 
 both_true : (a b : Bool) → (a && b) ≡ true → (a ≡ true) × (b ≡ true)
@@ -77,7 +83,8 @@ walked (label ∷ owner) ending rest sized e =
     let later = flat_map label_bytes owner in
     let bytes = (flat_map label_bytes (label ∷ owner) ++ ending) ++ rest in
     label_first bytes (length label) (omega arith) refl (λ z. omega arith) (omega arith)
-    ∙ ap (λ l. after_the_name (length label) l) (append_assoc (label ++ later) ending rest ∙ append_assoc label later (ending ++ rest) ∙ ap (λ l. label ++ l) (sym (append_assoc later ending rest)))
+    ∙ ap (λ l. after_the_name (length label) l) (append_assoc (label ++ later) ending rest ∙ append_assoc label later (ending ++ rest)
+    ∙ ap (λ l. label ++ l) (sym (append_assoc later ending rest)))
     ∙ skip_label label ((later ++ ending) ++ rest) ∙ walked owner ending rest p.1 e
 
 -- ---- and what is walked was spelled
@@ -171,7 +178,8 @@ read fields content more ten size =
     passes _ _ _ _ (not_less (length bytes) 10 (omega (arith, long)))
     (passes _ _ _ _ (not_less (length bytes) (10 + word_at bytes 8) (omega (arith, long, reported)))
     (same_pair _ _ _ _ _ _ _ _ (word_prefix fields (content ++ more) 0 (omega (arith, ten))) (word_prefix fields (content ++ more) 2 (omega (arith, ten)))
-    (ap (λ k. take (10 + k - 10) (drop 10 bytes)) reported ∙ ap (λ k. take k (drop 10 bytes)) (ten_less n) ∙ ap (λ l. take n l) trailing ∙ take_at content more n refl)
+    (ap (λ k. take (10 + k - 10) (drop 10 bytes)) reported ∙ ap (λ k. take k (drop 10 bytes)) (ten_less n) ∙ ap (λ l. take n l) trailing
+    ∙ take_at content more n refl)
     (ap (λ k. drop (10 + k) bytes) reported ∙ sym (drop-drop n 10 bytes) ∙ ap (λ l. drop n l) trailing ∙ drop_at content more n refl)))
 
 record Fields (bytes : List ℕ) (r : Record) (rest : List ℕ) : Type 0 where
@@ -190,11 +198,13 @@ word_taken bytes at h =
 abbrev record_at : List ℕ → Record
 record_at bytes = record { kind = word_at bytes 0; class = word_at bytes 2; content = slice_range bytes 10 (10 + word_at bytes 8) }
 
-same_record : (a a' b b' : ℕ) (c : List ℕ) → a ≡ a' → b ≡ b' → ◌≡◌ {A = Record} (record { kind = a; class = b; content = c }) (record { kind = a'; class = b'; content = c })
+same_record : (a a' b b' : ℕ) (c : List ℕ) → a ≡ a' → b ≡ b' → ◌≡◌ {A = Record} (record { kind = a; class = b; content = c })
+    (record { kind = a'; class = b'; content = c })
 same_record a a' b b' c p q = cc
 
 fields_by : (bytes : List ℕ) (r : Record) (rest : List ℕ) (x y : Bool) → ltb (length bytes) 10 ≡ x → ltb (length bytes) (10 + word_at bytes 8) ≡ y
-    → ◌≡◌ {A = Option (Record × List ℕ)} (if x then None else if y then None else Some (record_at bytes, drop (10 + word_at bytes 8) bytes)) (Some (r, rest)) → Fields bytes r rest
+    → ◌≡◌ {A = Option (Record × List ℕ)} (if x then None else if y then None else Some (record_at bytes, drop (10 + word_at bytes 8) bytes))
+    (Some (r, rest)) → Fields bytes r rest
 fields_by bytes r rest true y p q e = absurd (cc e)
 fields_by bytes r rest false true p q e = absurd (cc e)
 fields_by bytes r rest false false p q e =
@@ -228,7 +238,8 @@ record First (bytes : List ℕ) (r : Record) (rest : List ℕ) : Type 0 where
   whole : bytes ≡ spelled_bytes s ++ rest
   same : r ≡ record_of s
 
-first_by : (bytes : List ℕ) (r : Record) (rest : List ℕ) (o : Option (List ℕ)) → after_the_name 0 bytes ≡ o → option_and_then record_after o ≡ Some (r, rest) → First bytes r rest
+first_by : (bytes : List ℕ) (r : Record) (rest : List ℕ) (o : Option (List ℕ)) → after_the_name 0 bytes ≡ o → option_and_then record_after o
+    ≡ Some (r, rest) → First bytes r rest
 first_by bytes r rest None is e = absurd (cc e)
 first_by bytes r rest (Some trailing) is e =
     let c = cut 0 bytes trailing is in

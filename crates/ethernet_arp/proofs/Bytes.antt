@@ -1,5 +1,8 @@
 -- Addresses as the lists of their bytes.
-use Rattle.ethernet_arp.proofs.Prelude.{◌≡◌, ℕ, ◌+◌, ◌/◌, ◌%◌, ◌<◌, List, [], ◌∷◌, ◌++◌, length, get_or, drop, refl, sym, arith, ap, ◌∙◌, append-nil, append_assoc, length-append, take, ◌-◌, ◌≤◌, drop-drop, drop-take, drop_all, length-take-le, take-append-add, take-append_seam, word_bytes, written, arp_begin, frame_with, framed, Puts}
+use Rattle.ethernet_arp.proofs.Prelude.{◌≡◌, ℕ, ◌+◌, ◌/◌, ◌%◌, ◌<◌, List, [], ◌∷◌, ◌++◌, length, get_or, drop, refl, sym, arith, ap, ◌∙◌}
+use Rattle.ethernet_arp.proofs.Prelude.{append-nil, append_assoc, length-append, take, ◌-◌, ◌≤◌, drop-drop, drop-take, drop_all}
+use Rattle.ethernet_arp.proofs.Prelude.{length-take-le, take-append-add, take-append_seam, word_bytes, written, arp_begin, frame_with}
+use Rattle.ethernet_arp.proofs.Prelude.{framed, Puts}
 
 -- the elements of a list, one by one
 abbrev pub elements6 : List ℕ → List ℕ
@@ -36,7 +39,8 @@ small n h = same_two 0 n (n / 256) (n % 256) (omega (arith, h)) (omega (arith, h
 abbrev pub parts : List ℕ → List ℕ → List ℕ → List ℕ → List ℕ → List ℕ → List ℕ
 parts to operation mac own their_mac target = to ++ mac ++ word_bytes 2054 ++ (arp_begin ++ operation ++ mac ++ own ++ their_mac ++ target)
 
-pub parts_are : (to mac own their_mac target : List ℕ) (operation : ℕ) → length to ≡ 6 → length mac ≡ 6 → length own ≡ 4 → length their_mac ≡ 6 → length target ≡ 4 → operation < 256
+pub parts_are : (to mac own their_mac target : List ℕ) (operation : ℕ) → length to ≡ 6 → length mac ≡ 6 → length own ≡ 4
+    → length their_mac ≡ 6 → length target ≡ 4 → operation < 256
     → parts (elements6 to) (0 ∷ operation ∷ []) (elements6 mac) (elements4 own) (elements6 their_mac) (elements4 target)
     ≡ parts to (word_bytes operation) mac own their_mac target
 parts_are to mac own their_mac target operation a b c d e f =
@@ -79,7 +83,8 @@ no_more : (n : ℕ) → 0 + n ≡ n
 no_more n = omega arith
 
 -- a frame after its length
-pub framed_is : (head room frame new_head new_room : List ℕ) (len : ℕ) → length head ≡ 2 → new_head ≡ written head 0 (word_bytes len) → Puts frame len room new_room
+pub framed_is : (head room frame new_head new_room : List ℕ) (len : ℕ) → length head ≡ 2 → new_head ≡ written head 0 (word_bytes len)
+    → Puts frame len room new_room
     → take (2 + len) (new_head ++ new_room) ≡ framed frame
 framed_is head room frame new_head new_room len two e p =
     let word = word_bytes len in

@@ -1,5 +1,8 @@
 -- The last learning of an address after one more event.
-use Rattle.ethernet_arp.proofs.Prelude.{◌≡◌, ℕ, ◌+◌, ◌||◌, Bool, true, false, if◌then◌else◌, List, [], ◌∷◌, ◌++◌, Option, None, Some, length, refl, sym, ap, ◌∙◌, subst, arith, ⊤, option_and_then, option_or, bytes_eq, bytes_eq-Decides, Act, Asked, Learning, Pair, Replied, Ticked, addresses_of, among, is_fresh, last_learning, learning_by, taught, ticks_in, with_one}
+use Rattle.ethernet_arp.proofs.Prelude.{◌≡◌, ℕ, ◌+◌, ◌||◌, Bool, true, false, if◌then◌else◌, List, [], ◌∷◌, ◌++◌, Option, None, Some}
+use Rattle.ethernet_arp.proofs.Prelude.{length, refl, sym, ap, ◌∙◌, subst, arith, ⊤, option_and_then, option_or, bytes_eq, bytes_eq-Decides}
+use Rattle.ethernet_arp.proofs.Prelude.{Act, Asked, Learning, Pair, Replied, Ticked, addresses_of, among, is_fresh, last_learning}
+use Rattle.ethernet_arp.proofs.Prelude.{learning_by, taught, ticks_in, with_one}
 
 -- the hardware address of a learning that is fresh
 abbrev pub mac_of : Option Learning → Option (List ℕ)
@@ -132,8 +135,10 @@ more_one x addr more some h =
                 let one : among addr some ≡ false = among_same addr x some f ∙ e in
                 let is : x ≡ addr = sym (is_same addr x f) in
                 subst (λ (v : Bool). HasMore (if v then more else x ∷ more) (x ∷ some) addr) (sym (m ∙ f)) (record {
-                  size = not_grown x more some (among addr some) (bytes_eq x addr) one (subst (λ (l : List ℕ). bytes_eq l addr ≡ true) (sym is) (same addr)) h.size;
-                  same = λ y. h.same y ∙ subst (λ (l : List ℕ). (among y some || bytes_eq addr y) ≡ ((bytes_eq l y || among y some) || bytes_eq addr y)) (sym is) (or_same (bytes_eq addr y) (among y some));
+                  size = not_grown x more some (among addr some) (bytes_eq x addr) one (subst (λ (l : List ℕ). bytes_eq l addr ≡ true)
+                      (sym is) (same addr)) h.size;
+                  same = λ y. h.same y ∙ subst (λ (l : List ℕ). (among y some || bytes_eq addr y)
+                      ≡ ((bytes_eq l y || among y some) || bytes_eq addr y)) (sym is) (or_same (bytes_eq addr y) (among y some));
                 })
             | false ↦ λ f.
                 subst (λ (v : Bool). HasMore (if v then more else x ∷ more) (x ∷ some) addr) (sym (m ∙ f)) (record {
@@ -148,7 +153,8 @@ with_more None addr more some h = h
 with_more (Some pair) addr more some h = more_one pair.addr addr more some h
 
 first_one : (act : Act) (pair : Pair) → taught act ≡ Some pair → HasMore (addresses_of (act ∷ [])) [] pair.addr
-first_one act pair e = subst (λ (p : Option Pair). HasMore (with_one p []) [] pair.addr) (sym e) (record { size = refl; same = λ y. or_false (bytes_eq pair.addr y) })
+first_one act pair e = subst (λ (p : Option Pair). HasMore (with_one p []) [] pair.addr) (sym e)
+    (record { size = refl; same = λ y. or_false (bytes_eq pair.addr y) })
 
 pub addresses-learnt : (acts : List Act) (act : Act) (pair : Pair) → taught act ≡ Some pair
     → HasMore (addresses_of (acts ++ act ∷ [])) (addresses_of acts) pair.addr
@@ -233,4 +239,5 @@ found_later addr None y acts l some none by is e = ap (λ (a : List Act). among 
 -- after the last learning of an address there is no other of it
 pub not_among : (addr : List ℕ) (acts : List Act) (l : Learning) → last_learning addr acts ≡ Some l → among addr (addresses_of l.later) ≡ false
 not_among addr [] l e = absurd (cc e)
-not_among addr (x ∷ acts) l e = found_later addr (last_learning addr acts) (learning_by addr (taught x) acts) acts l (λ m f. not_among addr acts m f) (λ f. not_later addr acts f) (by_later addr (taught x) acts) refl e
+not_among addr (x ∷ acts) l e = found_later addr (last_learning addr acts) (learning_by addr (taught x) acts) acts l
+    (λ m f. not_among addr acts m f) (λ f. not_later addr acts f) (by_later addr (taught x) acts) refl e

@@ -1,5 +1,10 @@
 -- The part after the last whole frame, after more bytes, and what these decode to.
-use Rattle.ethernet_arp.proofs.Prelude.{◌≡◌, ℕ, ◌+◌, ◌-◌, ◌*◌, ◌<◌, ◌≤◌, ◌&&◌, Bool, true, false, if◌then◌else◌, min, nat_le, nat_lt, List, [], ◌∷◌, ◌++◌, Option, length, take, drop, option_to_list, refl, sym, ap, ◌∙◌, arith, inl, inr, ◌⊎◌, length-drop, append-nil, append_assoc, length-append, eq-eqb, ne_eqb, take-append-add, take-append_seam, leb-false, leb-true, ltb-false, ltb-true, length-take-le, take-append-le, take_all, written, all_decoded, closed_by, ether_medium, is_taken, is_whole, open_from, Host, frame_brings, Holds, InFrame, TakesIn, brought_from, whole_brings, FramePart}
+use Rattle.ethernet_arp.proofs.Prelude.{◌≡◌, ℕ, ◌+◌, ◌-◌, ◌*◌, ◌<◌, ◌≤◌, ◌&&◌, Bool, true, false, if◌then◌else◌, min, nat_le, nat_lt, List}
+use Rattle.ethernet_arp.proofs.Prelude.{[], ◌∷◌, ◌++◌, Option, length, take, drop, option_to_list, refl, sym, ap, ◌∙◌, arith, inl, inr, ◌⊎◌}
+use Rattle.ethernet_arp.proofs.Prelude.{length-drop, append-nil, append_assoc, length-append, eq-eqb, ne_eqb, take-append-add}
+use Rattle.ethernet_arp.proofs.Prelude.{take-append_seam, leb-false, leb-true, ltb-false, ltb-true, length-take-le, take-append-le}
+use Rattle.ethernet_arp.proofs.Prelude.{take_all, written, all_decoded, closed_by, ether_medium, is_taken, is_whole, open_from, Host}
+use Rattle.ethernet_arp.proofs.Prelude.{frame_brings, Holds, InFrame, TakesIn, brought_from, whole_brings, FramePart}
 
 pub open-append : (part xs ys : List ℕ) → open_from part (xs ++ ys) ≡ open_from (open_from part xs) ys
 open-append part [] ys = refl
@@ -54,7 +59,8 @@ module _ (k : Host) where
       never false = refl
 
   -- fewer bytes than a frame waits for
-  pub frame_open : (high low : ℕ) (frame run : List ℕ) → length frame + length run < 256 * high + low → open_from (high ∷ low ∷ frame) run ≡ high ∷ low ∷ (frame ++ run)
+  pub frame_open : (high low : ℕ) (frame run : List ℕ) → length frame + length run < 256 * high + low → open_from (high ∷ low ∷ frame) run
+      ≡ high ∷ low ∷ (frame ++ run)
   frame_open high low frame [] h = ap (λ l. high ∷ low ∷ l) (sym (append-nil frame))
   frame_open high low frame (b ∷ run) h =
       let more = frame ++ b ∷ [] in
@@ -77,7 +83,8 @@ module _ (k : Host) where
   now_whole : (high low : ℕ) (frame : List ℕ) → length frame ≡ 256 * high + low → is_whole (high ∷ low ∷ frame) ≡ true
   now_whole high low frame h = eq-eqb (length frame) (256 * high + low) h
 
-  pub frame_closed : (high low : ℕ) (frame run : List ℕ) → 0 < length run → length frame + length run ≡ 256 * high + low → open_from (high ∷ low ∷ frame) run ≡ []
+  pub frame_closed : (high low : ℕ) (frame run : List ℕ) → 0 < length run → length frame + length run ≡ 256 * high + low
+      → open_from (high ∷ low ∷ frame) run ≡ []
   frame_closed high low frame [] some h = absurd (omega arith)
   frame_closed high low frame (b ∷ []) some h =
       ap (λ v. if v then [] else high ∷ low ∷ (frame ++ b ∷ [])) (now_whole high low (frame ++ b ∷ []) (omega (arith, h, length-append frame (b ∷ []))))
@@ -112,7 +119,8 @@ kept_full area frame bytes size full kept =
     ∙ kept
     ∙ sym (take-append-le 1514 frame bytes full)
 
-none_left : (n : ℕ) (part rest bytes : List ℕ) (m : ℕ) → part ≡ take m bytes → m ≡ min (length bytes) n → length rest ≡ n - m → n ≡ n → take (length bytes) (part ++ rest) ≡ take n bytes
+none_left : (n : ℕ) (part rest bytes : List ℕ) (m : ℕ) → part ≡ take m bytes → m ≡ min (length bytes) n → length rest ≡ n - m → n ≡ n
+    → take (length bytes) (part ++ rest) ≡ take n bytes
 none_left n part rest bytes m is least size same =
     elim (fits (length bytes) n) [
       | inl all ↦
@@ -122,7 +130,8 @@ none_left n part rest bytes m is least size same =
           let here : m ≡ n = omega (arith, least, more) in
           let none : rest ≡ [] = empty rest (omega (arith, size, here)) in
           let long : length part ≡ n = ap (λ l. length l) is ∙ length-take-le m bytes (omega (arith, here, more)) ∙ here in
-          ap (λ l. take (length bytes) (part ++ l)) none ∙ ap (λ l. take (length bytes) l) (append-nil part) ∙ take_all (length bytes) part (omega (arith, long, more)) ∙ is ∙ ap (λ j. take j bytes) here
+          ap (λ l. take (length bytes) (part ++ l)) none ∙ ap (λ l. take (length bytes) l) (append-nil part) ∙ take_all (length bytes) part
+          (omega (arith, long, more)) ∙ is ∙ ap (λ j. take j bytes) here
     ]
   where
     fits : (a b : ℕ) → (a ≤ b) ⊎ (b ≤ a)
@@ -158,7 +167,8 @@ abbrev no_host : Host
 no_host = record { addr = []; mac = [] }
 
 -- bytes of a frame
-module _ (old new : FramePart) (run : List ℕ) (some : 0 < length run) (waits : old.len < old.size) (len : new.len ≡ old.len + length run) (most : new.len ≤ new.size)
+module _ (old new : FramePart) (run : List ℕ) (some : 0 < length run) (waits : old.len < old.size) (len : new.len ≡ old.len + length run)
+    (most : new.len ≤ new.size)
     (size : new.size ≡ old.size) (high : new.high ≡ old.high)
     (keeps : (frame : List ℕ) → length frame ≡ old.len → take old.len old.area ≡ take 1514 frame → take new.len new.area ≡ take 1514 (frame ++ run)) where
   -- a frame that comes so far as to be whole, or not

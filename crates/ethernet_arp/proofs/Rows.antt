@@ -1,5 +1,6 @@
 -- What is written for worked lines.
-use Rattle.ethernet_arp.proofs.Prelude.{◌≡◌, ℕ, Bool, ◌++◌, map, refl, AppSpec, Byte, head_or_fate, folded, ping, pong, question, reply, request, written_for}
+use Rattle.ethernet_arp.proofs.Prelude.{◌≡◌, ℕ, Bool, ◌++◌, map, refl, AppSpec, Byte, head_or_fate, folded, ping, pong, question, reply}
+use Rattle.ethernet_arp.proofs.Prelude.{request, written_for}
 
 pub answers : (m : AppSpec) (served : ℕ → Bool) → written_for m served (map Byte request) ≡ reply
 answers m served = refl

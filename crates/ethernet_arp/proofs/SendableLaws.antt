@@ -1,7 +1,26 @@
 -- Each reply of a node on an Ethernet line has 20 to 1500 bytes.
-use Rattle.ethernet_arp.proofs.Prelude.{◌≡◌, ℕ, zero, suc, ◌+◌, ◌*◌, ◌-◌, ◌%◌, ◌≤◌, ◌&&◌, ◌||◌, ◌==◌, Bool, true, false, not, if◌then◌else◌, nat_le, nat_lt, eqb, ltb, List, [], ◌∷◌, ◌++◌, Option, None, Some, Result, Ok, Err, length, set, take, drop, map, replicate, position, slice_index, slice_get, slice_index_or, refl, sym, ap, ◌∙◌, subst, arith, inl, inr, ◌⊎◌, length-append, length-take, length-drop, ⊤, option_map, slice_range, option_map_or, leb-true, le-leb, ltb-false, and_from, and_parts, or_parts, AppSpec, Item, Byte, Quiet, address_at, checksum_of, word_at, bytes_of, Addr, length-bytes_of, head_bytes, head_by, head_or_fate, payload_of, proto_of, IpFate, IpHead, Proto, Icmp, Tcp, length-head_bytes, facts_at, echo_fate, echo_message, echo_reply, IcmpFate, segment_or_fate, TcpFate, Segment, Outcome, Connection, Sockets, closed, serves, accept, on_segment, on_tick, bare_ack, fin_of, is_plain_syn, reset_of, reset_for_no_connection, segment_of, syn_ack, text_segment, Step, initial_number, by_head, by_proto, by_segment, datagram_to, event_of, reply_bytes, Event, Reply, IpRefused, IcmpRefused, TcpRefused, EchoAsked, Arrived, Periodic, AbstractNode, NodeStep, arrives_at, connection_in, for_no_connection, happened, snapshot, initial_node, opens, opens_in, slot_for_syn, step, choose, only_some, get_set, small_size, reply_length, here, there, asked_keeps, on_segment_keeps, on_tick_keeps, Lens, accepted_lens, asked_lens, closed_lens, on_segment_lens, on_tick_lens, StationEvent, OfMedium, OfNode, Station, station_after, station_after_all, beat_on, station_event_by, station_events_after, station_events_of_line, tick_on, is_beat, closed_by, ether_medium, is_taken, is_whole, open_from, Host, broadcast, frame_brings, is_arp, is_arp_for, is_datagram, is_sendable, mac_at, Act, DatagramsFitFrames}
+use Rattle.ethernet_arp.proofs.Prelude.{◌≡◌, ℕ, zero, suc, ◌+◌, ◌*◌, ◌-◌, ◌%◌, ◌≤◌, ◌&&◌, ◌||◌, ◌==◌, Bool, true, false, not, if◌then◌else◌}
+use Rattle.ethernet_arp.proofs.Prelude.{nat_le, nat_lt, eqb, ltb, List, [], ◌∷◌, ◌++◌, Option, None, Some, Result, Ok, Err, length, set}
+use Rattle.ethernet_arp.proofs.Prelude.{take, drop, map, replicate, position, slice_index, slice_get, slice_index_or, refl, sym, ap, ◌∙◌}
+use Rattle.ethernet_arp.proofs.Prelude.{subst, arith, inl, inr, ◌⊎◌, length-append, length-take, length-drop, ⊤, option_map, slice_range}
+use Rattle.ethernet_arp.proofs.Prelude.{option_map_or, leb-true, le-leb, ltb-false, and_from, and_parts, or_parts, AppSpec, Item, Byte}
+use Rattle.ethernet_arp.proofs.Prelude.{Quiet, address_at, checksum_of, word_at, bytes_of, Addr, length-bytes_of, head_bytes, head_by}
+use Rattle.ethernet_arp.proofs.Prelude.{head_or_fate, payload_of, proto_of, IpFate, IpHead, Proto, Icmp, Tcp, length-head_bytes, facts_at}
+use Rattle.ethernet_arp.proofs.Prelude.{echo_fate, echo_message, echo_reply, IcmpFate, segment_or_fate, TcpFate, Segment, Outcome}
+use Rattle.ethernet_arp.proofs.Prelude.{Connection, Sockets, closed, serves, accept, on_segment, on_tick, bare_ack, fin_of, is_plain_syn}
+use Rattle.ethernet_arp.proofs.Prelude.{reset_of, reset_for_no_connection, segment_of, syn_ack, text_segment, Step, initial_number, by_head}
+use Rattle.ethernet_arp.proofs.Prelude.{by_proto, by_segment, datagram_to, event_of, reply_bytes, Event, Reply, IpRefused, IcmpRefused}
+use Rattle.ethernet_arp.proofs.Prelude.{TcpRefused, EchoAsked, Arrived, Periodic, AbstractNode, NodeStep, arrives_at, connection_in}
+use Rattle.ethernet_arp.proofs.Prelude.{for_no_connection, happened, snapshot, initial_node, opens, opens_in, slot_for_syn, step, choose}
+use Rattle.ethernet_arp.proofs.Prelude.{only_some, get_set, small_size, reply_length, here, there, asked_keeps, on_segment_keeps}
+use Rattle.ethernet_arp.proofs.Prelude.{on_tick_keeps, Lens, accepted_lens, asked_lens, closed_lens, on_segment_lens, on_tick_lens}
+use Rattle.ethernet_arp.proofs.Prelude.{StationEvent, OfMedium, OfNode, Station, station_after, station_after_all, beat_on}
+use Rattle.ethernet_arp.proofs.Prelude.{station_event_by, station_events_after, station_events_of_line, tick_on, is_beat, closed_by}
+use Rattle.ethernet_arp.proofs.Prelude.{ether_medium, is_taken, is_whole, open_from, Host, broadcast, frame_brings, is_arp, is_arp_for}
+use Rattle.ethernet_arp.proofs.Prelude.{is_datagram, is_sendable, mac_at, Act, DatagramsFitFrames}
 use Rattle.std.proofs.Common.{bytes_eq}
-use Rattle.tcp_segment.specs.Segments.{Datagram as Segmented, PlainSegment, datagram_bytes, fixed_words, has_rst, option_words, segment_bytes, segment_sum}
+use Rattle.tcp_segment.specs.Segments.{Datagram as Segmented, PlainSegment, datagram_bytes, fixed_words, has_rst, option_words}
+use Rattle.tcp_segment.specs.Segments.{segment_bytes, segment_sum}
 use Rattle.uip_node.specs.Events.Event.{Overlong}
 use Rattle.uip_node.specs.Events.Reply.{Echo as EchoSent, TcpReply as TcpSent}
 use Rattle.line_medium.specs.Media.{MediumInput, Datagram, Overlong as OverlongFrame, Own}
@@ -51,7 +70,8 @@ echo_fits head bytes total most =
     (λ f. choose P (not (slice_index message 0 == 8) || not (slice_index message 1 == 0)) _ _ (λ g. tt)
     (λ g. (omega (arith, total, most, size, cut, behind, prefix), omega (arith, total, most, prefix)))))
 
-proto_fits : (proto : Proto) (head : IpHead) (bytes : List ℕ) → head.total ≤ length bytes → length bytes ≤ 1500 → length head.source.0 ≡ 4 → EventFits (by_proto proto head bytes)
+proto_fits : (proto : Proto) (head : IpHead) (bytes : List ℕ) → head.total ≤ length bytes → length bytes ≤ 1500 → length head.source.0 ≡ 4
+    → EventFits (by_proto proto head bytes)
 proto_fits Icmp head bytes total most h = echo_fits head bytes total most
 proto_fits Tcp head bytes total most h = segment_fits head bytes (segment_or_fate head bytes) h
 
@@ -76,7 +96,8 @@ TableFits table = (i : ℕ) (c : Connection) → slice_get table i ≡ Some c �
 closed_conn : ConnFits closed
 closed_conn = record { lens = closed_lens; peer = refl }
 
-set_fits : (table : List Connection) (i : ℕ) (new : Connection) → ConnFits new → TableFits table → (j : ℕ) (c : Connection) → slice_get (set table i new) j ≡ Some c → ConnFits c
+set_fits : (table : List Connection) (i : ℕ) (new : Connection) → ConnFits new → TableFits table → (j : ℕ) (c : Connection)
+    → slice_get (set table i new) j ≡ Some c → ConnFits c
 set_fits table i new f h j c x = elim (get_set table i new j c x) [ here e q ↦ subst (λ z. ConnFits z) q f | there n g ↦ h j c g ]
 
 index_conn : (table : List Connection) (i : ℕ) → TableFits table → ConnFits (slice_index_or table i closed)
@@ -118,10 +139,12 @@ module _ (own : Addr) (four : length own.0 ≡ 4) where
       let most = small_size (datagram_to own sockets id s) small.short small.alone in
       within (datagram_bytes (datagram_to own sockets id s)) (omega (arith, whole)) (omega (arith, whole, most))
 
-  sent_text_fits : (output : Option PlainSegment) (sockets : Sockets) (id : ℕ) (again : Bool) → length sockets.peer.0 ≡ 4 → ((s : PlainSegment) → output ≡ Some s → IsSmall s)
+  sent_text_fits : (output : Option PlainSegment) (sockets : Sockets) (id : ℕ) (again : Bool) → length sockets.peer.0 ≡ 4
+      → ((s : PlainSegment) → output ≡ Some s → IsSmall s)
       → (reply : Reply) → option_map (λ s. TcpSent sockets id again s) output ≡ Some reply → Fits own reply
   sent_text_fits None sockets id again peer small reply e = absurd (cc)
-  sent_text_fits (Some s) sockets id again peer small reply e = only_some (λ z. Fits own z) (TcpSent sockets id again s) reply e (tcp_fits sockets id again s peer (small s refl))
+  sent_text_fits (Some s) sockets id again peer small reply e = only_some (λ z. Fits own z) (TcpSent sockets id again s) reply e
+      (tcp_fits sockets id again s peer (small s refl))
 
   module _ (m : AppSpec) where
     text_small : (c : Connection) → Lens c → IsSmall (text_segment m c)
@@ -139,14 +162,16 @@ module _ (own : Addr) (four : length own.0 ≡ 4) where
     step_small c Step.Reset s l e = only_some (λ x. IsSmall x) (reset_of c) s e (record { short = omega arith; alone = inr refl })
     step_small c (Step.Ask fresh) s l e = absurd (cc)
 
-    happened_fits : (n : AbstractNode) (event : Event) (slot : ℕ) (old : Connection) (o : Outcome) → TableFits n.connections → ConnFits o.connection → StepFits own (happened m n event slot old o)
+    happened_fits : (n : AbstractNode) (event : Event) (slot : ℕ) (old : Connection) (o : Outcome) → TableFits n.connections
+        → ConnFits o.connection → StepFits own (happened m n event slot old o)
     unfolding happened
     happened_fits n event slot old o f h = record {
       table = set_fits n.connections slot o.connection h f;
       sent = sent_text_fits (segment_of m o.connection o.step) o.connection.sockets _ _ h.peer (λ s e. step_small o.connection o.step s h.lens e);
     }
 
-    opens_fit : (n : AbstractNode) (sockets : Sockets) (s : PlainSegment) (slot : Option ℕ) → length sockets.peer.0 ≡ 4 → TableFits n.connections → StepFits own (opens m n sockets s slot)
+    opens_fit : (n : AbstractNode) (sockets : Sockets) (s : PlainSegment) (slot : Option ℕ) → length sockets.peer.0 ≡ 4
+        → TableFits n.connections → StepFits own (opens m n sockets s slot)
     unfolding opens_in happened
     opens_fit n sockets s None peer f = record { table = f; sent = λ reply e. absurd (cc) }
     opens_fit n sockets s (Some slot) peer f =
@@ -155,7 +180,8 @@ module _ (own : Addr) (four : length own.0 ≡ 4) where
         (record { lens = accepted_lens (initial_number n.history) sockets s; peer = peer }) in
         record { table = h.table; sent = h.sent }
 
-    stranger_fits : (served : ℕ → Bool) (n : AbstractNode) (sockets : Sockets) (s : PlainSegment) → length sockets.peer.0 ≡ 4 → TableFits n.connections → StepFits own (for_no_connection m served n sockets s)
+    stranger_fits : (served : ℕ → Bool) (n : AbstractNode) (sockets : Sockets) (s : PlainSegment) → length sockets.peer.0 ≡ 4
+        → TableFits n.connections → StepFits own (for_no_connection m served n sockets s)
     unfolding for_no_connection
     stranger_fits served n sockets s peer f =
         choose (λ x. StepFits own x) (is_plain_syn s && served sockets.own_port.0) _ _ (λ e. opens_fit n sockets s (slot_for_syn n.connections) peer f)
@@ -166,14 +192,17 @@ module _ (own : Addr) (four : length own.0 ≡ 4) where
               (tcp_fits sockets _ false (reset_for_no_connection s) peer (record { short = omega arith; alone = inr refl }));
         }))
 
-    arrives_fits : (served : ℕ → Bool) (n : AbstractNode) (sockets : Sockets) (s : PlainSegment) (found : Option ℕ) → length sockets.peer.0 ≡ 4 → TableFits n.connections → StepFits own (arrives_at m served n sockets s found)
+    arrives_fits : (served : ℕ → Bool) (n : AbstractNode) (sockets : Sockets) (s : PlainSegment) (found : Option ℕ) → length sockets.peer.0
+        ≡ 4 → TableFits n.connections → StepFits own (arrives_at m served n sockets s found)
     arrives_fits served n sockets s None peer f = stranger_fits served n sockets s peer f
     arrives_fits served n sockets s (Some slot) peer f =
         let old : ConnFits (connection_in slot n) = index_conn n.connections slot f in
-        let kept = asked_keeps m (snapshot n (Arrived sockets s) slot) (connection_in slot n) (on_segment m (connection_in slot n) n.numbers s) (on_segment_keeps m (connection_in slot n) n.numbers s) in
+        let kept = asked_keeps m (snapshot n (Arrived sockets s) slot) (connection_in slot n) (on_segment m (connection_in slot n) n.numbers
+        s) (on_segment_keeps m (connection_in slot n) n.numbers s) in
         happened_fits n (Arrived sockets s) slot (connection_in slot n) _ f
         (record {
-          lens = asked_lens m (snapshot n (Arrived sockets s) slot) (on_segment m (connection_in slot n) n.numbers s) (on_segment_lens m (connection_in slot n) n.numbers s old.lens);
+          lens = asked_lens m (snapshot n (Arrived sockets s) slot) (on_segment m (connection_in slot n) n.numbers s)
+              (on_segment_lens m (connection_in slot n) n.numbers s old.lens);
           peer = ap (λ (z : Sockets). length z.peer.0) kept ∙ old.peer;
         })
 
@@ -190,20 +219,24 @@ module _ (own : Addr) (four : length own.0 ≡ 4) where
     step_fits served n Overlong e f = record { table = f; sent = λ reply q. absurd (cc) }
     step_fits served n (Periodic slot) e f =
         let old : ConnFits (connection_in slot n) = index_conn n.connections slot f in
-        let kept = asked_keeps m (snapshot n (Periodic slot) slot) (connection_in slot n) (on_tick m (connection_in slot n) n.numbers) (on_tick_keeps m (connection_in slot n) n.numbers) in
+        let kept = asked_keeps m (snapshot n (Periodic slot) slot) (connection_in slot n) (on_tick m (connection_in slot n) n.numbers)
+        (on_tick_keeps m (connection_in slot n) n.numbers) in
         happened_fits n (Periodic slot) slot (connection_in slot n) _ f
         (record {
-          lens = asked_lens m (snapshot n (Periodic slot) slot) (on_tick m (connection_in slot n) n.numbers) (on_tick_lens m (connection_in slot n) n.numbers old.lens);
+          lens = asked_lens m (snapshot n (Periodic slot) slot) (on_tick m (connection_in slot n) n.numbers)
+              (on_tick_lens m (connection_in slot n) n.numbers old.lens);
           peer = ap (λ (z : Sockets). length z.peer.0) kept ∙ old.peer;
         })
 
     -- ---- over deeds
 
-    station_event_keeps : (served : ℕ → Bool) (s : Station Act) (d : StationEvent Act) → StationEventFits d → TableFits s.node.connections → TableFits (station_after m served s d).node.connections
+    station_event_keeps : (served : ℕ → Bool) (s : Station Act) (d : StationEvent Act) → StationEventFits d → TableFits s.node.connections
+        → TableFits (station_after m served s d).node.connections
     station_event_keeps served s (OfMedium a) h f = f
     station_event_keeps served s (OfNode e) h f = (step_fits served s.node e h f).table
 
-    each_fits : (served : ℕ → Bool) (station_events : List (StationEvent Act)) (s : Station Act) → StationEventsFit station_events → TableFits s.node.connections
+    each_fits : (served : ℕ → Bool) (station_events : List (StationEvent Act)) (s : Station Act) → StationEventsFit station_events
+        → TableFits s.node.connections
         → (done : List (StationEvent Act)) (event : Event) (later : List (StationEvent Act)) (reply : Reply) → station_events ≡ done ++ OfNode event ∷ later
         → (step m served (station_after_all m served done s).node event).sent ≡ Some reply → Fits own reply
     each_fits served [] s h f [] event later reply split e = absurd (cc)
@@ -269,7 +302,8 @@ module _ (own : Addr) (four : length own.0 ≡ 4) where
         (came_fits (closed_by k (open_from [] before ++ b ∷ [])) (closes_fit k (open_from [] before ++ b ∷ []))) (beat_fits k pace (length before + 1)))
         (line_fits k pace (before ++ b ∷ []) items)
     line_fits k pace before (Quiet ∷ items) =
-        station_events_join (tick_on (ether_medium k)) (station_events_after (ether_medium k) own pace before items) (tick_fits k) (line_fits k pace before items)
+        station_events_join (tick_on (ether_medium k)) (station_events_after (ether_medium k) own pace before items) (tick_fits k)
+        (line_fits k pace before items)
 
 pub all_sendable : DatagramsFitFrames
 all_sendable m served k own pace items numbers four = record {

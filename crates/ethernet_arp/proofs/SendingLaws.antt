@@ -1,5 +1,16 @@
 -- Each frame with a datagram goes to the hardware address that its target taught last.
-use Rattle.ethernet_arp.proofs.Prelude.{◌≡◌, ℕ, zero, suc, ◌+◌, ◌*◌, ◌/◌, ◌%◌, ◌<◌, ◌&&◌, ◌||◌, ◌==◌, Bool, true, false, if◌then◌else◌, nat_le, nat_lt, List, [], ◌∷◌, ◌++◌, Option, None, Some, length, drop, map, refl, sym, ap, ◌∙◌, subst, arith, inl, inr, ◌⊎◌, append_assoc, length-append, ne_eqb, eq-eqb, ⊤, slice_get, option_map_or, option_or, bytes_eq, leb-true, AppSpec, Item, Byte, Quiet, address_at, word_at, word_bytes, Addr, reply_bytes, Event, Reply, tick, AbstractNode, step, MediumInput, Datagram, Overlong, Own, StationEvent, OfMedium, OfNode, Station, station_after, output, output_of_event, reply_text, beat_on, station_event_by, station_events_after, station_events_of_line, tick_on, is_beat, closed_by, ether_text, ether_medium, is_taken, is_whole, open_from, Host, arp_brings, arp_packet, broadcast, frame_brings, frame_with, framed, is_arp, is_arp_for, is_datagram, is_sendable, mac_at, no_mac, payload_brings, arp_reply, arp_request, sender_of, wrapped, Act, Asked, Learning, Pair, Replied, Ticked, is_fresh, known, last_learning, learning_by, taught, AllGoHome, GoesHome, frames_from, target_in}
+use Rattle.ethernet_arp.proofs.Prelude.{◌≡◌, ℕ, zero, suc, ◌+◌, ◌*◌, ◌/◌, ◌%◌, ◌<◌, ◌&&◌, ◌||◌, ◌==◌, Bool, true, false, if◌then◌else◌}
+use Rattle.ethernet_arp.proofs.Prelude.{nat_le, nat_lt, List, [], ◌∷◌, ◌++◌, Option, None, Some, length, drop, map, refl, sym, ap, ◌∙◌}
+use Rattle.ethernet_arp.proofs.Prelude.{subst, arith, inl, inr, ◌⊎◌, append_assoc, length-append, ne_eqb, eq-eqb, ⊤, slice_get}
+use Rattle.ethernet_arp.proofs.Prelude.{option_map_or, option_or, bytes_eq, leb-true, AppSpec, Item, Byte, Quiet, address_at, word_at}
+use Rattle.ethernet_arp.proofs.Prelude.{word_bytes, Addr, reply_bytes, Event, Reply, tick, AbstractNode, step, MediumInput, Datagram}
+use Rattle.ethernet_arp.proofs.Prelude.{Overlong, Own, StationEvent, OfMedium, OfNode, Station, station_after, output, output_of_event}
+use Rattle.ethernet_arp.proofs.Prelude.{reply_text, beat_on, station_event_by, station_events_after, station_events_of_line, tick_on}
+use Rattle.ethernet_arp.proofs.Prelude.{is_beat, closed_by, ether_text, ether_medium, is_taken, is_whole, open_from, Host, arp_brings}
+use Rattle.ethernet_arp.proofs.Prelude.{arp_packet, broadcast, frame_brings, frame_with, framed, is_arp, is_arp_for, is_datagram}
+use Rattle.ethernet_arp.proofs.Prelude.{is_sendable, mac_at, no_mac, payload_brings, arp_reply, arp_request, sender_of, wrapped, Act, Asked}
+use Rattle.ethernet_arp.proofs.Prelude.{Learning, Pair, Replied, Ticked, is_fresh, known, last_learning, learning_by, taught, AllGoHome}
+use Rattle.ethernet_arp.proofs.Prelude.{GoesHome, frames_from, target_in}
 use Rattle.ethernet_arp.proofs.LearningLaws.{mac_of}
 use Rattle.ethernet_arp.proofs.Bytes.{elements6, six}
 
@@ -36,7 +47,8 @@ none_some l e = cc
 
 by_pair : (addr : List ℕ) (pair : Pair) (later : List Act) (l : Learning) → length pair.mac ≡ 6 → learning_by addr (Some pair) later ≡ Some l → length l.mac ≡ 6
 by_pair addr pair later l six e =
-    elim (bytes_eq pair.addr addr) as (λ v. (if◌then◌else◌ {A = Option Learning} v (Some (record { mac = pair.mac; later = later })) None) ≡ Some l → length l.mac ≡ 6) [
+    elim (bytes_eq pair.addr addr) as (λ v. (if◌then◌else◌ {A = Option Learning} v (Some (record { mac = pair.mac; later = later })) None)
+    ≡ Some l → length l.mac ≡ 6) [
       | true ↦ λ f. ap (λ (m : Learning). length m.mac) (sym (same_some _ _ f)) ∙ six
       | false ↦ λ f. absurd (none_some l f)
     ] e
@@ -145,7 +157,8 @@ module _ (k : Host) (mac6 : length k.mac ≡ 6) (addr4 : length k.addr ≡ 4) wh
 
   -- a frame of ARP carries no datagram
   arp_sends : (acts : List Act) (to : List ℕ) (operation : ℕ) (mac target : List ℕ) → length to ≡ 6 → length mac ≡ 6 → length target ≡ 4
-      → IsFrame acts (framed (frame_with to k.mac 2054 (arp_packet operation k.mac k.addr mac target))) (frame_with to k.mac 2054 (arp_packet operation k.mac k.addr mac target))
+      → IsFrame acts (framed (frame_with to k.mac 2054 (arp_packet operation k.mac k.addr mac target)))
+      (frame_with to k.mac 2054 (arp_packet operation k.mac k.addr mac target))
   arp_sends acts to operation mac target a b c =
       let packet = arp_packet operation k.mac k.addr mac target in
       let size = sequence_length to k.mac packet 2054 a mac6 in
@@ -195,13 +208,15 @@ module _ (k : Host) (mac6 : length k.mac ≡ 6) (addr4 : length k.addr ≡ 4) wh
   reply_outputs acts own None sound = inl refl
   reply_outputs acts own (Some reply) sound = text_sends acts (reply_bytes own reply) sound
 
-  station_event_sends : (m : AppSpec) (served : ℕ → Bool) (own : Addr) (s : Station Act) (d : StationEvent Act) → AllSound s.acts → IsStationEventSound d → Says s.acts (output_of_event m served (ether_medium k) own s d)
+  station_event_sends : (m : AppSpec) (served : ℕ → Bool) (own : Addr) (s : Station Act) (d : StationEvent Act) → AllSound s.acts
+      → IsStationEventSound d → Says s.acts (output_of_event m served (ether_medium k) own s d)
   station_event_sends m served own s (OfMedium (Asked pair)) sound h = inr (arp_reply k pair, arp_sends s.acts pair.mac 2 pair.mac pair.addr h.1 h.1 h.0)
   station_event_sends m served own s (OfMedium (Replied pair)) sound h = inl refl
   station_event_sends m served own s (OfMedium Ticked) sound h = inl refl
   station_event_sends m served own s (OfNode e) sound h = reply_outputs s.acts own (step m served s.node e).sent sound
 
-  sound_after : (m : AppSpec) (served : ℕ → Bool) (s : Station Act) (d : StationEvent Act) → AllSound s.acts → IsStationEventSound d → AllSound (station_after m served s d).acts
+  sound_after : (m : AppSpec) (served : ℕ → Bool) (s : Station Act) (d : StationEvent Act) → AllSound s.acts → IsStationEventSound d
+      → AllSound (station_after m served s d).acts
   sound_after m served s (OfMedium a) sound h = sound_more s.acts a sound h
   sound_after m served s (OfNode e) sound h = sound
 
@@ -239,9 +254,12 @@ module _ (k : Host) (mac6 : length k.mac ≡ 6) (addr4 : length k.addr ≡ 4) wh
       to = h.to;
     }
 
-    this_or_later : (d : StationEvent Act) (station_events : List (StationEvent Act)) (s : Station Act) (f frame : List ℕ) (i : ℕ) → IsFrame s.acts (output_of_event m served (ether_medium k) own s d) f
-        → ((j : ℕ) (g : List ℕ) → slice_get (frames_from [] (texts station_events (station_after m served s d))) j ≡ Some g → is_datagram (word_at g 12) ≡ true → GoesHome m served k own station_events (station_after m served s d) j g)
-        → slice_get (f ∷ frames_from [] (texts station_events (station_after m served s d))) i ≡ Some frame → is_datagram (word_at frame 12) ≡ true → GoesHome m served k own (d ∷ station_events) s i frame
+    this_or_later : (d : StationEvent Act) (station_events : List (StationEvent Act)) (s : Station Act) (f frame : List ℕ) (i : ℕ)
+        → IsFrame s.acts (output_of_event m served (ether_medium k) own s d) f
+        → ((j : ℕ) (g : List ℕ) → slice_get (frames_from [] (texts station_events (station_after m served s d))) j ≡ Some g
+        → is_datagram (word_at g 12) ≡ true → GoesHome m served k own station_events (station_after m served s d) j g)
+        → slice_get (f ∷ frames_from [] (texts station_events (station_after m served s d))) i ≡ Some frame → is_datagram (word_at frame 12)
+        ≡ true → GoesHome m served k own (d ∷ station_events) s i frame
     this_or_later d station_events s f frame zero h more at e =
         let same : f ≡ frame = cc at in
         record {
@@ -256,7 +274,8 @@ module _ (k : Host) (mac6 : length k.mac ≡ 6) (addr4 : length k.addr ≡ 4) wh
     this_or_later d station_events s f frame (suc i) h more at e = later_home d station_events s f frame i h (more i frame at e)
 
     homes : (station_events : List (StationEvent Act)) (s : Station Act) → AllSound s.acts → AllStationEvents station_events → (i : ℕ) (frame : List ℕ)
-        → slice_get (frames_from [] (texts station_events s)) i ≡ Some frame → is_datagram (word_at frame 12) ≡ true → GoesHome m served k own station_events s i frame
+        → slice_get (frames_from [] (texts station_events s)) i ≡ Some frame → is_datagram (word_at frame 12) ≡ true
+        → GoesHome m served k own station_events s i frame
     homes [] s sound h i frame at e = absurd (cc at)
     homes (d ∷ station_events) s sound h i frame at e =
         let next = station_after m served s d in
@@ -330,12 +349,16 @@ module _ (k : Host) where
       let this = map (station_event_by own) (closed_by k (open_from [] before ++ b ∷ [])) in
       let beat = beat_on (ether_medium k) pace (length before + 1) in
       all_station_events (this ++ beat) (station_events_after (ether_medium k) own pace (before ++ b ∷ []) items)
-      (all_station_events this beat (came_sound own (closed_by k (open_from [] before ++ b ∷ [])) (closes_sound (open_from [] before ++ b ∷ []))) (beat_sound pace (length before + 1)))
+      (all_station_events this beat (came_sound own (closed_by k (open_from [] before ++ b ∷ []))
+      (closes_sound (open_from [] before ++ b ∷ []))) (beat_sound pace (length before + 1)))
       (line_sound own pace (before ++ b ∷ []) items)
-  line_sound own pace before (Quiet ∷ items) = all_station_events (tick_on (ether_medium k)) (station_events_after (ether_medium k) own pace before items) tick_sound (line_sound own pace before items)
+  line_sound own pace before (Quiet ∷ items) = all_station_events (tick_on (ether_medium k)) (station_events_after (ether_medium k) own pace
+      before items) tick_sound (line_sound own pace before items)
 
-pub all_go_home : (m : AppSpec) (served : ℕ → Bool) (k : Host) (own : Addr) (pace : ℕ) (items : List Item) (n : AbstractNode) → length k.mac ≡ 6 → length k.addr ≡ 4
+pub all_go_home : (m : AppSpec) (served : ℕ → Bool) (k : Host) (own : Addr) (pace : ℕ) (items : List Item) (n : AbstractNode)
+    → length k.mac ≡ 6 → length k.addr ≡ 4
     → AllGoHome m served k own (station_events_of_line (ether_medium k) own pace items) (record { acts = []; node = n })
 all_go_home m served k own pace items n mac6 addr4 = record {
-  each = homes k mac6 addr4 m served own (station_events_of_line (ether_medium k) own pace items) (record { acts = []; node = n }) tt (line_sound k own pace [] items);
+  each = homes k mac6 addr4 m served own (station_events_of_line (ether_medium k) own pace items) (record { acts = []; node = n }) tt
+      (line_sound k own pace [] items);
 }

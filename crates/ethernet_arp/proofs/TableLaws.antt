@@ -1,6 +1,13 @@
 -- A table after one more event.
-use Rattle.ethernet_arp.proofs.Prelude.{add-one, ◌≡◌, ℕ, zero, suc, ◌+◌, ◌-◌, ◌<◌, ◌≤◌, ◌&&◌, ◌||◌, Bool, true, false, if◌then◌else◌, cond, nat_lt, min, List, [], ◌∷◌, ◌++◌, Option, None, Some, length, map, take, drop, get_or, refl, sym, ap, ◌∙◌, subst, arith, inl, inr, ◌⊎◌, find, list_any, position_or_len, option_map, slice_get, bytes_eq, le-ltb, ltb-false, ltb-true, lt-ltb, length-map, find_at, is_position_or_len, Act, Learning, Pair, Ticked, addresses_of, among, is_fresh, known, last_learning, taught, ticks_in, AllRemember, AreOlder, AreOrdered, IsAlike, Knows, Remembers, aged, in_table, is_of, moved_prefix, Arp, Entry}
-use Rattle.ethernet_arp.proofs.LearningLaws.{addresses-learnt, addresses-tick, is_same, last-learnt, last-other, last-tick, mac_of, not_among, not_both, on_later, or_parts, same, ticks-learnt, ticks-tick}
+use Rattle.ethernet_arp.proofs.Prelude.{add-one, ◌≡◌, ℕ, zero, suc, ◌+◌, ◌-◌, ◌<◌, ◌≤◌, ◌&&◌, ◌||◌, Bool, true, false, if◌then◌else◌, cond}
+use Rattle.ethernet_arp.proofs.Prelude.{nat_lt, min, List, [], ◌∷◌, ◌++◌, Option, None, Some, length, map, take, drop, get_or, refl, sym}
+use Rattle.ethernet_arp.proofs.Prelude.{ap, ◌∙◌, subst, arith, inl, inr, ◌⊎◌, find, list_any, position_or_len, option_map, slice_get}
+use Rattle.ethernet_arp.proofs.Prelude.{bytes_eq, le-ltb, ltb-false, ltb-true, lt-ltb, length-map, find_at, is_position_or_len, Act}
+use Rattle.ethernet_arp.proofs.Prelude.{Learning, Pair, Ticked, addresses_of, among, is_fresh, known, last_learning, taught, ticks_in}
+use Rattle.ethernet_arp.proofs.Prelude.{AllRemember, AreOlder, AreOrdered, IsAlike, Knows, Remembers, aged, in_table, is_of, moved_prefix}
+use Rattle.ethernet_arp.proofs.Prelude.{Arp, Entry}
+use Rattle.ethernet_arp.proofs.LearningLaws.{addresses-learnt, addresses-tick, is_same, last-learnt, last-other, last-tick, mac_of}
+use Rattle.ethernet_arp.proofs.LearningLaws.{not_among, not_both, on_later, or_parts, same, ticks-learnt, ticks-tick}
 
 pub like_same : (xs : List (List ℕ)) → IsAlike xs xs
 like_same xs = record { size = refl; same = λ y. refl }
@@ -82,12 +89,14 @@ module _ (acts : List Act) (act : Act) (pair : Pair) (is : taught act ≡ Some p
       let one = (addresses-learnt l.later act pair is).size ∙ ap (λ v. length (addresses_of l.later) + (if v then 0 else 1)) (e.same pair.addr ∙ there) in
       let s = e.size in omega arith
 
-  grown : (l : Learning) (prefix prefix' : List (List ℕ)) → IsAlike (addresses_of l.later) prefix → among pair.addr prefix ≡ false → IsAlike (pair.addr ∷ prefix) prefix'
+  grown : (l : Learning) (prefix prefix' : List (List ℕ)) → IsAlike (addresses_of l.later) prefix → among pair.addr prefix ≡ false
+      → IsAlike (pair.addr ∷ prefix) prefix'
       → IsAlike (addresses_of (l.later ++ act ∷ [])) prefix'
   grown l prefix prefix' e new f =
       record {
         size = let one = sized l prefix false e new in let t = f.size in omega arith;
-        same = λ y. (addresses-learnt l.later act pair is).same y ∙ ap (λ v. v || bytes_eq pair.addr y) (e.same y) ∙ or_comm (among y prefix) (bytes_eq pair.addr y) ∙ f.same y;
+        same = λ y. (addresses-learnt l.later act pair is).same y ∙ ap (λ v. v || bytes_eq pair.addr y) (e.same y)
+            ∙ or_comm (among y prefix) (bytes_eq pair.addr y) ∙ f.same y;
       }
     where
       or_comm : (a b : Bool) → (a || b) ≡ (b || a)
@@ -118,7 +127,8 @@ module _ (acts : List Act) (act : Act) (pair : Pair) (is : taught act ≡ Some p
       → last_learning e.addr.0 now ≡ Some (later l)
   other e prefix l last new = last-other e.addr.0 acts act pair is new ∙ ap (λ (o : Option Learning). on_later act o) last
 
-  remember_new : (e : Entry) (prefix prefix' : List (List ℕ)) → bytes_eq pair.addr e.addr.0 ≡ false → among pair.addr prefix ≡ false → IsAlike (pair.addr ∷ prefix) prefix'
+  remember_new : (e : Entry) (prefix prefix' : List (List ℕ)) → bytes_eq pair.addr e.addr.0 ≡ false → among pair.addr prefix ≡ false
+      → IsAlike (pair.addr ∷ prefix) prefix'
       → Remembers acts prefix e → Remembers now prefix' e
   remember_new e prefix prefix' away new f r = record {
     learning = later r.learning;
@@ -133,11 +143,13 @@ module _ (acts : List Act) (act : Act) (pair : Pair) (is : taught act ≡ Some p
   not_own e prefix old r =
       elim (bytes_eq pair.addr e.addr.0) as (λ v. bytes_eq pair.addr e.addr.0 ≡ v → v ≡ false) [
         | true ↦ λ h. absurd (not_both (among pair.addr prefix) old
-            (sym (r.others.same pair.addr) ∙ ap (λ z. among z (addresses_of r.learning.later)) (is_same pair.addr e.addr.0 h) ∙ not_among e.addr.0 acts r.learning r.last))
+            (sym (r.others.same pair.addr) ∙ ap (λ z. among z (addresses_of r.learning.later)) (is_same pair.addr e.addr.0 h)
+            ∙ not_among e.addr.0 acts r.learning r.last))
         | false ↦ λ h. refl
       ] refl
 
-  remember_old : (e : Entry) (prefix prefix' : List (List ℕ)) → among pair.addr prefix ≡ true → IsAlike prefix prefix' → Remembers acts prefix e → Remembers now prefix' e
+  remember_old : (e : Entry) (prefix prefix' : List (List ℕ)) → among pair.addr prefix ≡ true → IsAlike prefix prefix'
+      → Remembers acts prefix e → Remembers now prefix' e
   remember_old e prefix prefix' old f r = record {
     learning = later r.learning;
     last = other e prefix r.learning r.last (not_own e prefix old r);
@@ -147,11 +159,13 @@ module _ (acts : List Act) (act : Act) (pair : Pair) (is : taught act ≡ Some p
   }
 
   -- entries after the one that was learnt again
-  all_old : (es : List Entry) (prefix prefix' : List (List ℕ)) → among pair.addr prefix ≡ true → IsAlike prefix prefix' → AllRemember acts prefix es → AllRemember now prefix' es
+  all_old : (es : List Entry) (prefix prefix' : List (List ℕ)) → among pair.addr prefix ≡ true → IsAlike prefix prefix'
+      → AllRemember acts prefix es → AllRemember now prefix' es
   all_old [] prefix prefix' old f r = tt
   all_old (e ∷ es) prefix prefix' old f r = (
     λ live. remember_old e prefix prefix' old f (r.0 live),
-    all_old es (e.addr.0 ∷ prefix) (e.addr.0 ∷ prefix') (or_right (bytes_eq e.addr.0 pair.addr) (among pair.addr prefix) old) (like_more e.addr.0 prefix prefix' f) r.1,
+    all_old es (e.addr.0 ∷ prefix) (e.addr.0 ∷ prefix') (or_right (bytes_eq e.addr.0 pair.addr) (among pair.addr prefix) old)
+        (like_more e.addr.0 prefix prefix' f) r.1,
   )
     where
       or_right : (a b : Bool) → b ≡ true → (a || b) ≡ true
@@ -253,7 +267,8 @@ module _ (acts : List Act) (act : Act) (pair : Pair) (is : taught act ≡ Some p
   fresh_less l e =
       let h = addresses-learnt l.later act pair is in
       let ticks = ticks-learnt l.later act pair is in
-      no_fresher (ticks_in l.later) (ticks_in (l.later ++ act ∷ [])) (length (addresses_of l.later)) (length (addresses_of (l.later ++ act ∷ []))) (omega (arith, ticks))
+      no_fresher (ticks_in l.later) (ticks_in (l.later ++ act ∷ [])) (length (addresses_of l.later))
+      (length (addresses_of (l.later ++ act ∷ []))) (omega (arith, ticks))
       (at_least (length (addresses_of l.later)) (length (addresses_of (l.later ++ act ∷ []))) (among pair.addr (addresses_of l.later)) h.size) e
     where
       at_least : (n m : ℕ) (b : Bool) → m ≡ n + (if b then 0 else 1) → n ≤ m
@@ -268,20 +283,24 @@ module _ (acts : List Act) (act : Act) (pair : Pair) (is : taught act ≡ Some p
   still_unknown addr away e = ap (λ (o : Option Learning). mac_of o) (last-other addr acts act pair is away) ∙ mac_none (last_learning addr acts) e
 
   -- the last entry is forgotten at the eighth other address
-  last_unknown : (e : Entry) (prefix : List (List ℕ)) → length prefix ≡ 7 → bytes_eq pair.addr e.addr.0 ≡ false → among pair.addr prefix ≡ false → Remembers acts prefix e
+  last_unknown : (e : Entry) (prefix : List (List ℕ)) → length prefix ≡ 7 → bytes_eq pair.addr e.addr.0 ≡ false → among pair.addr prefix
+      ≡ false → Remembers acts prefix e
       → known after e.addr.0 ≡ None
   last_unknown e prefix seven away new r =
       let l = r.learning in
-      let more : length (addresses_of (l.later ++ act ∷ [])) ≡ length (pair.addr ∷ prefix) = (grown acts act pair is l prefix (pair.addr ∷ prefix) r.others new (like_same (pair.addr ∷ prefix))).size in
+      let more : length (addresses_of (l.later ++ act ∷ [])) ≡ length (pair.addr ∷ prefix) =
+      (grown acts act pair is l prefix (pair.addr ∷ prefix) r.others new (like_same (pair.addr ∷ prefix))).size in
       ap (λ (o : Option Learning). mac_of o) (other acts act pair is e prefix l r.last away)
-      ∙ ap (λ v. if v then Some l.mac else None) (full (nat_lt (ticks_in (l.later ++ act ∷ [])) 2400) (length (addresses_of (l.later ++ act ∷ []))) (omega (arith, more, seven)))
+      ∙ ap (λ v. if v then Some l.mac else None) (full (nat_lt (ticks_in (l.later ++ act ∷ [])) 2400)
+      (length (addresses_of (l.later ++ act ∷ []))) (omega (arith, more, seven)))
     where
       full : (b : Bool) (n : ℕ) → n ≡ 8 → (b && nat_lt n 8) ≡ false
       full true n e = ap (λ m. nat_lt m 8) e
       full false n e = refl
 
   -- what is in no entry after a learning was in none before, or is not known
-  dropped : (addr : List ℕ) (es : List Entry) (prefix : List (List ℕ)) → bytes_eq pair.addr addr ≡ false → among pair.addr prefix ≡ false → length prefix + length es ≡ 8
+  dropped : (addr : List ℕ) (es : List Entry) (prefix : List (List ℕ)) → bytes_eq pair.addr addr ≡ false → among pair.addr prefix ≡ false
+      → length prefix + length es ≡ 8
       → AreOrdered es → AllRemember acts prefix es → list_any (λ e. is_of addr e) (without pair.addr es) ≡ false
       → (list_any (λ e. is_of addr e) es ≡ false) ⊎ (known after addr ≡ None)
   dropped addr [] prefix away new size o r none = inl refl
@@ -300,10 +319,11 @@ module _ (acts : List Act) (act : Act) (pair : Pair) (is : taught act ≡ Some p
         | false ↦ λ h rest.
             let parts = or_parts (is_of addr e) (list_any (λ y. is_of addr y) (without pair.addr (x ∷ es))) rest in
             elim (is_live e.age) [
-              | inl live ↦ elim (dropped addr (x ∷ es) (e.addr.0 ∷ prefix) away (not_in e.addr.0 prefix (other_entry pair.addr e live h) new) (omega (arith, size)) o.1 r.1 parts.1) [
-                | inl was ↦ inl (ap (λ v. v || list_any (λ y. is_of addr y) (x ∷ es)) parts.0 ∙ was)
-                | inr not ↦ inr not
-              ]
+              | inl live ↦ elim (dropped addr (x ∷ es) (e.addr.0 ∷ prefix) away (not_in e.addr.0 prefix (other_entry pair.addr e live h)
+                  new) (omega (arith, size)) o.1 r.1 parts.1) [
+                    | inl was ↦ inl (ap (λ v. v || list_any (λ y. is_of addr y) (x ∷ es)) parts.0 ∙ was)
+                    | inr not ↦ inr not
+                  ]
               | inr old ↦ inl (ap (λ v. v || list_any (λ y. is_of addr y) (x ∷ es)) parts.0 ∙ none_gone addr e.age (x ∷ es) old o.0)
             ]
       ] refl none
@@ -320,15 +340,19 @@ module _ (acts : List Act) (act : Act) (pair : Pair) (is : taught act ≡ Some p
       → new.entries ≡ entry ∷ without pair.addr arp.entries → Knows arp acts → Knows new after
   knows_learnt arp new entry addr mac age e k =
       let table : AllRemember after (entry.addr.0 ∷ []) (without pair.addr arp.entries) =
-      all_learnt arp.entries [] (entry.addr.0 ∷ []) refl (like_found pair.addr [] (entry.addr.0 ∷ []) refl (subst (λ (l : List ℕ). IsAlike (pair.addr ∷ []) (l ∷ [])) (sym addr) (like_same (pair.addr ∷ [])))) k.order k.entries in
+      all_learnt arp.entries [] (entry.addr.0 ∷ []) refl (like_found pair.addr [] (entry.addr.0 ∷ []) refl
+      (subst (λ (l : List ℕ). IsAlike (pair.addr ∷ []) (l ∷ [])) (sym addr) (like_same (pair.addr ∷ [])))) k.order k.entries in
       let size = k.size in
       record {
         size = ap (λ (l : List Entry). length l) e ∙ one_for_one pair.addr entry arp.entries size;
         entries = subst (λ (l : List Entry). AllRemember after [] l) (sym e) (λ live. remembered entry addr mac age, table);
-        order = subst (λ (l : List Entry). AreOrdered l) (sym e)
-            (subst (λ (n : ℕ). AreOlder n (without pair.addr arp.entries)) (sym age) (all_older_than_none (without pair.addr arp.entries)), ordered_without pair.addr arp.entries k.order);
+        order = subst (λ (l : List Entry). AreOrdered l) (sym e) (
+          subst (λ (n : ℕ). AreOlder n (without pair.addr arp.entries)) (sym age) (all_older_than_none (without pair.addr arp.entries)),
+          ordered_without pair.addr arp.entries k.order,
+        );
         rest = λ x none.
-            let parts = or_parts (is_of x entry) (list_any (λ y. is_of x y) (without pair.addr arp.entries)) (ap (λ (l : List Entry). list_any (λ y. is_of x y) l) (sym e) ∙ none) in
+            let parts = or_parts (is_of x entry) (list_any (λ y. is_of x y) (without pair.addr arp.entries))
+            (ap (λ (l : List Entry). list_any (λ y. is_of x y) l) (sym e) ∙ none) in
             let away : bytes_eq pair.addr x ≡ false = ap (λ l. bytes_eq l x) (sym addr) ∙ other_entry x entry (omega (arith, age)) parts.0 in
             elim (dropped x arp.entries [] away refl (omega (arith, size)) k.order k.entries parts.1) [
               | inl was ↦ still_unknown x away (k.rest x was)
@@ -358,7 +382,8 @@ place_is addr es = is_position_or_len (λ l. place_in addr l) (λ e. is_of addr 
     one_more false n = omega arith
 
 -- the table as the code moves it
-moved_is : (addr : List ℕ) (es : List Entry) (p : ℕ) → 0 < length es → p ≡ min (place_in addr es) (length es - 1) → take p es ++ drop (suc p) es ≡ without addr es
+moved_is : (addr : List ℕ) (es : List Entry) (p : ℕ) → 0 < length es → p ≡ min (place_in addr es) (length es - 1)
+    → take p es ++ drop (suc p) es ≡ without addr es
 moved_is addr [] p some e = absurd (omega arith)
 moved_is addr (e ∷ []) p some h =
     let zero_is : 0 ≡ p = omega (arith, h) in
@@ -380,7 +405,8 @@ pub moved_prefix_is : (addr : List ℕ) (e : Entry) (es : List Entry) (p : ℕ) 
     → moved_prefix e p es ≡ e ∷ without addr es
 moved_prefix_is addr e es p size h =
     ap (λ n. e ∷ take p es ++ drop n es) (add-one p)
-    ∙ ap (λ l. e ∷ l) (moved_is addr es p (omega (arith, size)) (h ∙ ap (λ n. min n 7) (sym (place_is addr es)) ∙ ap (λ n. min (place_in addr es) n) (omega (arith, size))))
+    ∙ ap (λ l. e ∷ l) (moved_is addr es p (omega (arith, size)) (h ∙ ap (λ n. min n 7) (sym (place_is addr es))
+    ∙ ap (λ n. min (place_in addr es) n) (omega (arith, size))))
 
 -- what an entry has is known
 tells : (acts : List Act) (e : Entry) (prefix : List (List ℕ)) → e.age < 2400 → length prefix < 8 → Remembers acts prefix e → Some e.mac.0 ≡ known acts e.addr.0
@@ -389,10 +415,12 @@ tells acts e prefix young few r =
     let ticks : ticks_in l.later < 2400 = (let a = r.age in omega arith) in
     let others : length (addresses_of l.later) < 8 = (let s = r.others.size in omega arith) in
     ap (λ m. Some m) (sym r.mac)
-    ∙ sym (ap (λ v. if v then Some l.mac else None) (ap (λ v. v && nat_lt (length (addresses_of l.later)) 8) (lt-ltb (ticks_in l.later) 2400 ticks) ∙ lt-ltb (length (addresses_of l.later)) 8 others))
+    ∙ sym (ap (λ v. if v then Some l.mac else None) (ap (λ v. v && nat_lt (length (addresses_of l.later)) 8)
+    (lt-ltb (ticks_in l.later) 2400 ticks) ∙ lt-ltb (length (addresses_of l.later)) 8 others))
     ∙ sym (ap (λ (o : Option Learning). mac_of o) r.last)
 
-found_is : (acts : List Act) (addr : List ℕ) (es : List Entry) (prefix : List (List ℕ)) (n : ℕ) (none : Entry) → length prefix + length es ≡ 8 → AllRemember acts prefix es
+found_is : (acts : List Act) (addr : List ℕ) (es : List Entry) (prefix : List (List ℕ)) (n : ℕ) (none : Entry) → length prefix + length es
+    ≡ 8 → AllRemember acts prefix es
     → n ≡ place_in addr es → n < length es → Some (get_or es n none).mac.0 ≡ known acts addr
 found_is acts addr [] prefix n none size r e below = absurd (omega arith)
 found_is acts addr (x ∷ es) prefix n none size r e below =
@@ -406,7 +434,8 @@ found_is acts addr (x ∷ es) prefix n none size r e below =
           (found_is acts addr es (x.addr.0 ∷ prefix) (place_in addr es) none (omega (arith, size)) r.1 refl (omega (arith, below, k)))
     ] refl e
 
-pub known_is : (arp : Arp) (acts : List Act) (addr : List ℕ) (n : ℕ) (none : Entry) → Knows arp acts → n ≡ position_or_len (λ e. is_of addr e) arp.entries → n < 8
+pub known_is : (arp : Arp) (acts : List Act) (addr : List ℕ) (n : ℕ) (none : Entry) → Knows arp acts
+    → n ≡ position_or_len (λ e. is_of addr e) arp.entries → n < 8
     → Some (get_or arp.entries n none).mac.0 ≡ known acts addr
 known_is arp acts addr n none k e below =
     let size = k.size in
@@ -422,7 +451,8 @@ none_found addr (x ∷ es) e =
 
 pub unknown_is : (arp : Arp) (acts : List Act) (addr : List ℕ) (n : ℕ) → Knows arp acts → n ≡ position_or_len (λ e. is_of addr e) arp.entries → 8 ≤ n
     → None ≡ known acts addr
-unknown_is arp acts addr n k e over = let size = k.size in sym (k.rest addr (none_found addr arp.entries (let p = place_is addr arp.entries in omega (arith, size, over, e))))
+unknown_is arp acts addr n k e over = let size = k.size in
+    sym (k.rest addr (none_found addr arp.entries (let p = place_is addr arp.entries in omega (arith, size, over, e))))
 
 -- the table after a tick
 abbrev grow : ℕ → ℕ
@@ -456,7 +486,8 @@ module _ (acts : List Act) where
   abbrev ticked : List Act
   ticked = acts ++ Ticked ∷ []
 
-  last_ticked : (addr : List ℕ) (l : Learning) → last_learning addr acts ≡ Some l → last_learning addr ticked ≡ Some (record { mac = l.mac; later = l.later ++ Ticked ∷ [] })
+  last_ticked : (addr : List ℕ) (l : Learning) → last_learning addr acts ≡ Some l → last_learning addr ticked
+      ≡ Some (record { mac = l.mac; later = l.later ++ Ticked ∷ [] })
   last_ticked addr l e = last-tick addr acts ∙ ap (λ (o : Option Learning). on_later Ticked o) e
 
   remember_tick : (e : Entry) (prefix : List (List ℕ)) → e.age < 2400 → Remembers acts prefix e → Remembers ticked prefix (aged e)
@@ -480,7 +511,8 @@ module _ (acts : List Act) where
 
   mac_ticked : (o : Option Learning) → mac_of o ≡ None → mac_of (on_later Ticked o) ≡ None
   mac_ticked None e = refl
-  mac_ticked (Some l) e = ap (λ v. if v then Some l.mac else None) (no_fresher (ticks_in l.later) (ticks_in (l.later ++ Ticked ∷ [])) (length (addresses_of l.later)) (length (addresses_of (l.later ++ Ticked ∷ [])))
+  mac_ticked (Some l) e = ap (λ v. if v then Some l.mac else None) (no_fresher (ticks_in l.later) (ticks_in (l.later ++ Ticked ∷ []))
+      (length (addresses_of l.later)) (length (addresses_of (l.later ++ Ticked ∷ [])))
       (omega (arith, ticks-tick l.later)) (omega (arith, ap (λ (x : List (List ℕ)). length x) (addresses-tick l.later))) (stale l e))
 
   -- an entry at its last tick

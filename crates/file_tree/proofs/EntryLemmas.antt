@@ -1,5 +1,8 @@
 -- The fault of an entry by its parts, and the file that an entry without fault represents.
-use Rattle.file_tree.proofs.Prelude.{◌≡◌, ℕ, ◌+◌, true, false, cond, List, drop, Option, Some, None, sym, ap, ◌∙◌, arith, slice_range, option_or, SiteWhy, Twice, Part, Version, File, has_name, text, after_text, kind_given, after_kind, content, after_content, name_fault, kind_fault, content_fault, entry_fault, IsPart, twice, FileId, IsOrder, IsSlot, IsEntry, place_by}
+use Rattle.file_tree.proofs.Prelude.{◌≡◌, ℕ, ◌+◌, true, false, cond, List, drop, Option, Some, None, sym, ap, ◌∙◌, arith, slice_range}
+use Rattle.file_tree.proofs.Prelude.{option_or, SiteWhy, Twice, Part, Version, File, has_name, text, after_text, kind_given, after_kind}
+use Rattle.file_tree.proofs.Prelude.{content, after_content, name_fault, kind_fault, content_fault, entry_fault, IsPart, twice, FileId}
+use Rattle.file_tree.proofs.Prelude.{IsOrder, IsSlot, IsEntry, place_by}
 use Rattle.file_tree.proofs.OrderLemmas.{slot-fresh}
 
 module _ (version : Version) (earlier : List File) (bytes : List ℕ) where
@@ -21,7 +24,8 @@ module _ (version : Version) (earlier : List File) (bytes : List ℕ) where
   after-twice : name_fault bytes ≡ None → has_name earlier (text bytes) ≡ false → entry_fault version earlier bytes ≡ option_or kinds contents
   after-twice e t = after-name e ∙ ap (λ b. option_or (cond b (Some Twice) None) (option_or kinds contents)) t
 
-  pub fault-kind : (why : SiteWhy) (rest : List ℕ) → name_fault bytes ≡ None → has_name earlier (text bytes) ≡ false → rest ≡ after_text bytes → kind_fault version rest ≡ Some why
+  pub fault-kind : (why : SiteWhy) (rest : List ℕ) → name_fault bytes ≡ None → has_name earlier (text bytes) ≡ false
+      → rest ≡ after_text bytes → kind_fault version rest ≡ Some why
       → entry_fault version earlier bytes ≡ Some why
   fault-kind why rest e t is k = after-twice e t ∙ ap (λ o. option_or o contents) (ap (kind_fault version) (sym is) ∙ k)
 
@@ -29,15 +33,18 @@ module _ (version : Version) (earlier : List File) (bytes : List ℕ) where
       → entry_fault version earlier bytes ≡ contents
   after-kinds rest e t is k = after-twice e t ∙ ap (λ o. option_or o contents) (ap (kind_fault version) (sym is) ∙ k)
 
-  pub fault-content : (o : Option SiteWhy) (rest last : List ℕ) → name_fault bytes ≡ None → has_name earlier (text bytes) ≡ false → rest ≡ after_text bytes → kind_fault version rest ≡ None
+  pub fault-content : (o : Option SiteWhy) (rest last : List ℕ) → name_fault bytes ≡ None → has_name earlier (text bytes) ≡ false
+      → rest ≡ after_text bytes → kind_fault version rest ≡ None
       → last ≡ after_kind version rest → content_fault last ≡ o → entry_fault version earlier bytes ≡ o
   fault-content o rest last e t is k last_is c =
       after-kinds rest e t is k ∙ ap content_fault (sym (last_is ∙ ap (after_kind version) is)) ∙ c
 
-pub entry-by-parts : (image : List ℕ) (version : Version) (earlier : List File) (order : List FileId) (at : ℕ) (name kind body : Part) (slot : ℕ) → IsOrder earlier order
+pub entry-by-parts : (image : List ℕ) (version : Version) (earlier : List File) (order : List FileId) (at : ℕ) (name kind body : Part)
+    (slot : ℕ) → IsOrder earlier order
     → name_fault (drop at image) ≡ None → IsPart image name (text (drop at image)) (after_text (drop at image))
     → IsSlot earlier order (slice_range image name.at (name.at + name.len)) slot
-    → kind_fault version (drop name.next image) ≡ None → IsPart image kind (kind_given version (drop name.next image)) (after_kind version (drop name.next image))
+    → kind_fault version (drop name.next image) ≡ None → IsPart image kind (kind_given version (drop name.next image))
+    (after_kind version (drop name.next image))
     → content_fault (drop kind.next image) ≡ None → IsPart image body (content (drop kind.next image)) (after_content (drop kind.next image))
     → IsEntry image version earlier order at (place_by name kind body) slot body.next
 entry-by-parts image version earlier order at name kind body slot is n name_is s k kind_is b body_is =

@@ -1,5 +1,7 @@
 -- Scripts without a fault, up to an index of the files.
-use Rattle.file_tree.proofs.Prelude.{◌≡◌, ℕ, ◌+◌, ◌<◌, ◌≤◌, List, length, get_or, Option, Some, None, refl, sym, ap, inl, inr, ◌∙◌, arith, slice_get, option_map, cases_eq, slice_get-get_or, slice_get_within, get_or_from_slice_get, slice_get-map, same_Some, Calling, Place, SiteWhy, script_fault_by, file_in, files_in, HasSoundScripts}
+use Rattle.file_tree.proofs.Prelude.{◌≡◌, ℕ, ◌+◌, ◌<◌, ◌≤◌, List, length, get_or, Option, Some, None, refl, sym, ap, inl, inr, ◌∙◌, arith}
+use Rattle.file_tree.proofs.Prelude.{slice_get, option_map, cases_eq, slice_get-get_or, slice_get_within, get_or_from_slice_get}
+use Rattle.file_tree.proofs.Prelude.{slice_get-map, same_Some, Calling, Place, SiteWhy, script_fault_by, file_in, files_in, HasSoundScripts}
 
 abbrev fault_at : {F : Type 0} → Calling F → List ℕ → List Place → Place → Option SiteWhy
 fault_at c image places place = script_fault_by c (files_in image places) (file_in image place)

@@ -1,5 +1,7 @@
 -- An image that grows at its end preserves its files and their order.
-use Rattle.file_tree.proofs.Prelude.{◌≡◌, ℕ, ◌+◌, ◌-◌, ◌≤◌, List, [], ◌∷◌, ◌++◌, length, take, drop, refl, sym, ap, subst, ◌∙◌, add-one, arith, slice_range, slice_get, insert, length-append, take-append-le, drop-append-le, length-drop, map_push, Place, File, IsWithin, file_in, files_in, FileId, IsOrder, IsSlot, AreWithin, IsIndex}
+use Rattle.file_tree.proofs.Prelude.{◌≡◌, ℕ, ◌+◌, ◌-◌, ◌≤◌, List, [], ◌∷◌, ◌++◌, length, take, drop, refl, sym, ap, subst, ◌∙◌, add-one}
+use Rattle.file_tree.proofs.Prelude.{arith, slice_range, slice_get, insert, length-append, take-append-le, drop-append-le, length-drop}
+use Rattle.file_tree.proofs.Prelude.{map_push, Place, File, IsWithin, file_in, files_in, FileId, IsOrder, IsSlot, AreWithin, IsIndex}
 use Rattle.file_tree.proofs.TableLemmas.{within-push, table-insert}
 
 part-grown : (image more : List ℕ) (at len : ℕ) → at + len ≤ length image → slice_range (image ++ more) at (at + len) ≡ slice_range image at (at + len)
@@ -48,12 +50,15 @@ file-push image grown more places place file is all within file_is =
 
 -- a further file at the end of the image
 pub table-push : (image grown : List ℕ) (more : List ℕ) (places : List Place) (order : List FileId) (place : Place) (file : File) (slot number : ℕ)
-    → grown ≡ image ++ more → IsIndex image places order → IsSlot (files_in image places) order file.name slot → IsWithin grown place → file_in grown place ≡ file → length places ≡ number
-    → IsIndex grown (places ++ place ∷ []) (insert order slot (record { 0 = number })) × (files_in grown (places ++ place ∷ []) ≡ files_in image places ++ file ∷ [])
+    → grown ≡ image ++ more → IsIndex image places order → IsSlot (files_in image places) order file.name slot → IsWithin grown place
+    → file_in grown place ≡ file → length places ≡ number
+    → IsIndex grown (places ++ place ∷ []) (insert order slot (record { 0 = number }))
+    × (files_in grown (places ++ place ∷ []) ≡ files_in image places ++ file ∷ [])
 table-push image grown more places order place file slot number is table s within file_is count =
     let kept : files_in grown places ≡ files_in image places = ap (λ x. files_in x places) is ∙ files-grown image more places table.within in
     let old : IsIndex grown places order = subst (λ x. IsIndex x places order) (sym is) (table-grown image more places order table) in (
       table-insert grown places order place slot number old within
-          (subst (λ fs. IsSlot fs order (file_in grown place).name slot) (sym kept) (subst (λ n. IsSlot (files_in image places) order n slot) (sym (ap (λ (f : File). f.name) file_is)) s)) count,
+          (subst (λ fs. IsSlot fs order (file_in grown place).name slot) (sym kept)
+          (subst (λ n. IsSlot (files_in image places) order n slot) (sym (ap (λ (f : File). f.name) file_is)) s)) count,
       map_push (file_in grown) places place ∙ ap (λ fs. fs ++ file_in grown place ∷ []) kept ∙ ap (λ f. files_in image places ++ f ∷ []) file_is,
     )

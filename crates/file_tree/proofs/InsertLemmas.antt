@@ -1,5 +1,6 @@
 -- An item that is appended to a list and moved towards its start, place by place.
-use Rattle.file_tree.proofs.Prelude.{◌≡◌, ℕ, zero, suc, ◌-◌, ◌<◌, ◌≤◌, List, [], ◌∷◌, length, get_or, set, insert, refl, ap, sym, ◌∙◌, arith, length-insert}
+use Rattle.file_tree.proofs.Prelude.{◌≡◌, ℕ, zero, suc, ◌-◌, ◌<◌, ◌≤◌, List, [], ◌∷◌, length, get_or, set, insert, refl, ap, sym, ◌∙◌}
+use Rattle.file_tree.proofs.Prelude.{arith, length-insert}
 use Rattle.std.proofs.lemmas.List.Edits.{swap_is}
 use Rattle.std.specs.List.{swap}
 

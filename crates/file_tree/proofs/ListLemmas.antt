@@ -1,5 +1,6 @@
 -- The names of a list in turn.
-use Rattle.file_tree.proofs.Prelude.{◌≡◌, ℕ, Bool, true, false, not, List, [], ◌∷◌, Some, None, refl, not_from_true, Name, Twice, is_name, File, has_name, first_of, listed_fault}
+use Rattle.file_tree.proofs.Prelude.{◌≡◌, ℕ, Bool, true, false, not, List, [], ◌∷◌, Some, None, refl, not_from_true, Name, Twice, is_name}
+use Rattle.file_tree.proofs.Prelude.{File, has_name, first_of, listed_fault}
 
 second-row : (a b : Bool) → a ≡ false → b ≡ true → first_of ((a, Name) ∷ (b, Twice) ∷ []) ≡ Some Twice
 second-row true b p q = absurd cc

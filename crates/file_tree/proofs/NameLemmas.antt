@@ -1,5 +1,8 @@
 -- The order of names, and the name of a file by its place in an image.
-use Rattle.file_tree.proofs.Prelude.{◌≡◌, ℕ, ◌<◌, List, [], length, get_or, ◌∷◌, refl, sym, ap, subst, ◌∙◌, nat_cmp, ordering_reverse, ordering_then, MatchOrdering, slice_cmp, Ordering, Less, Equal, Greater, nat_list_cmp_total, tied_itself, ranked, get_or-map, slice_get_read, Place, File, IsWithin, file_in, files_in, IsBefore, name_of, AreWithin}
+use Rattle.file_tree.proofs.Prelude.{◌≡◌, ℕ, ◌<◌, List, [], length, get_or, ◌∷◌, refl, sym, ap, subst, ◌∙◌, nat_cmp, ordering_reverse}
+use Rattle.file_tree.proofs.Prelude.{ordering_then, MatchOrdering, slice_cmp, Ordering, Less, Equal, Greater, nat_list_cmp_total}
+use Rattle.file_tree.proofs.Prelude.{tied_itself, ranked, get_or-map, slice_get_read, Place, File, IsWithin, file_in, files_in, IsBefore}
+use Rattle.file_tree.proofs.Prelude.{name_of, AreWithin}
 
 pub before-trans : (a b c : List ℕ) → IsBefore a b → IsBefore b c → IsBefore a c
 before-trans a b c p q = nat_list_cmp_total.trans a b c p q

@@ -1,9 +1,14 @@
 -- The file of a name, by its id.
-use Rattle.file_tree.proofs.Prelude.{◌≡◌, ℕ, zero, suc, ◌+◌, ◌-◌, ◌<◌, ◌≤◌, false, List, [], ◌∷◌, length, get_or, drop, Some, None, refl, sym, ap, inl, inr, ◌∙◌, arith, find, slice_range, slice_get, bytes_eq, cases_order, or_parts, false_from_ne_true, cond-true, cond-false, length-take, length-drop, length-map, get_or-map, slice_get-get_or, bytes_eq-Decides, option_map_or, Place, File, has_name, file_named, IsWithin, file_in, files_in, FileId, name_of, id_at, name_at, AreWithin, IsOrder, IsIndex}
+use Rattle.file_tree.proofs.Prelude.{◌≡◌, ℕ, zero, suc, ◌+◌, ◌-◌, ◌<◌, ◌≤◌, false, List, [], ◌∷◌, length, get_or, drop, Some, None, refl}
+use Rattle.file_tree.proofs.Prelude.{sym, ap, inl, inr, ◌∙◌, arith, find, slice_range, slice_get, bytes_eq, cases_order, or_parts}
+use Rattle.file_tree.proofs.Prelude.{false_from_ne_true, cond-true, cond-false, length-take, length-drop, length-map, get_or-map}
+use Rattle.file_tree.proofs.Prelude.{slice_get-get_or, bytes_eq-Decides, option_map_or, Place, File, has_name, file_named, IsWithin}
+use Rattle.file_tree.proofs.Prelude.{file_in, files_in, FileId, name_of, id_at, name_at, AreWithin, IsOrder, IsIndex}
 use Rattle.file_tree.proofs.NameLemmas.{not-before-itself}
 
 -- no two files have one name
-pub same-id : (files : List File) (order : List FileId) (j k : ℕ) → IsOrder files order → j < length files → k < length files → name_of files j ≡ name_of files k → j ≡ k
+pub same-id : (files : List File) (order : List FileId) (j k : ℕ) → IsOrder files order → j < length files → k < length files
+    → name_of files j ≡ name_of files k → j ≡ k
 same-id files order j k is p q e =
     let a = is.each j p in
     let b = is.each k q in
@@ -19,7 +24,8 @@ same-id files order j k is p q e =
     ]
 
 -- the first file of a name
-named-first : (files : List File) (id : ℕ) (name : List ℕ) (d : File) → id < length files → name_of files id ≡ name → ((k : ℕ) → k < id → name_of files k ≡ name → ⊥)
+named-first : (files : List File) (id : ℕ) (name : List ℕ) (d : File) → id < length files → name_of files id ≡ name
+    → ((k : ℕ) → k < id → name_of files k ≡ name → ⊥)
     → file_named files name ≡ Some (get_or files id d)
 named-first [] id name d lt e none = absurd (omega arith)
 named-first (f ∷ files) zero name d lt e none =
@@ -44,8 +50,10 @@ pub place-at : (image : List ℕ) (places : List Place) (id : ℕ) (d : Place) �
 place-at image places id d within lt = within id (get_or places id d) (slice_get-get_or places id d lt)
 
 -- the place with the id has the length of the file of the name
-pub named-length : (image : List ℕ) (places : List Place) (order : List FileId) (id : ℕ) (name : List ℕ) (d : Place) → IsIndex image places order → id < length places
-    → name_of (files_in image places) id ≡ name → (get_or places id d).len ≡ option_map_or (λ file. length file.content) (file_named (files_in image places) name) 0
+pub named-length : (image : List ℕ) (places : List Place) (order : List FileId) (id : ℕ) (name : List ℕ) (d : Place)
+    → IsIndex image places order → id < length places
+    → name_of (files_in image places) id ≡ name → (get_or places id d).len ≡ option_map_or (λ file. length file.content)
+    (file_named (files_in image places) name) 0
 named-length image places order id name d table lt e =
     let files = files_in image places in
     let counted : length files ≡ length places = length-map places (file_in image) in

@@ -1,5 +1,9 @@
 -- The order of names: which names are in it, and a further name at its rank.
-use Rattle.file_tree.proofs.Prelude.{◌≡◌, ℕ, zero, suc, ◌+◌, ◌-◌, ◌<◌, ◌≤◌, true, false, List, [], ◌∷◌, ◌++◌, length, refl, sym, ap, subst, inl, inr, ◌∙◌, arith, insert, bytes_eq, cases_lt, cases_eq, or_cases, or_left, or_right, true≢false, false_from_ne_true, get_or_append_left, get_or_push, length_push, length-insert, get_or-insert_below, get_or-insert_at, get_or-insert_above, bytes_eq-Decides, File, has_name, FileId, IsBefore, name_of, id_at, name_at, IsOrder, IsSlot}
+use Rattle.file_tree.proofs.Prelude.{◌≡◌, ℕ, zero, suc, ◌+◌, ◌-◌, ◌<◌, ◌≤◌, true, false, List, [], ◌∷◌, ◌++◌, length, refl, sym, ap, subst}
+use Rattle.file_tree.proofs.Prelude.{inl, inr, ◌∙◌, arith, insert, bytes_eq, cases_lt, cases_eq, or_cases, or_left, or_right, true≢false}
+use Rattle.file_tree.proofs.Prelude.{false_from_ne_true, get_or_append_left, get_or_push, length_push, length-insert, get_or-insert_below}
+use Rattle.file_tree.proofs.Prelude.{get_or-insert_at, get_or-insert_above, bytes_eq-Decides, File, has_name, FileId, IsBefore, name_of}
+use Rattle.file_tree.proofs.Prelude.{id_at, name_at, IsOrder, IsSlot}
 use Rattle.file_tree.proofs.NameLemmas.{not-before-itself}
 
 -- ---- the names of files
@@ -20,10 +24,12 @@ name-id (f ∷ files) name t =
 
 -- ---- which names are in the order
 
-pub found-name : (files : List File) (order : List FileId) (name : List ℕ) (rank : ℕ) → IsOrder files order → rank < length order → name_at files order rank ≡ name → has_name files name ≡ true
+pub found-name : (files : List File) (order : List FileId) (name : List ℕ) (rank : ℕ) → IsOrder files order → rank < length order
+    → name_at files order rank ≡ name → has_name files name ≡ true
 found-name files order name rank is lt e = has-name-at files (id_at order rank) name (is.ids rank lt) e
 
-pub slot-fresh : (files : List File) (order : List FileId) (name : List ℕ) (slot : ℕ) → IsOrder files order → IsSlot files order name slot → has_name files name ≡ false
+pub slot-fresh : (files : List File) (order : List FileId) (name : List ℕ) (slot : ℕ) → IsOrder files order → IsSlot files order name slot
+    → has_name files name ≡ false
 slot-fresh files order name slot is s = false_from_ne_true (has_name files name) (λ t.
     let found = name-id files name t in
     let ranked = is.each found.0 found.1 in
@@ -98,7 +104,8 @@ module _ (files : List File) (order : List FileId) (file : File) (slot : ℕ) (i
       elim (cases_lt high slot) [
         | inl both_below ↦
             let within = s.within in
-            before-at (name low) (name high) (old low) (old high) (name-below low (omega arith)) (name-below high both_below) (is.rising low high less (omega arith))
+            before-at (name low) (name high) (old low) (old high) (name-below low (omega arith)) (name-below high both_below)
+            (is.rising low high less (omega arith))
         | inr not_below ↦ elim (cases_eq slot high) [
           | inl here ↦
               let below : low < slot = omega arith in
@@ -111,7 +118,8 @@ module _ (files : List File) (order : List FileId) (file : File) (slot : ℕ) (i
               let h_in : h < length order = omega (arith, lt, grown) in
               subst (λ k. IsBefore (name low) (name k)) up
               (elim (cases_lt low slot) [
-                | inl below ↦ before-at (name low) (name (h + 1)) (old low) (old h) (name-below low below) (name-above h above h_in) (is.rising low h (omega arith) h_in)
+                | inl below ↦ before-at (name low) (name (h + 1)) (old low) (old h) (name-below low below) (name-above h above h_in)
+                    (is.rising low h (omega arith) h_in)
                 | inr not_under ↦ elim (cases_eq slot low) [
                   | inl here ↦ subst (λ k. IsBefore (name k) (name (h + 1))) here
                       (before-at (name slot) (name (h + 1)) file.name (old h) name-here (name-above h above h_in) (s.above h above h_in))
@@ -119,7 +127,8 @@ module _ (files : List File) (order : List FileId) (file : File) (slot : ℕ) (i
                       let l : ℕ = low - 1 in
                       let low_up : l + 1 ≡ low = omega arith in
                       subst (λ k. IsBefore (name k) (name (h + 1))) low_up
-                      (before-at (name (l + 1)) (name (h + 1)) (old l) (old h) (name-above l (omega arith) (omega (arith, h_in))) (name-above h above h_in) (is.rising l h (omega arith) h_in))
+                      (before-at (name (l + 1)) (name (h + 1)) (old l) (old h) (name-above l (omega arith) (omega (arith, h_in)))
+                      (name-above h above h_in) (is.rising l h (omega arith) h_in))
                 ]
               ])
         ]

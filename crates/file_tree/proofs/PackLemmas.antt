@@ -1,5 +1,9 @@
 -- The files of a list that were appended so far.
-use Rattle.file_tree.proofs.Prelude.{◌≡◌, ℕ, ◌+◌, ◌<◌, ◌≤◌, List, [], ◌∷◌, ◌++◌, length, get_or, take, drop, Option, Some, None, Result, Ok, Err, refl, sym, ap, subst, ◌∙◌, append_assoc, arith, ⊤, flat_map, w16, to_be_bytes, length-append, length-map, take_more, drop_more, drop_all, take_all, append-nil, LONGEST_IMAGE, Place, SiteWhy, SiteError, One, File, magic, entry, image, unless, files_in, FileId, IsIndex, HeldFile, file_of, listed, listed_fault, named}
+use Rattle.file_tree.proofs.Prelude.{◌≡◌, ℕ, ◌+◌, ◌<◌, ◌≤◌, List, [], ◌∷◌, ◌++◌, length, get_or, take, drop, Option, Some, None, Result, Ok}
+use Rattle.file_tree.proofs.Prelude.{Err, refl, sym, ap, subst, ◌∙◌, append_assoc, arith, ⊤, flat_map, w16, to_be_bytes, length-append}
+use Rattle.file_tree.proofs.Prelude.{length-map, take_more, drop_more, drop_all, take_all, append-nil, LONGEST_IMAGE, Place, SiteWhy}
+use Rattle.file_tree.proofs.Prelude.{SiteError, One, File, magic, entry, image, unless, files_in, FileId, IsIndex, HeldFile, file_of}
+use Rattle.file_tree.proofs.Prelude.{listed, listed_fault, named}
 use Rattle.file_tree.proofs.SizeLemmas.{entries-more, entries-le, image-size, listed-at}
 use Rattle.file_tree.proofs.TableLemmas.{table-empty}
 
@@ -12,7 +16,8 @@ pub record Packs (files : List File) (i : ℕ) (made : List ℕ) (places : List 
   pub count : length places ≡ i
 
 -- what is left of the room
-pub packs-room : (files : List File) (i : ℕ) (made : List ℕ) (places : List Place) (order : List FileId) (d : File) → Packs files i made places order → i < length files
+pub packs-room : (files : List File) (i : ℕ) (made : List ℕ) (places : List Place) (order : List FileId) (d : File)
+    → Packs files i made places order → i < length files
     → length (image One files) ≤ LONGEST_IMAGE → length made + length (entry One (get_or files i d)) ≤ LONGEST_IMAGE
 packs-room files i made places order d p lt room =
     let head = magic One ++ to_be_bytes w16 (length files) in
@@ -23,7 +28,8 @@ packs-room files i made places order d p lt room =
     let whole = image-size One files in
     omega arith
 
-one-name : (earlier : List File) (file : File) (files : List File) → named earlier (file ∷ files) ≡ unless (listed_fault earlier file.name) (length earlier + 1) (named (earlier ++ file ∷ []) files)
+one-name : (earlier : List File) (file : File) (files : List File) → named earlier (file ∷ files) ≡ unless (listed_fault earlier file.name)
+    (length earlier + 1) (named (earlier ++ file ∷ []) files)
 unfolding named
 one-name earlier file files = refl
 
@@ -43,8 +49,10 @@ stopped None i e next h = absurd cc
 stopped (Some why) i e next h = h
 
 -- the name at an index, and those after it
-names-at : (files : List File) (i : ℕ) (made : List ℕ) (places : List Place) (order : List FileId) (d : File) → Packs files i made places order → i < length files
-    → named [] files ≡ unless (listed_fault (files_in made places) (get_or files i d).name) (length places + 1) (named (take (i + 1) files) (drop (i + 1) files))
+names-at : (files : List File) (i : ℕ) (made : List ℕ) (places : List Place) (order : List FileId) (d : File)
+    → Packs files i made places order → i < length files
+    → named [] files ≡ unless (listed_fault (files_in made places) (get_or files i d).name) (length places + 1)
+    (named (take (i + 1) files) (drop (i + 1) files))
 names-at files i made places order d p lt =
     let file = get_or files i d in
     let counted : length (take i files) ≡ length places = ap length (sym p.files_are) ∙ length-map places _ in
@@ -55,9 +63,11 @@ names-at files i made places order d p lt =
     ∙ ap (λ n. unless (listed_fault (take i files) file.name) (n + 1) (named (take (i + 1) files) (drop (i + 1) files))) counted
     ∙ ap (λ fs. unless (listed_fault fs file.name) (length places + 1) (named (take (i + 1) files) (drop (i + 1) files))) (sym p.files_are)
 
-pub packs-more : (files : List File) (i : ℕ) (made grown : List ℕ) (places more : List Place) (order next : List FileId) (d : File) → Packs files i made places order → i < length files
+pub packs-more : (files : List File) (i : ℕ) (made grown : List ℕ) (places more : List Place) (order next : List FileId) (d : File)
+    → Packs files i made places order → i < length files
     → unless (listed_fault (files_in made places) (get_or files i d).name) (length places + 1) fine ≡ fine
-    → grown ≡ made ++ entry One (get_or files i d) → files_in grown more ≡ files_in made places ++ get_or files i d ∷ [] → length more ≡ length places + 1 → IsIndex grown more next
+    → grown ≡ made ++ entry One (get_or files i d) → files_in grown more ≡ files_in made places ++ get_or files i d ∷ []
+    → length more ≡ length places + 1 → IsIndex grown more next
     → Packs files (i + 1) grown more next
 packs-more files i made grown places more order next d p lt sound made_is files_is count table =
     let file = get_or files i d in
@@ -72,7 +82,8 @@ packs-more files i made grown places more order next d p lt sound made_is files_
       count = count ∙ ap (λ n. n + 1) p.count;
     }
 
-pub packs-fail : (files : List File) (i : ℕ) (made : List ℕ) (places : List Place) (order : List FileId) (d : File) (e : SiteError) → Packs files i made places order → i < length files
+pub packs-fail : (files : List File) (i : ℕ) (made : List ℕ) (places : List Place) (order : List FileId) (d : File) (e : SiteError)
+    → Packs files i made places order → i < length files
     → unless (listed_fault (files_in made places) (get_or files i d).name) (length places + 1) fine ≡ Err e → named [] files ≡ Err e
 packs-fail files i made places order d e p lt h =
     names-at files i made places order d p lt
@@ -83,7 +94,8 @@ pub record Packed (files : List File) (made : List ℕ) (places : List Place) (o
   pub files_are : files_in made places ≡ files
   pub names : named [] files ≡ Ok tt
 
-pub packs-end : (files : List File) (i : ℕ) (made : List ℕ) (places : List Place) (order : List FileId) → Packs files i made places order → length files ≤ i → Packed files made places order
+pub packs-end : (files : List File) (i : ℕ) (made : List ℕ) (places : List Place) (order : List FileId) → Packs files i made places order
+    → length files ≤ i → Packed files made places order
 packs-end files i made places order p done =
     let all : take i files ≡ files = take_all i files done in
     record {
@@ -104,11 +116,13 @@ module _ (list : List HeldFile) (i : ℕ) (made : List ℕ) (places : List Place
   in_files = let counted = length-map list (λ (x : HeldFile). file_of x.name x.content) in omega arith
 
   pub room-at : length (image One (listed list)) ≤ LONGEST_IMAGE → length made + length (entry One (file_of e.name e.content)) ≤ LONGEST_IMAGE
-  room-at room = subst (λ f. length made + length (entry One f) ≤ LONGEST_IMAGE) the_file (packs-room (listed list) i made places order (file_of e.name e.content) p in_files room)
+  room-at room = subst (λ f. length made + length (entry One f) ≤ LONGEST_IMAGE) the_file (packs-room (listed list) i made places order
+      (file_of e.name e.content) p in_files room)
 
   pub more-at : (grown : List ℕ) (more : List Place) (next : List FileId)
       → unless (listed_fault (files_in made places) e.name) (length places + 1) fine ≡ fine
-      → grown ≡ made ++ entry One (file_of e.name e.content) → files_in grown more ≡ files_in made places ++ file_of e.name e.content ∷ [] → length more ≡ length places + 1 → IsIndex grown more next
+      → grown ≡ made ++ entry One (file_of e.name e.content) → files_in grown more ≡ files_in made places ++ file_of e.name e.content ∷ []
+      → length more ≡ length places + 1 → IsIndex grown more next
       → Packs (listed list) (i + 1) grown more next
   more-at grown more next sound made_is files_is count table =
       packs-more (listed list) i made grown places more order next (file_of e.name e.content) p in_files
@@ -117,7 +131,8 @@ module _ (list : List HeldFile) (i : ℕ) (made : List ℕ) (places : List Place
       (subst (λ (f : File). files_in grown more ≡ files_in made places ++ f ∷ []) (sym the_file) files_is)
       count table
 
-  pub fail-at : (error : SiteError) → unless (listed_fault (files_in made places) e.name) (length places + 1) fine ≡ Err error → named [] (listed list) ≡ Err error
+  pub fail-at : (error : SiteError) → unless (listed_fault (files_in made places) e.name) (length places + 1) fine ≡ Err error
+      → named [] (listed list) ≡ Err error
   fail-at error h =
       packs-fail (listed list) i made places order (file_of e.name e.content) error p in_files
       (subst (λ (f : File). unless (listed_fault (files_in made places) f.name) (length places + 1) fine ≡ Err error) (sym the_file) h)

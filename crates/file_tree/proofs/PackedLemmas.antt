@@ -1,5 +1,9 @@
 -- What packing a list gives, by its parts in turn.
-use Rattle.file_tree.proofs.Prelude.{◌≡◌, ℕ, ◌+◌, ◌<◌, ◌≤◌, true, false, not, ltb, List, [], ◌∷◌, ◌++◌, length, Option, Some, None, Result, Ok, Err, refl, sym, ap, ◌∙◌, ⊤, lt-ltb, le-ltb, not-false, LONGEST_IMAGE, MOST_FILES, SiteError, TooLong, TooMany, One, File, image, ◌>>=◌, refuse, fault, scripts, SiteWhy, Name, Twice, is_name, has_name, unless, read_image, two-rows, AreFresh, fresh-again, scripts-sound, HeldFile, listed, listed_fault, named, packed}
+use Rattle.file_tree.proofs.Prelude.{◌≡◌, ℕ, ◌+◌, ◌<◌, ◌≤◌, true, false, not, ltb, List, [], ◌∷◌, ◌++◌, length, Option, Some, None, Result}
+use Rattle.file_tree.proofs.Prelude.{Ok, Err, refl, sym, ap, ◌∙◌, ⊤, lt-ltb, le-ltb, not-false, LONGEST_IMAGE, MOST_FILES, SiteError}
+use Rattle.file_tree.proofs.Prelude.{TooLong, TooMany, One, File, image, ◌>>=◌, refuse, fault, scripts, SiteWhy, Name, Twice, is_name}
+use Rattle.file_tree.proofs.Prelude.{has_name, unless, read_image, two-rows, AreFresh, fresh-again, scripts-sound, HeldFile, listed}
+use Rattle.file_tree.proofs.Prelude.{listed_fault, named, packed}
 use Rattle.file_tree.proofs.PackLemmas.{fine}
 
 -- the files have no content type of their own
@@ -30,10 +34,12 @@ packed-many files le lt = history-long files le ∙ ap (λ t. refuse t TooMany >
 history-many : (files : List File) → length (image One files) ≤ LONGEST_IMAGE → length files ≤ MOST_FILES → packed files ≡ names files
 history-many files le few = history-long files le ∙ ap (λ t. refuse t TooMany >>= λ _. names files) (le-ltb MOST_FILES (length files) few)
 
-pub packed-names : (files : List File) (e : SiteError) → length (image One files) ≤ LONGEST_IMAGE → length files ≤ MOST_FILES → named [] files ≡ Err e → packed files ≡ Err e
+pub packed-names : (files : List File) (e : SiteError) → length (image One files) ≤ LONGEST_IMAGE → length files ≤ MOST_FILES
+    → named [] files ≡ Err e → packed files ≡ Err e
 packed-names files e le few h = history-many files le few ∙ ap (λ r. r >>= λ _. last files) h
 
-pub packed-scripts : (files : List File) (r : Result ⊤ SiteError) → length (image One files) ≤ LONGEST_IMAGE → length files ≤ MOST_FILES → named [] files ≡ Ok tt → r ≡ scripts files 0 files
+pub packed-scripts : (files : List File) (r : Result ⊤ SiteError) → length (image One files) ≤ LONGEST_IMAGE → length files ≤ MOST_FILES
+    → named [] files ≡ Ok tt → r ≡ scripts files 0 files
     → packed files ≡ (r >>= λ _. Ok (image One files))
 packed-scripts files r le few h s = history-many files le few ∙ ap (λ x. x >>= λ _. last files) h ∙ ap (λ x. x >>= λ _. Ok (image One files)) (sym s)
 
@@ -56,7 +62,8 @@ names-fresh (f ∷ files) earlier listed e =
     let sound = sound-name earlier f.name parts.0 in
     (record { name = sound.0; kind = listed.0 }, sound.1, names-fresh files (earlier ++ f ∷ []) listed.1 parts.1)
 
-pub packed-reads : (files : List File) → AreListed files → length (image One files) ≤ LONGEST_IMAGE → length files ≤ MOST_FILES → named [] files ≡ fine → scripts files 0 files ≡ fine
+pub packed-reads : (files : List File) → AreListed files → length (image One files) ≤ LONGEST_IMAGE → length files ≤ MOST_FILES
+    → named [] files ≡ fine → scripts files 0 files ≡ fine
     → read_image (image One files) ≡ Ok files
 packed-reads files listed le few names sound = fresh-again One files (names-fresh files [] listed names) few le (scripts-sound files 0 files tt sound)
 

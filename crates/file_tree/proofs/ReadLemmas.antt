@@ -1,5 +1,7 @@
 -- What reading an image gives, by its parts in turn.
-use Rattle.file_tree.proofs.Prelude.{◌≡◌, ℕ, ◌<◌, ◌≤◌, List, [], ◌∷◌, length, drop, ltb, Result, Ok, Err, sym, ap, subst, ◌∙◌, arith, ⊤, IfOk, lt-ltb, le-ltb, SiteError, Rest, Version, File, ◌>>=◌, refuse, fault, image_head, entries, scripts, read_image, LoadFault, Shelf, Bad, NoMemory, Fails, Gives, image_files}
+use Rattle.file_tree.proofs.Prelude.{◌≡◌, ℕ, ◌<◌, ◌≤◌, List, [], ◌∷◌, length, drop, ltb, Result, Ok, Err, sym, ap, subst, ◌∙◌, arith, ⊤}
+use Rattle.file_tree.proofs.Prelude.{IfOk, lt-ltb, le-ltb, SiteError, Rest, Version, File, ◌>>=◌, refuse, fault, image_head, entries}
+use Rattle.file_tree.proofs.Prelude.{scripts, read_image, LoadFault, Shelf, Bad, NoMemory, Fails, Gives, image_files}
 
 abbrev after_rest : List File × List ℕ → Result (List File) SiteError
 after_rest read = scripts read.0 0 read.0 >>= λ _. Ok read.0
@@ -18,20 +20,24 @@ history-head : (bytes : List ℕ) (head : Version × ℕ) → image_head bytes �
 unfolding read_image
 history-head bytes head h = ap (λ r. r >>= after_head bytes) h
 
-pub read-at-entries : (bytes : List ℕ) (head : Version × ℕ) (e : SiteError) → image_head bytes ≡ Ok head → entries head.0 head.1 [] (drop 10 bytes) ≡ Err e → read_image bytes ≡ Err e
+pub read-at-entries : (bytes : List ℕ) (head : Version × ℕ) (e : SiteError) → image_head bytes ≡ Ok head
+    → entries head.0 head.1 [] (drop 10 bytes) ≡ Err e → read_image bytes ≡ Err e
 read-at-entries bytes head e h r = history-head bytes head h ∙ ap (λ x. x >>= after_entries) r
 
-history-entries : (bytes : List ℕ) (head : Version × ℕ) (files : List File) (rest : List ℕ) → image_head bytes ≡ Ok head → entries head.0 head.1 [] (drop 10 bytes) ≡ Ok (files, rest)
+history-entries : (bytes : List ℕ) (head : Version × ℕ) (files : List File) (rest : List ℕ) → image_head bytes ≡ Ok head
+    → entries head.0 head.1 [] (drop 10 bytes) ≡ Ok (files, rest)
     → read_image bytes ≡ after_entries (files, rest)
 history-entries bytes head files rest h r = history-head bytes head h ∙ ap (λ x. x >>= after_entries) r
 
-pub read-at-rest : (bytes : List ℕ) (head : Version × ℕ) (files : List File) (rest : List ℕ) → image_head bytes ≡ Ok head → entries head.0 head.1 [] (drop 10 bytes) ≡ Ok (files, rest)
+pub read-at-rest : (bytes : List ℕ) (head : Version × ℕ) (files : List File) (rest : List ℕ) → image_head bytes ≡ Ok head
+    → entries head.0 head.1 [] (drop 10 bytes) ≡ Ok (files, rest)
     → 0 < length rest → read_image bytes ≡ Err (fault Rest 0)
 read-at-rest bytes head files rest h r some =
     history-entries bytes head files rest h r ∙ ap (λ t. refuse t Rest >>= λ _. after_rest (files, rest)) (lt-ltb 0 (length rest) some)
 
 -- with nothing left, the scripts decide
-pub read-at-end : (bytes : List ℕ) (head : Version × ℕ) (files : List File) (rest : List ℕ) (r : Result ⊤ SiteError) → image_head bytes ≡ Ok head → entries head.0 head.1 [] (drop 10 bytes) ≡ Ok (files, rest)
+pub read-at-end : (bytes : List ℕ) (head : Version × ℕ) (files : List File) (rest : List ℕ) (r : Result ⊤ SiteError)
+    → image_head bytes ≡ Ok head → entries head.0 head.1 [] (drop 10 bytes) ≡ Ok (files, rest)
     → length rest ≤ 0 → r ≡ scripts files 0 files → read_image bytes ≡ (r >>= λ _. Ok files)
 read-at-end bytes head files rest r h e none s =
     history-entries bytes head files rest h e
@@ -61,6 +67,7 @@ gives-same {X = X} view r f part read p h along =
     passed NoMemory h = h
 
 -- what holds of whatever reading gives holds of a good answer
-pub gives-ok : {X Y : Type 0} (view : X → Y) (r : Result X LoadFault) (read : Result Y SiteError) (P : Y → Type 0) → Gives view r read → ((y : Y) → read ≡ Ok y → P y) → IfOk r (λ x. P (view x))
+pub gives-ok : {X Y : Type 0} (view : X → Y) (r : Result X LoadFault) (read : Result Y SiteError) (P : Y → Type 0) → Gives view r read
+    → ((y : Y) → read ≡ Ok y → P y) → IfOk r (λ x. P (view x))
 gives-ok view (Ok x) read P g along = along (view x) g
 gives-ok view (Err f) read P g along = tt

@@ -1,5 +1,6 @@
 -- The invariant of the search: ranks below the low one have smaller names, ranks from the high one on have greater names.
-use Rattle.file_tree.proofs.Prelude.{◌≡◌, ℕ, ◌+◌, ◌<◌, ◌≤◌, List, length, subst, inl, inr, arith, cases_lt, cases_eq, File, FileId, IsBefore, name_at, IsOrder, IsSlot}
+use Rattle.file_tree.proofs.Prelude.{◌≡◌, ℕ, ◌+◌, ◌<◌, ◌≤◌, List, length, subst, inl, inr, arith, cases_lt, cases_eq, File, FileId}
+use Rattle.file_tree.proofs.Prelude.{IsBefore, name_at, IsOrder, IsSlot}
 use Rattle.file_tree.proofs.NameLemmas.{before-trans}
 
 pub record Searches (files : List File) (order : List FileId) (name : List ℕ) (low high : ℕ) : Type 0 where

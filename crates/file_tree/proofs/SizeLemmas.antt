@@ -1,11 +1,15 @@
 -- How long an image is, entry after entry.
-use Rattle.file_tree.proofs.Prelude.{◌≡◌, ℕ, ◌+◌, ◌<◌, ◌≤◌, List, [], ◌∷◌, ◌++◌, length, get_or, take, drop, refl, sym, ap, ◌∙◌, arith, flat_map, w16, w32, to_be_bytes, length-append, take_more, take-append-drop, append-nil, get_or-map, length-map, Version, One, Two, File, magic, short_text, long_text, entry, image, HeldFile, file_of, listed}
+use Rattle.file_tree.proofs.Prelude.{◌≡◌, ℕ, ◌+◌, ◌<◌, ◌≤◌, List, [], ◌∷◌, ◌++◌, length, get_or, take, drop, refl, sym, ap, ◌∙◌, arith}
+use Rattle.file_tree.proofs.Prelude.{flat_map, w16, w32, to_be_bytes, length-append, take_more, take-append-drop, append-nil, get_or-map}
+use Rattle.file_tree.proofs.Prelude.{length-map, Version, One, Two, File, magic, short_text, long_text, entry, image, HeldFile, file_of}
+use Rattle.file_tree.proofs.Prelude.{listed}
 use Rattle.std.proofs.lemmas.List.{append_assoc}
 
 flat-append : (version : Version) (xs ys : List File) → flat_map (entry version) (xs ++ ys) ≡ flat_map (entry version) xs ++ flat_map (entry version) ys
 flat-append version [] ys = refl
 flat-append version (x ∷ xs) ys =
-    ap (λ z. entry version x ++ z) (flat-append version xs ys) ∙ sym (append_assoc (entry version x) (flat_map (entry version) xs) (flat_map (entry version) ys))
+    ap (λ z. entry version x ++ z) (flat-append version xs ys)
+    ∙ sym (append_assoc (entry version x) (flat_map (entry version) xs) (flat_map (entry version) ys))
 
 -- the entries up to an index, and one more
 pub entries-more : (version : Version) (files : List File) (i : ℕ) (d : File) → i < length files
@@ -28,7 +32,12 @@ magic-length Two = refl
 pub image-size : (version : Version) (files : List File) → length (image version files) ≡ 10 + length (flat_map (entry version) files)
 image-size version files =
     let flat = flat_map (entry version) files in
-    omega (arith, length-append (magic version) (to_be_bytes w16 (length files) ++ flat), length-append (to_be_bytes w16 (length files)) flat, magic-length version)
+    omega (
+      arith,
+      length-append (magic version) (to_be_bytes w16 (length files) ++ flat),
+      length-append (to_be_bytes w16 (length files)) flat,
+      magic-length version,
+    )
 
 -- of an entry without a content type
 pub listed-size : (name content : List ℕ) → length (entry One (file_of name content)) ≡ length name + length content + 5
@@ -37,12 +46,14 @@ listed-size name content =
     length-append (short_text name) (long_text content) ∙ ap (λ k. length (short_text name) + k) number ∙ omega arith
 
 -- the entry at an index of a list
-pub listed-at : (list : List HeldFile) (i : ℕ) (e : HeldFile) (d : File) → i < length list → e ≡ get_or list i e → get_or (listed list) i d ≡ file_of e.name e.content
+pub listed-at : (list : List HeldFile) (i : ℕ) (e : HeldFile) (d : File) → i < length list → e ≡ get_or list i e → get_or (listed list) i d
+    ≡ file_of e.name e.content
 listed-at list i e d lt is =
     get_or-map (λ (x : HeldFile). file_of x.name x.content) list i e d lt ∙ ap (λ (x : HeldFile). file_of x.name x.content) (sym is)
 
 pub size-more : (list : List HeldFile) (i : ℕ) (e : HeldFile) → i < length list → e ≡ get_or list i e
-    → 10 + length (flat_map (entry One) (take (i + 1) (listed list))) ≡ 10 + length (flat_map (entry One) (take i (listed list))) + (length e.name + length e.content + 5)
+    → 10 + length (flat_map (entry One) (take (i + 1) (listed list))) ≡ 10 + length (flat_map (entry One) (take i (listed list))) +
+    (length e.name + length e.content + 5)
 size-more list i e lt is =
     let files = listed list in
     let d = file_of e.name e.content in

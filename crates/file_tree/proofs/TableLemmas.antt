@@ -1,5 +1,9 @@
 -- The entries that were read so far, one more, and all of them.
-use Rattle.file_tree.proofs.Prelude.{◌≡◌, ℕ, suc, ◌+◌, ◌-◌, ◌<◌, ◌≤◌, List, [], ◌∷◌, ◌++◌, length, drop, Some, Ok, Err, refl, sym, ap, subst, inl, inr, ◌∙◌, arith, insert, cases_lt, map_push, length-map, length_push, get_or_append_left, get_or_push, slice_get-get_or, slice_get_within, get_or_from_slice_get, SiteWhy, Place, Version, File, unless, fault, entry_fault, entry_file, after_entry, entries, IsWithin, file_in, files_in, FileId, IsOrder, IsSlot, AreWithin, IsIndex, IsEntry}
+use Rattle.file_tree.proofs.Prelude.{◌≡◌, ℕ, suc, ◌+◌, ◌-◌, ◌<◌, ◌≤◌, List, [], ◌∷◌, ◌++◌, length, drop, Some, Ok, Err, refl, sym, ap}
+use Rattle.file_tree.proofs.Prelude.{subst, inl, inr, ◌∙◌, arith, insert, cases_lt, map_push, length-map, length_push, get_or_append_left}
+use Rattle.file_tree.proofs.Prelude.{get_or_push, slice_get-get_or, slice_get_within, get_or_from_slice_get, SiteWhy, Place, Version, File}
+use Rattle.file_tree.proofs.Prelude.{unless, fault, entry_fault, entry_file, after_entry, entries, IsWithin, file_in, files_in, FileId}
+use Rattle.file_tree.proofs.Prelude.{IsOrder, IsSlot, AreWithin, IsIndex, IsEntry}
 use Rattle.std.specs.List.{slice_get}
 use Rattle.file_tree.proofs.OrderLemmas.{order-empty, order-insert}
 
@@ -10,12 +14,14 @@ pub record Reading (image : List ℕ) (version : Version) (count number next : �
   pub table : IsIndex image places order
   pub inside : next ≤ length image
 
-pub within-push : (image : List ℕ) (places : List Place) (place : Place) → AreWithin image places → IsWithin image place → AreWithin image (places ++ place ∷ [])
+pub within-push : (image : List ℕ) (places : List Place) (place : Place) → AreWithin image places → IsWithin image place
+    → AreWithin image (places ++ place ∷ [])
 within-push image places place all one k p s =
     elim (cases_lt k (length places)) [
       | inl old ↦
           let same : slice_get places k ≡ Some p =
-          slice_get-get_or places k p old ∙ ap Some (sym (get_or_append_left places (place ∷ []) p k old) ∙ get_or_from_slice_get (places ++ place ∷ []) k p p s) in
+          slice_get-get_or places k p old ∙ ap Some (sym (get_or_append_left places (place ∷ []) p k old)
+          ∙ get_or_from_slice_get (places ++ place ∷ []) k p p s) in
           all k p same
       | inr new ↦
           let lt = slice_get_within (places ++ place ∷ []) k p s in
@@ -29,7 +35,8 @@ pub table-empty : (image : List ℕ) → IsIndex image [] []
 table-empty image = record { within = λ k p s. absurd cc; order_is = order-empty }
 
 -- a further place, whose file goes to its rank
-pub table-insert : (image : List ℕ) (places : List Place) (order : List FileId) (place : Place) (slot number : ℕ) → IsIndex image places order → IsWithin image place
+pub table-insert : (image : List ℕ) (places : List Place) (order : List FileId) (place : Place) (slot number : ℕ)
+    → IsIndex image places order → IsWithin image place
     → IsSlot (files_in image places) order (file_in image place).name slot → length places ≡ number
     → IsIndex image (places ++ place ∷ []) (insert order slot (record { 0 = number }))
 table-insert image places order place slot number table one s is = record {
@@ -43,7 +50,8 @@ table-insert image places order place slot number table one s is = record {
 
 -- what reading gives where an entry is left
 one-entry : (version : Version) (left : ℕ) (earlier : List File) (bytes : List ℕ) → entries version (suc left) earlier bytes
-    ≡ unless (entry_fault version earlier bytes) (length earlier + 1) (entries version left (earlier ++ entry_file version bytes ∷ []) (after_entry version bytes))
+    ≡ unless (entry_fault version earlier bytes) (length earlier + 1) (entries version left (earlier ++ entry_file version bytes ∷ [])
+    (after_entry version bytes))
 unfolding entries
 one-entry version left earlier bytes = refl
 

@@ -1,8 +1,11 @@
 -- The file of an entry that was appended to an image, at its place.
-use Rattle.file_tree.proofs.Prelude.{◌≡◌, ℕ, ◌+◌, ◌-◌, ◌≤◌, List, [], ◌∷◌, ◌++◌, length, take, drop, refl, sym, ap, ◌∙◌, append_assoc, arith, slice_range, w32, to_be_bytes, take_at, drop_at, append-nil, length-append, Version, One, Two, File, short_text, long_text, entry, IsKindIn, IsWithin, file_in, place_after}
+use Rattle.file_tree.proofs.Prelude.{◌≡◌, ℕ, ◌+◌, ◌-◌, ◌≤◌, List, [], ◌∷◌, ◌++◌, length, take, drop, refl, sym, ap, ◌∙◌, append_assoc}
+use Rattle.file_tree.proofs.Prelude.{arith, slice_range, w32, to_be_bytes, take_at, drop_at, append-nil, length-append, Version, One, Two}
+use Rattle.file_tree.proofs.Prelude.{File, short_text, long_text, entry, IsKindIn, IsWithin, file_in, place_after}
 
 -- a part of a list by what is before it and after it
-part-at : (xs before part after : List ℕ) (at len : ℕ) → xs ≡ before ++ (part ++ after) → at ≡ length before → len ≡ length part → slice_range xs at (at + len) ≡ part
+part-at : (xs before part after : List ℕ) (at len : ℕ) → xs ≡ before ++ (part ++ after) → at ≡ length before → len ≡ length part
+    → slice_range xs at (at + len) ≡ part
 part-at xs before part after at len is here size =
     let n : (at + len) - at ≡ len = omega arith in
     ap (λ k. take k (drop at xs)) n
@@ -29,11 +32,13 @@ written One old file kind =
     let none : length file.kind ≡ 0 = ap length kind in
     let first : whole ≡ (old ++ length name ∷ []) ++ (name ++ long_text body) = sym (append_assoc old (length name ∷ []) (name ++ long_text body)) in
     let last : whole ≡ ((old ++ short_text name) ++ number) ++ (body ++ []) =
-    sym (append_assoc old (short_text name) (number ++ body)) ∙ sym (append_assoc (old ++ short_text name) number body) ∙ ap (λ x. ((old ++ short_text name) ++ number) ++ x) (sym (append-nil body)) in
+    sym (append_assoc old (short_text name) (number ++ body)) ∙ sym (append_assoc (old ++ short_text name) number body)
+    ∙ ap (λ x. ((old ++ short_text name) ++ number) ++ x) (sym (append-nil body)) in
     record {
       within = record { name = omega (arith, n, m, l); kind = omega (arith, n, m, l, none); content = omega (arith, n, m, l, none) };
       file_is = λ i. record {
-        name = part-at whole (old ++ length name ∷ []) name (long_text body) (length old + 1) (length name) first (sym (length-append old (length name ∷ []))) refl i;
+        name = part-at whole (old ++ length name ∷ []) name (long_text body) (length old + 1) (length name) first
+            (sym (length-append old (length name ∷ []))) refl i;
         kind = (let gone : (length old + 1 + length name + length file.kind) - (length old + 1 + length name) ≡ 0 = omega (arith, none) in
             ap (λ k. take k (drop (length old + 1 + length name) whole)) gone ∙ sym kind) i;
         content = part-at whole ((old ++ short_text name) ++ number) body [] (length old + 1 + length name + length file.kind + 4) (length body) last
@@ -67,8 +72,10 @@ written Two old file kind =
       within = record { name = omega (arith, n, m, k, l); kind = omega (arith, n, m, k, l); content = omega (arith, n, m, k, l) };
       file_is = λ i. record {
         name = part-at whole (old ++ length name ∷ []) name tail (length old + 1) (length name) first (sym (length-append old (length name ∷ []))) refl i;
-        kind = part-at whole ((old ++ short_text name) ++ length own ∷ []) own (long_text body) (length old + 1 + length name + 1) (length own) middle (omega (arith, prefix, before_kind)) refl i;
-        content = part-at whole (((old ++ short_text name) ++ short_text own) ++ number) body [] (length old + 1 + length name + 1 + length own + 4) (length body) last
+        kind = part-at whole ((old ++ short_text name) ++ length own ∷ []) own (long_text body) (length old + 1 + length name + 1)
+            (length own) middle (omega (arith, prefix, before_kind)) refl i;
+        content = part-at whole (((old ++ short_text name) ++ short_text own) ++ number) body []
+            (length old + 1 + length name + 1 + length own + 4) (length body) last
             (omega (arith, prefix, with_kind, before_body)) refl i;
       };
     }

@@ -1,5 +1,9 @@
 -- What holds of the events of a call at a guarded node, if it holds of those of its datagram.
-use Rattle.frame_device.proofs.Prelude.{AbstractNode, All, All-cons, All-nil, ◌≡◌, ℕ, ◌==◌, ◌&&◌, ◌||◌, ◌∙◌, Bool, List, [], append-nil, drop, flat_map, guarded, guarded_ether, input_events, length, nat_lt, sym, subst, choose, bytes_eq, word_at, Event, Periodic, MediumInput, Rules, events_among, Act, Pair, arp_brings, broadcast, frame_brings, is_arp, is_arp_for, is_datagram, is_taken, mac_at, payload_brings, sender_of, acts_before, CallsSlot, InputsFrame, Interface, ether_frames, station_events_by}
+use Rattle.frame_device.proofs.Prelude.{AbstractNode, All, All-cons, All-nil, ◌≡◌, ℕ, ◌==◌, ◌&&◌, ◌||◌, ◌∙◌, Bool, List, [], append-nil}
+use Rattle.frame_device.proofs.Prelude.{drop, flat_map, guarded, guarded_ether, input_events, length, nat_lt, sym, subst, choose, bytes_eq}
+use Rattle.frame_device.proofs.Prelude.{word_at, Event, Periodic, MediumInput, Rules, events_among, Act, Pair, arp_brings, broadcast}
+use Rattle.frame_device.proofs.Prelude.{frame_brings, is_arp, is_arp_for, is_datagram, is_taken, mac_at, payload_brings, sender_of}
+use Rattle.frame_device.proofs.Prelude.{acts_before, CallsSlot, InputsFrame, Interface, ether_frames, station_events_by}
 use Rattle.frame_device.proofs.KeepLaws.{among_nodes}
 use Rattle.frame_device.proofs.ProgramLaws.{periodic_events}
 use Rattle.std.proofs.lemmas.Bool.{and_parts, eqb-true}
@@ -16,9 +20,11 @@ module _ (k : Interface) (rules : Rules) (served : ℕ → Bool) (n : AbstractNo
   payload_each : (kind : ℕ) (payload : List ℕ) → (kind ≡ 2048 → All P (guarded rules served n payload)) → Of (payload_brings k.host kind payload)
   payload_each kind payload h =
       choose (λ (l : List (MediumInput Act)). Of l) (is_datagram kind && nat_lt 0 (length payload)) _ _
-      (λ e. subst (λ (events : List Event). All P events) (sym (among_nodes {C = Act} (guarded rules served n payload) [] ∙ append-nil (guarded rules served n payload)))
+      (λ e. subst (λ (events : List Event). All P events)
+      (sym (among_nodes {C = Act} (guarded rules served n payload) [] ∙ append-nil (guarded rules served n payload)))
       (h (eqb-true kind 2048 (and_parts (is_datagram kind) (nat_lt 0 (length payload)) e).0)))
-      (λ e. choose (λ (l : List (MediumInput Act)). Of l) (is_arp kind && is_arp_for k.host.addr payload) _ _ (λ f. arp_each (word_at payload 6) (sender_of payload)) (λ f. All-nil P))
+      (λ e. choose (λ (l : List (MediumInput Act)). Of l) (is_arp kind && is_arp_for k.host.addr payload) _ _
+      (λ f. arp_each (word_at payload 6) (sender_of payload)) (λ f. All-nil P))
 
   whole_each : (frame : List ℕ) → (word_at frame 12 ≡ 2048 → All P (guarded rules served n (drop 14 frame))) → Of (frame_brings k.host frame)
   whole_each frame h =
@@ -33,4 +39,5 @@ module _ (k : Interface) (rules : Rules) (served : ℕ → Bool) (n : AbstractNo
   -- of the call of a slot
   pub slot_each : (slot : ℕ) → P (Periodic slot) → All P (events_among (station_events_by (guarded_ether k rules) served n (CallsSlot slot)))
   slot_each slot h =
-      subst (λ (events : List Event). All P events) (sym (periodic_events (acts_before (ether_frames k) slot) slot)) (All-cons P (Periodic slot) [] h (All-nil P))
+      subst (λ (events : List Event). All P events) (sym (periodic_events (acts_before (ether_frames k) slot) slot))
+      (All-cons P (Periodic slot) [] h (All-nil P))

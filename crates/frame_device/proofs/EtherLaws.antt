@@ -1,5 +1,18 @@
 -- Frames of Ethernet: what brings them, and what they are beside those of a line.
-use Rattle.frame_device.proofs.Prelude.{unanswered, reset_by, Verdict, Drop, Pass, Displace, Sockets, is_plain_syn, PlainSegment, has_rst, Arrived, connection_in, AbstractNode, MediumSpec, Rules, by_verdict, flat_map, guarded_ether, input_events, leaving, lensed, take-append_seam, ◌⊎◌, inl, inr, ◌≡◌, ℕ, ◌+◌, ◌<◌, ◌==◌, ◌&&◌, Bool, true, false, if◌then◌else◌, nat_lt, List, [], ◌∷◌, ◌++◌, Option, None, Some, drop, length, map, take, refl, sym, ap, ◌∙◌, subst, arith, append-nil, length-append, ◌||◌, ⊤, bytes_eq, AppSpec, address_at, word_at, word_bytes, written, Addr, choose, Event, reply_bytes, Reply, Periodic, step, MediumInput, Datagram, Overlong, Own, StationEvent, OfMedium, OfNode, Station, station_after, output, output_of_event, reply_text, ether_text, ether_medium, is_taken, writes_at, Host, arp_brings, arp_packet, broadcast, frame_brings, frame_with, framed, is_arp, is_arp_for, is_datagram, is_sendable, mac_at, no_mac, payload_brings, arp_reply, sender_of, wrapped_to, wrapped_via, Act, Asked, Pair, Replied, Ticked, known, IsSilent, as_medium, CallsSlot, DoesNothing, FrameCall, InputsFrame, station_events_by, SentAsOnLine, Interface, IsOneLink, Network, and_zero_r, bytes_eq-Decides, or_left, or_right, slice_index, ether_frames, hop_of, is_on_link, masked, next_hop, no_address, on_line}
+use Rattle.frame_device.proofs.Prelude.{unanswered, reset_by, Verdict, Drop, Pass, Displace, Sockets, is_plain_syn, PlainSegment, has_rst}
+use Rattle.frame_device.proofs.Prelude.{Arrived, connection_in, AbstractNode, MediumSpec, Rules, by_verdict, flat_map, guarded_ether}
+use Rattle.frame_device.proofs.Prelude.{input_events, leaving, lensed, take-append_seam, ◌⊎◌, inl, inr, ◌≡◌, ℕ, ◌+◌, ◌<◌, ◌==◌, ◌&&◌, Bool}
+use Rattle.frame_device.proofs.Prelude.{true, false, if◌then◌else◌, nat_lt, List, [], ◌∷◌, ◌++◌, Option, None, Some, drop, length, map}
+use Rattle.frame_device.proofs.Prelude.{take, refl, sym, ap, ◌∙◌, subst, arith, append-nil, length-append, ◌||◌, ⊤, bytes_eq, AppSpec}
+use Rattle.frame_device.proofs.Prelude.{address_at, word_at, word_bytes, written, Addr, choose, Event, reply_bytes, Reply, Periodic, step}
+use Rattle.frame_device.proofs.Prelude.{MediumInput, Datagram, Overlong, Own, StationEvent, OfMedium, OfNode, Station, station_after}
+use Rattle.frame_device.proofs.Prelude.{output, output_of_event, reply_text, ether_text, ether_medium, is_taken, writes_at, Host}
+use Rattle.frame_device.proofs.Prelude.{arp_brings, arp_packet, broadcast, frame_brings, frame_with, framed, is_arp, is_arp_for}
+use Rattle.frame_device.proofs.Prelude.{is_datagram, is_sendable, mac_at, no_mac, payload_brings, arp_reply, sender_of, wrapped_to}
+use Rattle.frame_device.proofs.Prelude.{wrapped_via, Act, Asked, Pair, Replied, Ticked, known, IsSilent, as_medium, CallsSlot, DoesNothing}
+use Rattle.frame_device.proofs.Prelude.{FrameCall, InputsFrame, station_events_by, SentAsOnLine, Interface, IsOneLink, Network, and_zero_r}
+use Rattle.frame_device.proofs.Prelude.{bytes_eq-Decides, or_left, or_right, slice_index, ether_frames, hop_of, is_on_link, masked}
+use Rattle.frame_device.proofs.Prelude.{next_hop, no_address, on_line}
 
 -- what was written in front is read
 pub prefix_of : (old part : List ℕ) → take (length part) (written old 0 part) ≡ part
@@ -25,7 +38,8 @@ arp_is payload operation sender =
 payload_is : (k : Host) (kind : ℕ) (payload : List ℕ) → IsPayload payload (payload_brings k kind payload)
 payload_is k kind payload =
     choose (λ (l : List (MediumInput Act)). IsPayload payload l) (is_datagram kind && nat_lt 0 (length payload)) _ _ (λ e. refl)
-    (λ e. choose (λ (l : List (MediumInput Act)). IsPayload payload l) (is_arp kind && is_arp_for k.addr payload) _ _ (λ f. arp_is payload (word_at payload 6) (sender_of payload)) (λ f. tt))
+    (λ e. choose (λ (l : List (MediumInput Act)). IsPayload payload l) (is_arp kind && is_arp_for k.addr payload) _ _
+    (λ f. arp_is payload (word_at payload 6) (sender_of payload)) (λ f. tt))
 
 frame_is : (k : Host) (frame : List ℕ) → IsPayload (drop 14 frame) (frame_brings k frame)
 frame_is k frame =
@@ -39,7 +53,12 @@ brings_payload k frame d e = subst (λ (l : List (MediumInput Act)). IsPayload (
 
 zero_mask : (addr mask : List ℕ) → mask ≡ no_address → masked addr mask ≡ no_address
 zero_mask addr mask e =
-    ap (λ m. masked addr m) e ∙ rw (and_zero_r (slice_index addr 0), and_zero_r (slice_index addr 1), and_zero_r (slice_index addr 2), and_zero_r (slice_index addr 3))
+    ap (λ m. masked addr m) e ∙ rw (
+      and_zero_r (slice_index addr 0),
+      and_zero_r (slice_index addr 1),
+      and_zero_r (slice_index addr 2),
+      and_zero_r (slice_index addr 3),
+    )
 
 on_one_link : (network : Network) (own target : List ℕ) → IsOneLink network → is_on_link network own target ≡ true
 on_one_link network own target (inl e) =
@@ -70,7 +89,8 @@ module _ (k : Interface) where
   wrapped_some hop d (Some mac) = frame_some mac d 2048
 
   -- the text of a datagram with this next hop
-  text_via : (acts : List Act) (d hop : List ℕ) → on_line (if is_sendable d then wrapped_via host acts hop d else []) ≡ (if is_sendable d then framed (wrapped_via host acts hop d) else [])
+  text_via : (acts : List Act) (d hop : List ℕ) → on_line (if is_sendable d then wrapped_via host acts hop d else [])
+      ≡ (if is_sendable d then framed (wrapped_via host acts hop d) else [])
   text_via acts d hop =
       elim (is_sendable d) as (λ v. on_line (if v then wrapped_via host acts hop d else []) ≡ (if v then framed (wrapped_via host acts hop d) else [])) [
         | true ↦ some_on_line (wrapped_via host acts hop d) (wrapped_some hop d (known acts hop))
@@ -80,7 +100,8 @@ module _ (k : Interface) where
   module _ (one : IsOneLink k.network) where
     text_on_line : (acts : List Act) (d : List ℕ) → on_line ((ether_frames k).text acts d) ≡ ether_text host acts d
     text_on_line acts d =
-        text_via acts d (hop_of k d) ∙ ap (λ hop. if is_sendable d then framed (wrapped_via host acts hop d) else []) (one_link k.network host.addr (address_at d 16) one)
+        text_via acts d (hop_of k d) ∙ ap (λ hop. if is_sendable d then framed (wrapped_via host acts hop d) else [])
+        (one_link k.network host.addr (address_at d 16) one)
 
     sends_on_line : (act : Act) → on_line ((ether_frames k).output_at act) ≡ writes_at host act
     sends_on_line (Asked pair) = some_on_line (arp_reply host pair) (frame_some pair.mac (arp_packet 2 host.mac host.addr pair.mac pair.addr) 2054)
@@ -98,7 +119,8 @@ module _ (k : Interface) where
       reply_on_line acts None = refl
       reply_on_line acts (Some reply) = text_on_line acts (leaving rules.key (reply_bytes own reply))
 
-      station_event_on_line : (d : StationEvent Act) (s : Station Act) → on_line (output_of_event m served frames own s d) ≡ output_of_event m served line own s d
+      station_event_on_line : (d : StationEvent Act) (s : Station Act) → on_line (output_of_event m served frames own s d) ≡ output_of_event
+          m served line own s d
       station_event_on_line (OfMedium act) s = sends_on_line act
       station_event_on_line (OfNode e) s = reply_on_line s.acts (step m served s.node e).sent
 
@@ -111,11 +133,13 @@ module _ (k : Interface) where
       IsOnLine s station_events = on_line (output m served frames own station_events s) ≡ output m served line own station_events s
 
       -- the RST of a connection that is given up is not answered
-      quiet_on_line : (p : Sockets) (r : PlainSegment) (e : Event) (s : Station Act) → is_plain_syn r ≡ false → has_rst r.flags ≡ true → IsOnLine s (OfNode (Arrived p r) ∷ OfNode e ∷ [])
+      quiet_on_line : (p : Sockets) (r : PlainSegment) (e : Event) (s : Station Act) → is_plain_syn r ≡ false → has_rst r.flags ≡ true
+          → IsOnLine s (OfNode (Arrived p r) ∷ OfNode e ∷ [])
       quiet_on_line p r e s plain rst =
           let next : Station Act = station_after m served s (OfNode (Arrived p r)) in
           let none : (step m served s.node (Arrived p r)).sent ≡ None = unanswered m served s.node p r plain rst in
-          subst (λ (o : Option Reply). on_line (reply_text frames s.acts own o ++ output m served frames own (OfNode e ∷ []) next) ≡ reply_text line s.acts own o ++ output m served line own (OfNode e ∷ []) next)
+          subst (λ (o : Option Reply). on_line (reply_text frames s.acts own o ++ output m served frames own (OfNode e ∷ []) next)
+          ≡ reply_text line s.acts own o ++ output m served line own (OfNode e ∷ []) next)
           (sym none) (one_on_line (OfNode e) next)
 
       verdict_on_line : (n : AbstractNode) (e : Event) (v : Verdict) (s : Station Act) → IsOnLine s (map OfNode (by_verdict n e v) ++ [])
@@ -134,7 +158,8 @@ module _ (k : Interface) where
       payload_on_line : (s : Station Act) (kind : ℕ) (payload : List ℕ) → CameOnLine s (payload_brings host kind payload)
       payload_on_line s kind payload =
           choose (λ (l : List (MediumInput Act)). CameOnLine s l) (is_datagram kind && nat_lt 0 (length payload)) _ _ (λ e. verdict_on_line s.node _ _ s)
-          (λ e. choose (λ (l : List (MediumInput Act)). CameOnLine s l) (is_arp kind && is_arp_for host.addr payload) _ _ (λ f. arp_on_line s (word_at payload 6) (sender_of payload)) (λ f. refl))
+          (λ e. choose (λ (l : List (MediumInput Act)). CameOnLine s l) (is_arp kind && is_arp_for host.addr payload) _ _
+          (λ f. arp_on_line s (word_at payload 6) (sender_of payload)) (λ f. refl))
 
       frame_on_line : (s : Station Act) (frame : List ℕ) → CameOnLine s (frame_brings host frame)
       frame_on_line s frame =

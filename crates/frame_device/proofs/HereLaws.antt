@@ -1,5 +1,10 @@
 -- A call, at a station that the device represents.
-use Rattle.frame_device.proofs.Prelude.{◌≡◌, ℕ, Bool, true, List, [], ◌∷◌, ◌++◌, Option, None, Some, flat_map, map, refl, sym, ap, ◌∙◌, subst, append-nil, append_assoc, inl, inr, false≢true, is_some, AppSpec, Ghosts, Buffer, datagram_in, Addr, Node, Event, Reply, AbstractNode, reply_bytes, run, step, MediumInput, Datagram, Own, MediumSpec, acts_among, all_written, StationEvent, OfMedium, OfNode, Station, station_after, station_after_all, output, reply_text, IsHere, IsNode, FrameSpec, GuardedLink, IsSilent, as_medium, input_events, lensed, wire_medium, HasRun, IsSentOver, TakesEvents, guarded, leaving, Key}
+use Rattle.frame_device.proofs.Prelude.{◌≡◌, ℕ, Bool, true, List, [], ◌∷◌, ◌++◌, Option, None, Some, flat_map, map, refl, sym, ap, ◌∙◌}
+use Rattle.frame_device.proofs.Prelude.{subst, append-nil, append_assoc, inl, inr, false≢true, is_some, AppSpec, Ghosts, Buffer}
+use Rattle.frame_device.proofs.Prelude.{datagram_in, Addr, Node, Event, Reply, AbstractNode, reply_bytes, run, step, MediumInput, Datagram}
+use Rattle.frame_device.proofs.Prelude.{Own, MediumSpec, acts_among, all_written, StationEvent, OfMedium, OfNode, Station, station_after}
+use Rattle.frame_device.proofs.Prelude.{station_after_all, output, reply_text, IsHere, IsNode, FrameSpec, GuardedLink, IsSilent, as_medium}
+use Rattle.frame_device.proofs.Prelude.{input_events, lensed, wire_medium, HasRun, IsSentOver, TakesEvents, guarded, leaving, Key}
 use Rattle.serve_loop.proofs.AddrLaws.{step-addr}
 use Rattle.uip_node.specs.Prelude.{Ran, joined}
 
@@ -8,7 +13,8 @@ abbrev pub replies_text : {C : Type 0} → FrameSpec C → List C → (List ℕ 
 replies_text w acts wire own replies = flat_map (λ reply. w.text acts (wire (reply_bytes own reply))) replies
 
 module _ {C : Type 0} (w : FrameSpec C) (acts : List C) (wire : List ℕ → List ℕ) (own : Addr) where
-  pub none_sent : (replies : List Reply) (sent : Option ℕ) (packet : Buffer) → sent ≡ None → IsSentOver wire own replies sent packet → [] ≡ replies_text w acts wire own replies
+  pub none_sent : (replies : List Reply) (sent : Option ℕ) (packet : Buffer) → sent ≡ None → IsSentOver wire own replies sent packet
+      → [] ≡ replies_text w acts wire own replies
   none_sent [] sent packet none is = refl
   none_sent (reply ∷ []) sent packet none is = absurd (false≢true (ap (λ o. is_some o) (sym none ∙ is.answer)))
   none_sent (reply ∷ another ∷ more) sent packet none is = absurd is
@@ -26,7 +32,8 @@ run_addr m served (e ∷ events) n = run_addr m served events (step m served n e
 
 -- acts of the link, and then events of the node
 module _ {C : Type 0} (m : AppSpec) (served : ℕ → Bool) where
-  after_node : (events : List Event) (s : Station C) → station_after_all m served (map OfNode events) s ≡ record { acts = s.acts; node = (run m served events s.node).node }
+  after_node : (events : List Event) (s : Station C) → station_after_all m served (map OfNode events) s
+      ≡ record { acts = s.acts; node = (run m served events s.node).node }
   after_node [] s = refl
   after_node (e ∷ events) s = after_node events (station_after m served s (OfNode e))
 
@@ -34,7 +41,8 @@ module _ {C : Type 0} (m : AppSpec) (served : ℕ → Bool) where
       → station_after_all m served (map OfMedium acts ++ map OfNode events) s ≡ record { acts = s.acts ++ acts; node = (run m served events s.node).node }
   after_events events [] s = after_node events s ∙ ap (λ (l : List C). record { acts = l; node = (run m served events s.node).node }) (sym (append-nil s.acts))
   after_events events (a ∷ acts) s =
-      after_events events acts (station_after m served s (OfMedium a)) ∙ ap (λ (l : List C). record { acts = l; node = (run m served events s.node).node }) (append_assoc s.acts (a ∷ []) acts)
+      after_events events acts (station_after m served s (OfMedium a))
+      ∙ ap (λ (l : List C). record { acts = l; node = (run m served events s.node).node }) (append_assoc s.acts (a ∷ []) acts)
 
   module _ (w : MediumSpec C) (own : Addr) where
     abbrev texts_of : List C → List Reply → List ℕ
@@ -65,8 +73,10 @@ same_written key w (a ∷ acts) = ap (λ l. w.output_at a ++ l) (same_written ke
 
 module _ {A S : Type 0} (g : Ghosts A S) {C : Type 0} (w : GuardedLink C) (m : AppSpec) (own : Addr) (s : Station C) where
   -- what a call of the guarded node leads to
-  takes_here : (events : AbstractNode → List Event) (old new : Node A S) (result : Option ℕ) → TakesEvents g (leaving w.rules.key) events old new result → IsNode g m own old s.node
-      → IsNode g m own new (run m g.served (events s.node) s.node).node × IsSentOver (leaving w.rules.key) own (run m g.served (events s.node) s.node).sent result new.packet
+  takes_here : (events : AbstractNode → List Event) (old new : Node A S) (result : Option ℕ) → TakesEvents g (leaving w.rules.key) events
+      old new result → IsNode g m own old s.node
+      → IsNode g m own new (run m g.served (events s.node) s.node).node × IsSentOver (leaving w.rules.key) own
+      (run m g.served (events s.node) s.node).sent result new.packet
   takes_here events old new result took p =
       let ran : Ran = run m g.served (events s.node) s.node in
       let is : HasRun g (leaving w.rules.key) new result ran =
@@ -78,7 +88,8 @@ module _ {A S : Type 0} (g : Ghosts A S) {C : Type 0} (w : GuardedLink C) (m : A
 
   -- the node represents the one after these events, the link had its own, and this is the output
   abbrev pub Done : (List C → Type 0) → Node A S → List (StationEvent C) → List ℕ → Type 0
-  Done D node station_events handed = IsHere g D m own node (station_after_all m g.served station_events s) × (handed ≡ output m g.served (wire_medium w) own station_events s)
+  Done D node station_events handed = IsHere g D m own node (station_after_all m g.served station_events s)
+      × (handed ≡ output m g.served (wire_medium w) own station_events s)
 
   abbrev Wrote : (List C → Type 0) → Option ℕ → Buffer → List ℕ → Type 0
   Wrote D result packet handed = (acts : List C) (replies : List Reply) → D acts → IsSentOver (leaving w.rules.key) own replies result packet
@@ -109,9 +120,11 @@ module _ {A S : Type 0} (g : Ghosts A S) {C : Type 0} (w : GuardedLink C) (m : A
   pub brings_own : (D : List C → Type 0) (node : Node A S) (cs : List (MediumInput C)) (a : C) (handed : List ℕ) → cs ≡ Own a ∷ [] → handed ≡ w.link.output_at a
       → IsNode g m own node s.node → D (s.acts ++ acts_among cs) → Brings D node cs handed
   brings_own D node cs a handed e output_at represented did =
-      brings_by D node cs (Own a ∷ []) handed e did (λ did. (record { represented = represented; acted = did }, output_at ∙ sym (append-nil (w.link.output_at a))))
+      brings_by D node cs (Own a ∷ []) handed e did
+      (λ did. (record { represented = represented; acted = did }, output_at ∙ sym (append-nil (w.link.output_at a))))
 
-  pub brings_silent : (D : List C → Type 0) (node : Node A S) (cs : List (MediumInput C)) → IsSilent w.link cs → IsNode g m own node s.node → D (s.acts ++ acts_among cs)
+  pub brings_silent : (D : List C → Type 0) (node : Node A S) (cs : List (MediumInput C)) → IsSilent w.link cs → IsNode g m own node s.node
+      → D (s.acts ++ acts_among cs)
       → Brings D node cs []
   brings_silent D node cs (inl e) represented did =
       brings_by D node cs [] [] e did (λ did. (record { represented = represented; acted = subst D (append-nil s.acts) did }, refl))

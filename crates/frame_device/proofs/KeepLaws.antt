@@ -1,5 +1,17 @@
 -- How the trace of a device on a link of frames conforms, move by move.
-use Rattle.frame_device.proofs.Prelude.{IsByte, lens, entry_on_wire, wire_conforms, lens_is_shift, GuardedLink, frame_sent, initial_node, step, Ported, Rules, guarded, input_events, guarded_link, guarded_of_line, ported_on, ported_start, stations_at, wire_medium, All, flat_map, ◌≡◌, ℕ, Bool, List, [], ◌∷◌, ◌++◌, map, refl, sym, ap, ◌∙◌, subst, All-append, All-cons, All-head, All-nil, All-tail, IsAddr, IsPaged, IsU32, Pages, AppSpec, Ghosts, Addr, Event, HasBytes, AbstractNode, run, MediumInput, Datagram, Overlong, Own, MediumSpec, StationEvent, OfMedium, OfNode, Station, station_after, station_after_all, output, output_of_event, CarriesBytes, events_among, text_in, TraceConforms, at_every_port, TraceEntry, trace_of, IsOfLine, IsDecoded, of_overlong, of_call, every_step, paged_everywhere, steady_of, page_bytes, OutputModel, HasOutputModel, IsSteady, SendsBytes, turn_events, DecodesBytes, acts_before, AnsweredFrame, AnswersAllFrames, CallsSlot, DoesNothing, FrameCall, FrameMove, Gives, InputsFrame, IsFreshFrameDevice, Makes, RepresentsStation, Writing, station_after_move, station_events_by, frame_moves_of, with_value, initial_station, HandsOutFrame, IsFrameOfBytes, FrameTrace, FramesConform, KeepsU32, FrameDevice}
+use Rattle.frame_device.proofs.Prelude.{IsByte, lens, entry_on_wire, wire_conforms, lens_is_shift, GuardedLink, frame_sent, initial_node}
+use Rattle.frame_device.proofs.Prelude.{step, Ported, Rules, guarded, input_events, guarded_link, guarded_of_line, ported_on, ported_start}
+use Rattle.frame_device.proofs.Prelude.{stations_at, wire_medium, All, flat_map, ◌≡◌, ℕ, Bool, List, [], ◌∷◌, ◌++◌, map, refl, sym, ap, ◌∙◌}
+use Rattle.frame_device.proofs.Prelude.{subst, All-append, All-cons, All-head, All-nil, All-tail, IsAddr, IsPaged, IsU32, Pages, AppSpec}
+use Rattle.frame_device.proofs.Prelude.{Ghosts, Addr, Event, HasBytes, AbstractNode, run, MediumInput, Datagram, Overlong, Own, MediumSpec}
+use Rattle.frame_device.proofs.Prelude.{StationEvent, OfMedium, OfNode, Station, station_after, station_after_all, output, output_of_event}
+use Rattle.frame_device.proofs.Prelude.{CarriesBytes, events_among, text_in, TraceConforms, at_every_port, TraceEntry, trace_of, IsOfLine}
+use Rattle.frame_device.proofs.Prelude.{IsDecoded, of_overlong, of_call, every_step, paged_everywhere, steady_of, page_bytes, OutputModel}
+use Rattle.frame_device.proofs.Prelude.{HasOutputModel, IsSteady, SendsBytes, turn_events, DecodesBytes, acts_before, AnsweredFrame}
+use Rattle.frame_device.proofs.Prelude.{AnswersAllFrames, CallsSlot, DoesNothing, FrameCall, FrameMove, Gives, InputsFrame}
+use Rattle.frame_device.proofs.Prelude.{IsFreshFrameDevice, Makes, RepresentsStation, Writing, station_after_move, station_events_by}
+use Rattle.frame_device.proofs.Prelude.{frame_moves_of, with_value, initial_station, HandsOutFrame, IsFrameOfBytes, FrameTrace}
+use Rattle.frame_device.proofs.Prelude.{FramesConform, KeepsU32, FrameDevice}
 use Rattle.uip_node.specs.Events.Event.{Overlong as OverlongFrame, Periodic}
 use Rattle.node_laws.proofs.HonestPeers.{arrives_over_steps}
 use Rattle.node_laws.specs.LossyPeers.{ArrivesIn}
@@ -11,12 +23,15 @@ use Rattle.frame_device.proofs.MoveLaws.{MovesOn, moves_on}
 -- ---- what events lead to, and their output
 
 module _ {C : Type 0} (m : AppSpec) (served : ℕ → Bool) where
-  pub sent_text_in : (w : MediumSpec C) (own : Addr) (station_events : List (StationEvent C)) (s : Station C) → output m served w own station_events s ≡ text_in w own s.acts station_events (trace_of m served (events_among station_events) s.node)
+  pub sent_text_in : (w : MediumSpec C) (own : Addr) (station_events : List (StationEvent C)) (s : Station C)
+      → output m served w own station_events s ≡ text_in w own s.acts station_events (trace_of m served (events_among station_events) s.node)
   sent_text_in w own [] s = refl
   sent_text_in w own (OfMedium a ∷ station_events) s = ap (λ l. w.output_at a ++ l) (sent_text_in w own station_events (station_after m served s (OfMedium a)))
-  sent_text_in w own (OfNode e ∷ station_events) s = ap (λ l. output_of_event m served w own s (OfNode e) ++ l) (sent_text_in w own station_events (station_after m served s (OfNode e)))
+  sent_text_in w own (OfNode e ∷ station_events) s = ap (λ l. output_of_event m served w own s (OfNode e) ++ l)
+      (sent_text_in w own station_events (station_after m served s (OfNode e)))
 
-  pub node_after : (station_events : List (StationEvent C)) (s : Station C) → (station_after_all m served station_events s).node ≡ (run m served (events_among station_events) s.node).node
+  pub node_after : (station_events : List (StationEvent C)) (s : Station C) → (station_after_all m served station_events s).node
+      ≡ (run m served (events_among station_events) s.node).node
   node_after [] s = refl
   node_after (OfMedium a ∷ station_events) s = node_after station_events (station_after m served s (OfMedium a))
   node_after (OfNode e ∷ station_events) s = node_after station_events (station_after m served s (OfNode e))
@@ -25,7 +40,8 @@ module _ {C : Type 0} (m : AppSpec) (served : ℕ → Bool) where
   abbrev pub turns_of_call : GuardedLink C → FrameCall → Station C → List TraceEntry
   turns_of_call w call s = trace_of m served (events_among (station_events_by w served s.node call)) s.node
 
-  pub call_hands_out : (w : GuardedLink C) (own : Addr) (call : FrameCall) (s : Station C) (handed : List ℕ) → handed ≡ output m served (wire_medium w) own (station_events_by w served s.node call) s
+  pub call_hands_out : (w : GuardedLink C) (own : Addr) (call : FrameCall) (s : Station C) (handed : List ℕ)
+      → handed ≡ output m served (wire_medium w) own (station_events_by w served s.node call) s
       → HandsOutFrame w served own (record { answered = record { move = Makes call; handed = handed }; station = s; turns = turns_of_call w call s })
   call_hands_out w own call s handed wrote = record {
     over = turn_events m served (events_among (station_events_by w served s.node call)) s.node;
@@ -58,7 +74,8 @@ module _ (m : AppSpec) (steady : IsSteady m) (served : ℕ → Bool) (own : Addr
   run_ported : (events : List Event) (n : AbstractNode) → AllOf own events → Ported n → Ported (run m served events n).node
   run_ported [] n of p = p
   run_ported (e ∷ events) n of p =
-      run_ported events (step m served n e).node (All-tail (IsOfLine own) e events of) (ported_on m steady served own n e (All-head (IsOfLine own) e events of) p)
+      run_ported events (step m served n e).node (All-tail (IsOfLine own) e events of)
+      (ported_on m steady served own n e (All-head (IsOfLine own) e events of) p)
 
   pub run_reached : (events : List Event) (n : AbstractNode) → AllOf own events → Reached own n → Reached own (run m served events n).node
   run_reached events n of r = record { address = run_addr m served events n ∙ r.address; ported = run_ported events n of r.ported }
@@ -79,17 +96,20 @@ module _ {C : Type 0} where
     came_of_line [] h = All-nil (IsOfLine own)
     came_of_line (Datagram d ∷ cs) h =
         subst (λ (l : List Event). AllOf own l) (sym (among_nodes (guarded rules served n d) (flat_map (input_events rules served n) cs)))
-        (All-append (IsOfLine own) (guarded rules served n d) (events_among (flat_map (input_events rules served n) cs)) (guarded_at own is rules served n r d (All-head CarriesBytes (Datagram d) cs h))
+        (All-append (IsOfLine own) (guarded rules served n d) (events_among (flat_map (input_events rules served n) cs))
+        (guarded_at own is rules served n r d (All-head CarriesBytes (Datagram d) cs h))
         (came_of_line cs (All-tail CarriesBytes (Datagram d) cs h)))
     came_of_line (Overlong ∷ cs) h =
-        All-cons (IsOfLine own) OverlongFrame (events_among (flat_map (input_events rules served n) cs)) (of_overlong refl) (came_of_line cs (All-tail CarriesBytes Overlong cs h))
+        All-cons (IsOfLine own) OverlongFrame (events_among (flat_map (input_events rules served n) cs)) (of_overlong refl)
+        (came_of_line cs (All-tail CarriesBytes Overlong cs h))
     came_of_line (Own a ∷ cs) h = came_of_line cs (All-tail CarriesBytes (Own a) cs h)
 
   acts_of_line : (own : Addr) (acts : List C) (slot : ℕ) → AllOf own (events_among (map OfMedium acts ++ OfNode (Periodic slot) ∷ []))
   acts_of_line own [] slot = All-cons (IsOfLine own) (Periodic slot) [] (of_call slot refl) (All-nil (IsOfLine own))
   acts_of_line own (a ∷ acts) slot = acts_of_line own acts slot
 
-  pub call_of_line : (own : Addr) → IsAddr own → (w : GuardedLink C) → DecodesBytes w.link → (served : ℕ → Bool) (n : AbstractNode) → Reached own n → (call : FrameCall) → IsFrameOfBytes (Makes call)
+  pub call_of_line : (own : Addr) → IsAddr own → (w : GuardedLink C) → DecodesBytes w.link → (served : ℕ → Bool) (n : AbstractNode)
+      → Reached own n → (call : FrameCall) → IsFrameOfBytes (Makes call)
       → AllOf own (events_among (station_events_by w served n call))
   call_of_line own is w decodes served n r (InputsFrame frame) bytes = came_of_line own is w.rules served n r (w.link.decodes frame) (decodes frame bytes)
   call_of_line own is w decodes served n r (CallsSlot slot) bytes = acts_of_line own (acts_before w.link slot) slot
@@ -121,7 +141,8 @@ module _ {C : Type 0} (m : AppSpec) (served : ℕ → Bool) (w : GuardedLink C) 
         let of : AllOf own events = call_of_line own is w decodes served s.node r call bytes in
         record {
           steps = all_happen own events of;
-          reached = subst (λ (n : AbstractNode). Reached own n) (sym (node_after m served (station_events_by w served s.node call) s)) (run_reached m steady served own events s.node of r);
+          reached = subst (λ (n : AbstractNode). Reached own n) (sym (node_after m served (station_events_by w served s.node call) s))
+              (run_reached m steady served own events s.node of r);
         }
     move_on_line (Gives number text) s bytes r = record {
       steps = All-cons (IsStep own) (Changes (gives number text)) [] (λ numbers are. words number text numbers bytes are) (All-nil (IsStep own));
@@ -155,24 +176,32 @@ module _ {A S M : Type 0} (g : Ghosts A S) (h : FramesGhosts M) (k : h.Config) (
   abbrev traced : AnsweredFrame → Station h.Act → FrameTrace h.Act
   traced it s = record { answered = it; station = with_value gives it.move s; turns = turns_by it.move s }
 
-  hands_out : (it : AnsweredFrame) (a b : FrameDevice A M S) (s : Station h.Act) → MovesOn g h k m gives rules own it.move a b it.handed s → HandsOutFrame link g.served own (traced it s)
+  hands_out : (it : AnsweredFrame) (a b : FrameDevice A M S) (s : Station h.Act) → MovesOn g h k m gives rules own it.move a b it.handed s
+      → HandsOutFrame link g.served own (traced it s)
   hands_out it a b s first = by it.move it.handed first.hands
     where
       by : (move : FrameMove) (handed : List ℕ) → handed ≡ frame_sent m g.served link gives own move s
-          → HandsOutFrame link g.served own (record { answered = record { move = move; handed = handed }; station = with_value gives move s; turns = turns_by move s })
+          → HandsOutFrame link g.served own (record {
+            answered = record { move = move; handed = handed };
+            station = with_value gives move s;
+            turns = turns_by move s;
+          })
       by (Makes call) handed wrote = call_hands_out m g.served link own call s handed wrote
       by (Gives number text) handed wrote = record { over = refl; hands = wrote }
 
   -- the trace of a move, and of the steps after it
   move_turns : (move : FrameMove) (steps : List LineStep) (s : Station h.Act)
-      → turns_by move s ++ trace_over m g.served steps (station_after_move m g.served link gives move s).node ≡ trace_over m g.served (steps_of_move m g.served link gives move s ++ steps) s.node
+      → turns_by move s ++ trace_over m g.served steps (station_after_move m g.served link gives move s).node ≡ trace_over m g.served
+      (steps_of_move m g.served link gives move s ++ steps) s.node
   move_turns (Makes call) steps s =
       let events : List Event = events_among (station_events_by link g.served s.node call) in
-      ap (λ (n : AbstractNode). trace_of m g.served events s.node ++ trace_over m g.served steps n) (node_after m g.served (station_events_by link g.served s.node call) s)
+      ap (λ (n : AbstractNode). trace_of m g.served events s.node ++ trace_over m g.served steps n)
+      (node_after m g.served (station_events_by link g.served s.node call) s)
       ∙ sym (turns_then m g.served events steps s.node)
   move_turns (Gives number text) steps s = refl
 
-  in_turns : (all : List AnsweredFrame) (a c : FrameDevice A M S) (s : Station h.Act) → a.guard.rules ≡ rules → RepresentsStation g h k m own a s → AnswersAllFrames g h gives all a c → InTurns all s
+  in_turns : (all : List AnsweredFrame) (a c : FrameDevice A M S) (s : Station h.Act) → a.guard.rules ≡ rules
+      → RepresentsStation g h k m own a s → AnswersAllFrames g h gives all a c → InTurns all s
   in_turns [] a c s same represented more = record { moves = []; answered = refl; at = refl; each = All-nil (HandsOutFrame link g.served own); turns = refl }
   in_turns (it ∷ all) a c s same represented more =
       let b : FrameDevice A M S = more.0 in
@@ -187,13 +216,16 @@ module _ {A S M : Type 0} (g : Ghosts A S) (h : FramesGhosts M) (k : h.Config) (
         turns = ap (λ l. turns_by it.move s ++ l) rest.turns ∙ move_turns it.move (steps_of m g.served link gives (frame_moves_of all) next) s;
       }
 
-  pub keeps_frames_by : (model : ℕ → OutputModel) → IsSteady m → SendsBytes m → HasOutputModel m model → KeepsU32 gives → DecodesBytes (h.spec k) → (numbers : List ℕ) → All IsU32 numbers → IsAddr own
-      → (all : List AnsweredFrame) → All IsFrameOfBytes (frame_moves_of all) → (old new : FrameDevice A M S) → IsFreshFrameDevice g h k m numbers rules own old → AnswersAllFrames g h gives all old new
+  pub keeps_frames_by : (model : ℕ → OutputModel) → IsSteady m → SendsBytes m → HasOutputModel m model → KeepsU32 gives
+      → DecodesBytes (h.spec k) → (numbers : List ℕ) → All IsU32 numbers → IsAddr own
+      → (all : List AnsweredFrame) → All IsFrameOfBytes (frame_moves_of all) → (old new : FrameDevice A M S)
+      → IsFreshFrameDevice g h k m numbers rules own old → AnswersAllFrames g h gives all old new
       → FramesConform link m model g.served own (stations_at m g.served link gives (frame_moves_of all) (initial_station own numbers)) all
   keeps_frames_by model steady bytes speaks low decodes numbers words is all brought old new fresh answered =
       let s : Station h.Act = initial_station own numbers in
       let steps : List LineStep = steps_of m g.served link gives (frame_moves_of all) s in
-      let are : All (IsStep own) steps = steps_are m g.served link gives steady own is decodes low (frame_moves_of all) s brought (first_reached own numbers words) in
+      let are : All (IsStep own) steps = steps_are m g.served link gives steady own is decodes low (frame_moves_of all) s brought
+      (first_reached own numbers words) in
       let t = in_turns all old new s fresh.rules_are fresh.represented answered in
       let kept = every_step m model steady bytes speaks g.served own is numbers words steps are in
       record {
@@ -205,11 +237,15 @@ module _ {A S M : Type 0} (g : Ghosts A S) (h : FramesGhosts M) (k : h.Config) (
         wire = subst (λ (l : List TraceEntry). TraceConforms model g.served (map (entry_on_wire (lens rules.key own)) l)) (sym t.turns)
             (wire_conforms model g.served (lens rules.key own) (lens_is_shift.shift rules.key own) _ kept.0);
         read = subst (λ (l : List TraceEntry). All (IsDecoded own) l) (sym t.turns) kept.1;
-        arrives = λ pages lawful. subst (λ (l : List TraceEntry). ArrivesIn m pages l) (sym t.turns) (arrives_over_steps m pages lawful g.served own numbers words steps are);
+        arrives = λ pages lawful. subst (λ (l : List TraceEntry). ArrivesIn m pages l) (sym t.turns)
+            (arrives_over_steps m pages lawful g.served own numbers words steps are);
       }
 
   -- of pages at every port
-  pub keeps_frames : (pages : Pages) → IsPaged m pages → HasBytes pages → KeepsU32 gives → DecodesBytes (h.spec k) → (numbers : List ℕ) → All IsU32 numbers → IsAddr own
-      → (all : List AnsweredFrame) → All IsFrameOfBytes (frame_moves_of all) → (old new : FrameDevice A M S) → IsFreshFrameDevice g h k m numbers rules own old → AnswersAllFrames g h gives all old new
+  pub keeps_frames : (pages : Pages) → IsPaged m pages → HasBytes pages → KeepsU32 gives → DecodesBytes (h.spec k) → (numbers : List ℕ)
+      → All IsU32 numbers → IsAddr own
+      → (all : List AnsweredFrame) → All IsFrameOfBytes (frame_moves_of all) → (old new : FrameDevice A M S)
+      → IsFreshFrameDevice g h k m numbers rules own old → AnswersAllFrames g h gives all old new
       → FramesConform link m (at_every_port pages) g.served own (stations_at m g.served link gives (frame_moves_of all) (initial_station own numbers)) all
-  keeps_frames pages lawful page = keeps_frames_by (at_every_port pages) (steady_of m pages lawful) (page_bytes m pages lawful page) (paged_everywhere m pages lawful)
+  keeps_frames pages lawful page = keeps_frames_by (at_every_port pages) (steady_of m pages lawful) (page_bytes m pages lawful page)
+      (paged_everywhere m pages lawful)

@@ -1,5 +1,9 @@
 -- What moves in turn write.
-use Rattle.frame_device.proofs.Prelude.{◌≡◌, ℕ, List, [], ◌∷◌, refl, sym, ap, ◌∙◌, subst, AppSpec, Ghosts, Addr, Station, AnsweredFrame, AnswersAllFrames, AnswersFrameMove, FrameMove, Gives, GuardedLink, IsFreshFrameDevice, Makes, RepresentsStation, Rules, Writing, frame_moves_of, frame_sent, frames_sent, guarded_link, handed_of, output_of_call, station_after_frame_call, station_after_move, station_after_moves, initial_station, FrameDevice}
+use Rattle.frame_device.proofs.Prelude.{◌≡◌, ℕ, List, [], ◌∷◌, refl, sym, ap, ◌∙◌, subst, AppSpec, Ghosts, Addr, Station, AnsweredFrame}
+use Rattle.frame_device.proofs.Prelude.{AnswersAllFrames, AnswersFrameMove, FrameMove, Gives, GuardedLink, IsFreshFrameDevice, Makes}
+use Rattle.frame_device.proofs.Prelude.{RepresentsStation, Rules, Writing, frame_moves_of, frame_sent, frames_sent, guarded_link, handed_of}
+use Rattle.frame_device.proofs.Prelude.{output_of_call, station_after_frame_call, station_after_move, station_after_moves, initial_station}
+use Rattle.frame_device.proofs.Prelude.{FrameDevice}
 use Rattle.frame_device.specs.declared.frames.Frames.{Ghosts as FramesGhosts}
 
 module _ {A S M : Type 0} (g : Ghosts A S) (h : FramesGhosts M) (k : h.Config) (m : AppSpec) (gives : Writing) (rules : Rules) (own : Addr) where
@@ -16,7 +20,8 @@ module _ {A S M : Type 0} (g : Ghosts A S) (h : FramesGhosts M) (k : h.Config) (
   pub moves_on : (move : FrameMove) (a b : FrameDevice A M S) (handed : List ℕ) (s : Station h.Act) → a.guard.rules ≡ rules → RepresentsStation g h k m own a s
       → AnswersFrameMove g h gives move a b handed → MovesOn move a b handed s
   moves_on (Makes call) a b handed s same represented answers =
-      let both = subst (λ (r : Rules). RepresentsStation g h k m own b (station_after_frame_call m g.served (guarded_link (h.spec k) r) call s) × (handed ≡ output_of_call m g.served (guarded_link (h.spec k) r) own call s))
+      let both = subst (λ (r : Rules). RepresentsStation g h k m own b (station_after_frame_call m g.served (guarded_link (h.spec k) r) call
+      s) × (handed ≡ output_of_call m g.served (guarded_link (h.spec k) r) own call s))
       same (answers.each k m own s represented) in
       record { kept = answers.kept; rules_are = answers.rules ∙ same; represented = both.0; hands = both.1 }
   moves_on (Gives number text) a b handed s same represented changes =
@@ -28,7 +33,8 @@ module _ {A S M : Type 0} (g : Ghosts A S) (h : FramesGhosts M) (k : h.Config) (
     kept : g.config c.node.shared ≡ g.config a.node.shared
     rules_are : c.guard.rules ≡ rules
 
-  goes : (all : List AnsweredFrame) (a c : FrameDevice A M S) (s : Station h.Act) → a.guard.rules ≡ rules → RepresentsStation g h k m own a s → AnswersAllFrames g h gives all a c → Goes all a c s
+  goes : (all : List AnsweredFrame) (a c : FrameDevice A M S) (s : Station h.Act) → a.guard.rules ≡ rules
+      → RepresentsStation g h k m own a s → AnswersAllFrames g h gives all a c → Goes all a c s
   goes [] a c s same represented is = record {
     frames = refl;
     represented = subst (λ (d : FrameDevice A M S). RepresentsStation g h k m own d s) is represented;
@@ -41,13 +47,15 @@ module _ {A S M : Type 0} (g : Ghosts A S) (h : FramesGhosts M) (k : h.Config) (
       let next : Station h.Act = station_after_move m g.served link gives it.move s in
       let rest = goes all b c next first.rules_are first.represented more.2 in
       record {
-        frames = ap (λ (l : List ℕ). l ∷ handed_of all) first.hands ∙ ap (λ (l : List (List ℕ)). frame_sent m g.served link gives own it.move s ∷ l) rest.frames;
+        frames = ap (λ (l : List ℕ). l ∷ handed_of all) first.hands
+            ∙ ap (λ (l : List (List ℕ)). frame_sent m g.served link gives own it.move s ∷ l) rest.frames;
         represented = rest.represented;
         kept = rest.kept ∙ first.kept;
         rules_are = rest.rules_are;
       }
 
-  module _ (numbers : List ℕ) (all : List AnsweredFrame) (old new : FrameDevice A M S) (fresh : IsFreshFrameDevice g h k m numbers rules own old) (answered : AnswersAllFrames g h gives all old new) where
+  module _ (numbers : List ℕ) (all : List AnsweredFrame) (old new : FrameDevice A M S) (fresh : IsFreshFrameDevice g h k m numbers rules own
+      old) (answered : AnswersAllFrames g h gives all old new) where
     whole : Goes all old new (initial_station own numbers)
     whole = goes all old new (initial_station own numbers) fresh.rules_are fresh.represented answered
 

@@ -1,5 +1,10 @@
 -- The newest incarnation of a connection conforms, and its newest account has the captures of the connection.
-use Rattle.frame_device.proofs.Prelude.{All, ◌≡◌, ◌∙◌, ℕ, zero, suc, ◌<◌, Bool, true, false, List, [], ◌∷◌, ◌++◌, Some, drop, length, refl, sym, ap, subst, arith, if◌then◌else◌, replicate, slice_get, slice_index_or, All-head, All-tail, AppSpec, IsU32, Addr, AbstractNode, Event, IsEvent, IsSteady, connection_in, initial_node, serving, step, both_ways, Account, AccountHolds, Exchange, HasOutputModel, IncarnationConforms, IsExtendedBy, OutputModel, TextConforms, exchange, exchanges_onto, exchanges_with, is_empty, is_incarnation, is_opening, HasNewest, NewestConforms, NewestInEachSlot}
+use Rattle.frame_device.proofs.Prelude.{All, ◌≡◌, ◌∙◌, ℕ, zero, suc, ◌<◌, Bool, true, false, List, [], ◌∷◌, ◌++◌, Some, drop, length, refl}
+use Rattle.frame_device.proofs.Prelude.{sym, ap, subst, arith, if◌then◌else◌, replicate, slice_get, slice_index_or, All-head, All-tail}
+use Rattle.frame_device.proofs.Prelude.{AppSpec, IsU32, Addr, AbstractNode, Event, IsEvent, IsSteady, connection_in, initial_node, serving}
+use Rattle.frame_device.proofs.Prelude.{step, both_ways, Account, AccountHolds, Exchange, HasOutputModel, IncarnationConforms, IsExtendedBy}
+use Rattle.frame_device.proofs.Prelude.{OutputModel, TextConforms, exchange, exchanges_onto, exchanges_with, is_empty, is_incarnation}
+use Rattle.frame_device.proofs.Prelude.{is_opening, HasNewest, NewestConforms, NewestInEachSlot}
 use Rattle.tcp_machine.specs.Prelude.{Connection, Sockets, closed, is_live}
 use Rattle.uip_node.proofs.Connections.{Single, all_closed, none_serves, serving_free, serving_is}
 use Rattle.uip_node.proofs.SocketPairs.{serves_yes}
@@ -53,7 +58,16 @@ module _ (m : AppSpec) (steady : IsSteady m) (models : ℕ → OutputModel) (spe
   with_newest a old (suc back) = old back
 
   born_current : (d : Connection) (x : Exchange) → GoodAt d (x ∷ []) → Current d (x ∷ [])
-  born_current d x g = record { good = g; conforms = record { account = λ back. g.kept.account; holds = only; conforms = only_text; grows = λ back l. absurd (omega (arith, l)) }; newest = refl }
+  born_current d x g = record {
+    good = g;
+    conforms = record {
+      account = λ back. g.kept.account;
+      holds = only;
+      conforms = only_text;
+      grows = λ back l. absurd (omega (arith, l));
+    };
+    newest = refl;
+  }
     where
       only : (back : ℕ) → back < 1 → AccountHolds (drop back (x ∷ [])) g.kept.account
       only zero l = keeps_account model (x ∷ []) g.kept
@@ -63,18 +77,26 @@ module _ (m : AppSpec) (steady : IsSteady m) (models : ℕ → OutputModel) (spe
       only_text zero l = keeps_text m p.own_port.0 model (speaks p.own_port.0) (x ∷ []) g.kept
       only_text (suc back) l = absurd (omega (arith, l))
 
-  current_longer : (c d : Connection) (x : Exchange) (incarnation : List Exchange) (v : Current c incarnation) → OnwardAt c incarnation v.good d x → Current d (x ∷ incarnation)
-  current_longer c d x incarnation v o = record { good = o.good; conforms = record { account = with_newest o.good.kept.account v.conforms.account; holds = holds_on; conforms = conforms_on; grows = grows_on }; newest = refl }
+  current_longer : (c d : Connection) (x : Exchange) (incarnation : List Exchange) (v : Current c incarnation)
+      → OnwardAt c incarnation v.good d x → Current d (x ∷ incarnation)
+  current_longer c d x incarnation v o = record {
+    good = o.good;
+    conforms = record { account = with_newest o.good.kept.account v.conforms.account; holds = holds_on; conforms = conforms_on; grows = grows_on };
+    newest = refl;
+  }
     where
-      holds_on : (back : ℕ) → back < length (x ∷ incarnation) → AccountHolds (drop back (x ∷ incarnation)) (with_newest o.good.kept.account v.conforms.account back)
+      holds_on : (back : ℕ) → back < length (x ∷ incarnation) → AccountHolds (drop back (x ∷ incarnation))
+          (with_newest o.good.kept.account v.conforms.account back)
       holds_on zero l = keeps_account model (x ∷ incarnation) o.good.kept
       holds_on (suc back) l = v.conforms.holds back (omega (arith, l))
 
-      conforms_on : (back : ℕ) → back < length (x ∷ incarnation) → TextConforms model (drop back (x ∷ incarnation)) (with_newest o.good.kept.account v.conforms.account back)
+      conforms_on : (back : ℕ) → back < length (x ∷ incarnation) → TextConforms model (drop back (x ∷ incarnation))
+          (with_newest o.good.kept.account v.conforms.account back)
       conforms_on zero l = keeps_text m p.own_port.0 model (speaks p.own_port.0) (x ∷ incarnation) o.good.kept
       conforms_on (suc back) l = v.conforms.conforms back (omega (arith, l))
 
-      grows_on : (back : ℕ) → suc back < length (x ∷ incarnation) → IsExtendedBy (with_newest o.good.kept.account v.conforms.account (suc back)) (with_newest o.good.kept.account v.conforms.account back)
+      grows_on : (back : ℕ) → suc back < length (x ∷ incarnation)
+          → IsExtendedBy (with_newest o.good.kept.account v.conforms.account (suc back)) (with_newest o.good.kept.account v.conforms.account back)
       grows_on zero l = subst (λ (a : Account). IsExtendedBy a o.good.kept.account) (sym v.newest) o.grew
       grows_on (suc back) l = v.conforms.grows back (omega (arith, l))
 
@@ -94,7 +116,8 @@ module _ (m : AppSpec) (steady : IsSteady m) (models : ℕ → OutputModel) (spe
       (born_current d x (begins_by m steady p.own_port.0 model (speaks p.own_port.0) served p refl c d x does (ap (λ (z : Exchange). is_opening z) head ∙ o)))))
       (λ o. (let of_older : is_incarnation older ≡ true = sym (ap (λ (b : Bool). if b then is_empty older else is_incarnation older) o) ∙ l in
       let v : Current c older = h older before tail of_older in
-      current_longer c d x older v (goes_on m steady p.own_port.0 model (speaks p.own_port.0) served p refl c d x older does (ap (λ (z : Exchange). is_opening z) head ∙ o) v.good))))
+      current_longer c d x older v (goes_on m steady p.own_port.0 model (speaks p.own_port.0) served p refl c d x older does
+      (ap (λ (z : Exchange). is_opening z) head ∙ o) v.good))))
 
   -- ---- a connection that is not CLOSED has an incarnation
 
@@ -121,7 +144,8 @@ module _ (m : AppSpec) (steady : IsSteady m) (models : ℕ → OutputModel) (spe
     | ticks numbers at alive fit words is h ↦ alive
   ]
 
-  newest_on : (c d : Connection) (x : Exchange) (so_far : List Exchange) → OfMedium m served p c d x → (is_live c.state ≡ true → HasNewest so_far) → is_live d.state ≡ true → HasNewest (x ∷ so_far)
+  newest_on : (c d : Connection) (x : Exchange) (so_far : List Exchange) → OfMedium m served p c d x
+      → (is_live c.state ≡ true → HasNewest so_far) → is_live d.state ≡ true → HasNewest (x ∷ so_far)
   newest_on c d x so_far does h l =
       both_ways (is_opening x) (λ o. newest_new x so_far o) (λ o. newest_longer x so_far o (h (live_before c d x does o l)))
 
@@ -133,7 +157,8 @@ module _ (m : AppSpec) (steady : IsSteady m) (models : ℕ → OutputModel) (spe
     current : CurrentIn (serving p n.connections) so_far
     newest : is_live (serving p n.connections).state ≡ true → HasNewest so_far
 
-  step_inv : (n : AbstractNode) (so_far : List Exchange) (event : Event) → IsEvent event → Inv n so_far → Inv (step m served n event).node (exchange p event (step m served n event).sent ∷ so_far)
+  step_inv : (n : AbstractNode) (so_far : List Exchange) (event : Event) → IsEvent event → Inv n so_far → Inv (step m served n event).node
+      (exchange p event (step m served n event).sent ∷ so_far)
   step_inv n so_far event is i =
       let c : Comes m served n event (step m served n event) = comes m served steady n event is i.single i.fit in
       let x : Exchange = exchange p event (step m served n event).sent in
@@ -165,7 +190,8 @@ module _ (m : AppSpec) (steady : IsSteady m) (models : ℕ → OutputModel) (spe
     single = λ q i j x y a b u v. absurd (let z = none_serves 10 q i x a in cc);
     fit = record { size = omega arith; conns = λ i x y. subst FitConn (all_closed 10 i x y) closed_fits; numbers = words };
     current = λ incarnation before e l. absurd (none_yet incarnation before e l);
-    newest = λ l. absurd (let z : is_live (serving p (replicate 10 closed)).state ≡ false = ap (λ (c : Connection). is_live c.state) (serving_free (replicate 10 closed) p (none_serves 10 p)) in cc);
+    newest = λ l. absurd (let z : is_live (serving p (replicate 10 closed)).state ≡ false = ap (λ (c : Connection). is_live c.state)
+        (serving_free (replicate 10 closed) p (none_serves 10 p)) in cc);
   }
 
 -- ---- the connection in a slot
@@ -175,7 +201,8 @@ some_back [] e = absurd (cc)
 some_back (x ∷ incarnation) e = omega arith
 
 -- so the newest text conforms
-pub newest_text : (model : OutputModel) (c : Connection) (exchanges : List Exchange) (it : NewestConforms model c exchanges) → TextConforms model it.newest.incarnation (it.conforms.account 0)
+pub newest_text : (model : OutputModel) (c : Connection) (exchanges : List Exchange) (it : NewestConforms model c exchanges)
+    → TextConforms model it.newest.incarnation (it.conforms.account 0)
 newest_text model c exchanges it = it.conforms.conforms 0 (some_back it.newest.incarnation it.newest.is)
 
 in_slot : (cs : List Connection) (slot : ℕ) → is_live (slice_index_or cs slot closed).state ≡ true → slice_get cs slot ≡ Some (slice_index_or cs slot closed)
@@ -184,7 +211,8 @@ in_slot (c ∷ cs) zero live = refl
 in_slot (c ∷ cs) (suc slot) live = in_slot cs slot live
 
 module _ (m : AppSpec) (steady : IsSteady m) (models : ℕ → OutputModel) (speaks : HasOutputModel m models) (served : ℕ → Bool) where
-  newest_of : (c : Connection) (exchanges : List Exchange) → HasNewest exchanges → CurrentIn m steady models speaks served c.sockets c exchanges → is_live c.state ≡ true
+  newest_of : (c : Connection) (exchanges : List Exchange) → HasNewest exchanges → CurrentIn m steady models speaks served c.sockets c
+      exchanges → is_live c.state ≡ true
       → NewestConforms (models c.sockets.own_port.0) c exchanges
   newest_of c exchanges it current live =
       let v = current it.incarnation it.before it.split it.is in
@@ -197,6 +225,8 @@ module _ (m : AppSpec) (steady : IsSteady m) (models : ℕ → OutputModel) (spe
       let c : Connection = connection_in slot n in
       let p : Sockets = c.sockets in
       let exchanges : List Exchange = exchanges_with p (trace_over m served steps (initial_node own numbers)) in
-      let i : Inv m steady models speaks served p n exchanges = run_inv m steady models speaks served p own steps (initial_node own numbers) [] are (first_inv m steady models speaks served p own numbers words) in
+      let i : Inv m steady models speaks served p n exchanges = run_inv m steady models speaks served p own steps (initial_node own numbers)
+      [] are (first_inv m steady models speaks served p own numbers words) in
       let here : serving p n.connections ≡ c = serving_is n.connections p slot c i.single (in_slot n.connections slot live) (serves_yes p c live refl) in
-      newest_of c exchanges (i.newest (ap (λ (x : Connection). is_live x.state) here ∙ live)) (subst (λ (x : Connection). CurrentIn m steady models speaks served p x exchanges) here i.current) live
+      newest_of c exchanges (i.newest (ap (λ (x : Connection). is_live x.state) here ∙ live))
+      (subst (λ (x : Connection). CurrentIn m steady models speaks served p x exchanges) here i.current) live

@@ -1,9 +1,22 @@
 -- Calls of a program on a device: what they write in turn conforms, and goes home.
-use Rattle.frame_device.proofs.Prelude.{reset_by, Verdict, Drop, Pass, Displace, lens, entry_on_wire, wire_conforms, lens_is_shift, Sockets, is_plain_syn, PlainSegment, has_rst, Arrived, connection_in, All, flat_map, ◌≡◌, ◌⊎◌, inl, inr, ℕ, ◌==◌, ◌&&◌, ◌||◌, Bool, List, [], ◌∷◌, ◌++◌, drop, length, map, nat_lt, refl, sym, ap, ◌∙◌, subst, choose, bytes_eq, word_at, All-append, All-cons, All-head, All-nil, All-tail, IsAddr, IsU32, AppSpec, Addr, Event, AbstractNode, run, Periodic, MediumInput, OfMedium, OfNode, Station, events_among, TraceConforms, TraceEntry, IsDecoded, every_step, OutputModel, HasOutputModel, IsSteady, SendsBytes, Act, Pair, arp_brings, broadcast, frame_brings, is_arp, is_arp_for, is_datagram, is_taken, mac_at, payload_brings, sender_of, AllSound, DecodesBytes, GuardedLink, Rules, acts_before, AnsweredFrame, CallsSlot, DoesNothing, FrameCall, InputsFrame, Interface, Makes, by_verdict, ether_frames, false, true, guarded_ether, input_events, station_events_by, initial_station, HandsOutFrame, IsFrameOfBytes, FrameTrace, NewestInEachSlot}
-use Rattle.frame_device.specs.ProgramCalls.{AnsweredBy, DidInTurn, GoHome, OfEach, Program, after_program_call, after_program_calls, before_program_call, program_calls, program_frame, program_stations, frames_made, program_frames}
+use Rattle.frame_device.proofs.Prelude.{reset_by, Verdict, Drop, Pass, Displace, lens, entry_on_wire, wire_conforms, lens_is_shift, Sockets}
+use Rattle.frame_device.proofs.Prelude.{is_plain_syn, PlainSegment, has_rst, Arrived, connection_in, All, flat_map, ◌≡◌, ◌⊎◌, inl, inr, ℕ}
+use Rattle.frame_device.proofs.Prelude.{◌==◌, ◌&&◌, ◌||◌, Bool, List, [], ◌∷◌, ◌++◌, drop, length, map, nat_lt, refl, sym, ap, ◌∙◌, subst}
+use Rattle.frame_device.proofs.Prelude.{choose, bytes_eq, word_at, All-append, All-cons, All-head, All-nil, All-tail, IsAddr, IsU32}
+use Rattle.frame_device.proofs.Prelude.{AppSpec, Addr, Event, AbstractNode, run, Periodic, MediumInput, OfMedium, OfNode, Station}
+use Rattle.frame_device.proofs.Prelude.{events_among, TraceConforms, TraceEntry, IsDecoded, every_step, OutputModel, HasOutputModel}
+use Rattle.frame_device.proofs.Prelude.{IsSteady, SendsBytes, Act, Pair, arp_brings, broadcast, frame_brings, is_arp, is_arp_for}
+use Rattle.frame_device.proofs.Prelude.{is_datagram, is_taken, mac_at, payload_brings, sender_of, AllSound, DecodesBytes, GuardedLink}
+use Rattle.frame_device.proofs.Prelude.{Rules, acts_before, AnsweredFrame, CallsSlot, DoesNothing, FrameCall, InputsFrame, Interface, Makes}
+use Rattle.frame_device.proofs.Prelude.{by_verdict, ether_frames, false, true, guarded_ether, input_events, station_events_by}
+use Rattle.frame_device.proofs.Prelude.{initial_station, HandsOutFrame, IsFrameOfBytes, FrameTrace, NewestInEachSlot}
+use Rattle.frame_device.specs.ProgramCalls.{AnsweredBy, DidInTurn, GoHome, OfEach, Program, after_program_call, after_program_calls}
+use Rattle.frame_device.specs.ProgramCalls.{before_program_call, program_calls, program_frame, program_stations, frames_made}
+use Rattle.frame_device.specs.ProgramCalls.{program_frames}
 use Rattle.frame_device.specs.ProgramKeeping.{ProgramConforms}
 use Rattle.frame_device.proofs.HomeLaws.{call_home}
-use Rattle.frame_device.proofs.KeepLaws.{Reached, call_hands_out, call_of_line, change_reached, first_reached, node_after, run_reached, turns_of_call}
+use Rattle.frame_device.proofs.KeepLaws.{Reached, call_hands_out, call_of_line, change_reached, first_reached, node_after, run_reached}
+use Rattle.frame_device.proofs.KeepLaws.{turns_of_call}
 use Rattle.frame_device.proofs.Newest.{newest_in_each_slot, node_over}
 use Rattle.node_laws.proofs.HonestPeers.{arrives_over_steps}
 use Rattle.node_laws.specs.LossyPeers.{ArrivesIn}
@@ -20,13 +33,15 @@ module _ {Call C : Type 0} (program : Program Call C) (m : AppSpec) (served : �
   -- ---- what holds of each call
 
   -- also what holds of the call alone
-  pub each_with : (B : Call → Type 0) (P : Call → Station C → Type 0) (calls : List Call) (s : Station C) → All B calls → Each P calls s → Each (λ call at. B call × P call at) calls s
+  pub each_with : (B : Call → Type 0) (P : Call → Station C → Type 0) (calls : List Call) (s : Station C) → All B calls → Each P calls s
+      → Each (λ call at. B call × P call at) calls s
   each_with B P [] s are each = tt
   each_with B P (call ∷ calls) s are each = ((All-head B call calls are, each.0), each_with B P calls (After call s) (All-tail B call calls are) each.1)
 
   -- along an invariant of the stations
   module _ (I : Station C → Type 0) (stays : (call : Call) (s : Station C) → I s → I (After call s)) where
-    pub each_by : (P Q : Call → Station C → Type 0) → ((call : Call) (s : Station C) → I s → P call s → Q call s) → (calls : List Call) (s : Station C) → I s → Each P calls s → Each Q calls s
+    pub each_by : (P Q : Call → Station C → Type 0) → ((call : Call) (s : Station C) → I s → P call s → Q call s)
+        → (calls : List Call) (s : Station C) → I s → Each P calls s → Each Q calls s
     each_by P Q f [] s i each = tt
     each_by P Q f (call ∷ calls) s i each = (f call s i each.0, each_by P Q f calls (After call s) (stays call s i) each.1)
 
@@ -37,7 +52,8 @@ module _ {Call C : Type 0} (program : Program Call C) (m : AppSpec) (served : �
   -- ---- exactness, from what one call does
 
   module _ {K : Type 0} (Here : K → Station C → Type 0) (P : Call → Station C → Type 0) (Did : Call → K → K → List ℕ → Type 0)
-      (one : (call : Call) (s : Station C) (a b : K) (handed : List ℕ) → Here a s → Did call a b handed → Here b (After call s) × (handed ≡ program_frame program m served w own call s) × P call s) where
+      (one : (call : Call) (s : Station C) (a b : K) (handed : List ℕ) → Here a s → Did call a b handed → Here b (After call s)
+      × (handed ≡ program_frame program m served w own call s) × P call s) where
     pub record Exact (all : List (AnsweredBy Call)) (s : Station C) (c : K) : Type 0 where
       pub frames : map (λ it. it.handed) all ≡ program_frames program m served w own (program_calls all) s
       pub each : Each P (program_calls all) s
@@ -78,7 +94,8 @@ module _ {Call C : Type 0} (program : Program Call C) (m : AppSpec) (served : �
   node_then [] steps n = refl
   node_then (e ∷ es) steps n = node_then es steps _
 
-  nodes_are : (calls : List Call) (s : Station C) → node_over m served (program_steps calls s) s.node ≡ (after_program_calls program m served w own calls s).node
+  nodes_are : (calls : List Call) (s : Station C) → node_over m served (program_steps calls s) s.node
+      ≡ (after_program_calls program m served w own calls s).node
   nodes_are [] s = refl
   nodes_are (call ∷ calls) s =
       node_then (events_of_call call s) (program_steps calls (After call s)) (Before call s).node
@@ -86,9 +103,11 @@ module _ {Call C : Type 0} (program : Program Call C) (m : AppSpec) (served : �
 
   -- the trace of a call, and of the steps after it
   call_turns : (call : Call) (steps : List LineStep) (s : Station C)
-      → turns_by call s ++ trace_over m served steps (After call s).node ≡ trace_over m served (map HappensAt (events_of_call call s) ++ steps) (Before call s).node
+      → turns_by call s ++ trace_over m served steps (After call s).node ≡ trace_over m served (map HappensAt (events_of_call call s)
+      ++ steps) (Before call s).node
   call_turns call steps s =
-      ap (λ (n : AbstractNode). turns_by call s ++ trace_over m served steps n) (node_of_call call s) ∙ sym (turns_then m served (events_of_call call s) steps (Before call s).node)
+      ap (λ (n : AbstractNode). turns_by call s ++ trace_over m served steps n) (node_of_call call s)
+      ∙ sym (turns_then m served (events_of_call call s) steps (Before call s).node)
 
   record InTurns (all : List (AnsweredBy Call)) (s : Station C) : Type 0 where
     moves : List (FrameTrace C)
@@ -103,7 +122,8 @@ module _ {Call C : Type 0} (program : Program Call C) (m : AppSpec) (served : �
   others_same : (x y : List ℕ) (xs ys : List (List ℕ)) → x ∷ xs ≡ y ∷ ys → xs ≡ ys
   others_same x y xs ys e = cc
 
-  in_turns : (all : List (AnsweredBy Call)) (s : Station C) → map (λ it. it.handed) all ≡ program_frames program m served w own (program_calls all) s → InTurns all s
+  in_turns : (all : List (AnsweredBy Call)) (s : Station C) → map (λ it. it.handed) all ≡ program_frames program m served w own
+      (program_calls all) s → InTurns all s
   in_turns [] s wrote = record { moves = []; answered = refl; at = refl; each = All-nil (HandsOutFrame w served own); turns = refl }
   in_turns (it ∷ all) s wrote =
       let next : Station C = After it.call s in
@@ -117,7 +137,8 @@ module _ {Call C : Type 0} (program : Program Call C) (m : AppSpec) (served : �
         answered = ap (λ (l : List AnsweredFrame). one ∷ l) rest.answered;
         at = ap (λ (l : List (Station C)). Before it.call s ∷ l) rest.at;
         each = All-cons (HandsOutFrame w served own) traced rest.moves
-            (call_hands_out m served w own (program.makes it.call) (Before it.call s) it.handed (first_same it.handed sent (map (λ x. x.handed) all) others wrote)) rest.each;
+            (call_hands_out m served w own (program.makes it.call) (Before it.call s) it.handed
+            (first_same it.handed sent (map (λ x. x.handed) all) others wrote)) rest.each;
         turns = ap (λ (l : List TraceEntry). turns_by it.call s ++ l) rest.turns ∙ call_turns it.call (program_steps (program_calls all) next) s;
       }
 
@@ -136,11 +157,13 @@ module _ {Call C : Type 0} (program : Program Call C) (m : AppSpec) (served : �
     on_line : (call : Call) (s : Station C) → IsOfLine call s → Reached own s.node → OnLine call s
     on_line call s is r =
         let before : Reached own (Before call s).node = change_reached own (program.change call s) s.node (is.1 s.node.numbers r.ported.good.fit.numbers) r in
-        let of : All (IsEventOfLine own) (events_of_call call s) = call_of_line own is_own w decodes served (Before call s).node before (program.makes call) is.0 in
+        let of : All (IsEventOfLine own) (events_of_call call s) = call_of_line own is_own w decodes served (Before call s).node before
+        (program.makes call) is.0 in
         record {
           before = before;
           of = of;
-          reached = subst (λ (n : AbstractNode). Reached own n) (sym (node_of_call call s)) (run_reached m steady served own (events_of_call call s) (Before call s).node of before);
+          reached = subst (λ (n : AbstractNode). Reached own n) (sym (node_of_call call s))
+              (run_reached m steady served own (events_of_call call s) (Before call s).node of before);
         }
 
     steps_are : (calls : List Call) (s : Station C) → Each IsOfLine calls s → Reached own s.node → All (IsStep own) (program_steps calls s)
@@ -151,9 +174,11 @@ module _ {Call C : Type 0} (program : Program Call C) (m : AppSpec) (served : �
         (All-append (IsStep own) (map HappensAt (events_of_call call s)) (program_steps calls (After call s)) (all_happen own (events_of_call call s) here.of)
         (steps_are calls (After call s) each.1 here.reached))
 
-  pub program_conforms : DecodesBytes w.link → (model : ℕ → OutputModel) → IsSteady m → SendsBytes m → HasOutputModel m model → (numbers : List ℕ) → All IsU32 numbers → IsAddr own
+  pub program_conforms : DecodesBytes w.link → (model : ℕ → OutputModel) → IsSteady m → SendsBytes m → HasOutputModel m model
+      → (numbers : List ℕ) → All IsU32 numbers → IsAddr own
       → (all : List (AnsweredBy Call)) → Each IsOfLine (program_calls all) (initial_station own numbers)
-      → map (λ it. it.handed) all ≡ program_frames program m served w own (program_calls all) (initial_station own numbers) → ProgramConforms program m served w own model numbers all
+      → map (λ it. it.handed) all ≡ program_frames program m served w own (program_calls all) (initial_station own numbers)
+      → ProgramConforms program m served w own model numbers all
   program_conforms decodes model steady bytes speaks numbers words is all each wrote =
       let s : Station C = initial_station own numbers in
       let calls : List Call = program_calls all in
@@ -171,7 +196,8 @@ module _ {Call C : Type 0} (program : Program Call C) (m : AppSpec) (served : �
           wire = subst (λ (l : List TraceEntry). TraceConforms model served (map (entry_on_wire (lens w.rules.key own)) l)) (sym t.turns)
               (wire_conforms model served (lens w.rules.key own) (lens_is_shift.shift w.rules.key own) _ kept.0);
           read = subst (λ (l : List TraceEntry). All (IsDecoded own) l) (sym t.turns) kept.1;
-          arrives = λ pages lawful. subst (λ (l : List TraceEntry). ArrivesIn m pages l) (sym t.turns) (arrives_over_steps m pages lawful served own numbers words steps are);
+          arrives = λ pages lawful. subst (λ (l : List TraceEntry). ArrivesIn m pages l) (sym t.turns)
+              (arrives_over_steps m pages lawful served own numbers words steps are);
         };
         newest = subst (λ (l : List TraceEntry). NewestInEachSlot model (after_program_calls program m served w own calls s).node l) (sym t.turns)
             (subst (λ (n : AbstractNode). NewestInEachSlot model n (trace_over m served steps s.node)) (nodes_are calls s)
@@ -180,7 +206,8 @@ module _ {Call C : Type 0} (program : Program Call C) (m : AppSpec) (served : �
 
 -- ---- over Ethernet
 
-pub program_goes_home : {Call : Type 0} (program : Program Call Act) (m : AppSpec) (served : ℕ → Bool) (k : Interface) (rules : Rules) (own : Addr) → length k.host.mac ≡ 6 → (calls : List Call) (s : Station Act) → AllSound s.acts
+pub program_goes_home : {Call : Type 0} (program : Program Call Act) (m : AppSpec) (served : ℕ → Bool) (k : Interface) (rules : Rules)
+    (own : Addr) → length k.host.mac ≡ 6 → (calls : List Call) (s : Station Act) → AllSound s.acts
     → GoHome program m served k rules own calls s
 program_goes_home program m served k rules own six [] s sound = tt
 program_goes_home program m served k rules own six (call ∷ calls) s sound =
@@ -215,7 +242,8 @@ module _ (k : Interface) (rules : Rules) (served : ℕ → Bool) (n : AbstractNo
   payload_few : (kind : ℕ) (payload : List ℕ) → FewOf (payload_brings k.host kind payload)
   payload_few kind payload =
       choose (λ (l : List (MediumInput Act)). FewOf l) (is_datagram kind && nat_lt 0 (length payload)) _ _ (λ e. verdict_few _ _)
-      (λ e. choose (λ (l : List (MediumInput Act)). FewOf l) (is_arp kind && is_arp_for k.host.addr payload) _ _ (λ f. arp_few (word_at payload 6) (sender_of payload)) (λ f. inl refl))
+      (λ e. choose (λ (l : List (MediumInput Act)). FewOf l) (is_arp kind && is_arp_for k.host.addr payload) _ _
+      (λ f. arp_few (word_at payload 6) (sender_of payload)) (λ f. inl refl))
 
   frame_few : (frame : List ℕ) → FewOf (frame_brings k.host frame)
   frame_few frame =

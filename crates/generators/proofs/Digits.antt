@@ -1,5 +1,8 @@
 -- The digits of a number, from its last one on.
-use Rattle.generators.proofs.Prelude.{◌≡◌, ◌+◌, ◌++◌, ◌<◌, ◌≤◌, ◌/◌, ◌%◌, ◌∙◌, ◌∷◌, [], ℕ, List, ap, append_assoc, arith, cases_lt, decimal, decimal_digit, decimal_step, decimal_nonempty, drop, drop-set, from_bool, inl, inr, le-leb, length, length-append, length-decimal-le, lit<, lt-leb, nat_le, one_digit, set, sym, take, take-set, take-take, three_digits, two_digits}
+use Rattle.generators.proofs.Prelude.{◌≡◌, ◌+◌, ◌++◌, ◌<◌, ◌≤◌, ◌/◌, ◌%◌, ◌∙◌, ◌∷◌, [], ℕ, List, ap, append_assoc, arith, cases_lt, decimal}
+use Rattle.generators.proofs.Prelude.{decimal_digit, decimal_step, decimal_nonempty, drop, drop-set, from_bool, inl, inr, le-leb, length}
+use Rattle.generators.proofs.Prelude.{length-append, length-decimal-le, lit<, lt-leb, nat_le, one_digit, set, sym, take, take-set}
+use Rattle.generators.proofs.Prelude.{take-take, three_digits, two_digits}
 
 one_more : (n : ℕ) → 10 ≤ n → n < 4294967296 → length (decimal n) ≡ length (decimal (n / 10)) + 1
 one_more n low high = ap length (decimal_step n low (omega (arith, high))) ∙ length-append (decimal (n / 10)) ((48 + n % 10) ∷ [])

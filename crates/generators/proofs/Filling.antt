@@ -1,5 +1,6 @@
 -- A buffer that holds its slice of a whole text.
-use Rattle.generators.proofs.Prelude.{◌≡◌, ℕ, ◌+◌, ◌<◌, ◌≤◌, List, [], length, take, drop, get_or, refl, sym, ap, ◌∙◌, arith, length-drop, get_or-drop, get_or-take, length-take, same_number_lists, HoldsPart, Place}
+use Rattle.generators.proofs.Prelude.{◌≡◌, ℕ, ◌+◌, ◌<◌, ◌≤◌, List, [], length, take, drop, get_or, refl, sym, ap, ◌∙◌, arith, length-drop}
+use Rattle.generators.proofs.Prelude.{get_or-drop, get_or-take, length-take, same_number_lists, HoldsPart, Place}
 
 -- a buffer holds what is written of a text of which nothing is written
 pub none_held : (at : ℕ) (out : List ℕ) → HoldsPart [] (record { at = at; so_far = 0 }) out

@@ -1,5 +1,8 @@
 -- A piece of a text, written at its offset of the buffer.
-use Rattle.generators.proofs.Prelude.{◌≡◌, ℕ, ◌+◌, ◌-◌, ◌<◌, ◌≤◌, List, [], ◌∷◌, ◌++◌, append_assoc, replicate, flat_map, subst, length, take, drop, min, get_or, refl, sym, ap, ◌∙◌, arith, inl, inr, slice_range, length-append, length-drop, get_or_append_left, get_or-append_right, get_or-take, get_or-drop, length-take, take_all, flat_map_more, take_more, drop-replicate, length-replicate, cases_lt, HoldsPart, Place}
+use Rattle.generators.proofs.Prelude.{◌≡◌, ℕ, ◌+◌, ◌-◌, ◌<◌, ◌≤◌, List, [], ◌∷◌, ◌++◌, append_assoc, replicate, flat_map, subst, length}
+use Rattle.generators.proofs.Prelude.{take, drop, min, get_or, refl, sym, ap, ◌∙◌, arith, inl, inr, slice_range, length-append, length-drop}
+use Rattle.generators.proofs.Prelude.{get_or_append_left, get_or-append_right, get_or-take, get_or-drop, length-take, take_all}
+use Rattle.generators.proofs.Prelude.{flat_map_more, take_more, drop-replicate, length-replicate, cases_lt, HoldsPart, Place}
 
 -- a place before the piece is as it was
 before_piece : (out q : List ℕ) (to k : ℕ) → k < to → to ≤ length out → get_or (take to out ++ q ++ drop (to + length q) out) k 0 ≡ get_or out k 0
@@ -23,7 +26,13 @@ in_piece out q to i h room =
 -- how long the buffer is after the writing
 after_length : (out q : List ℕ) (to : ℕ) → to + length q ≤ length out → length (take to out ++ q ++ drop (to + length q) out) ≡ length out
 after_length out q to room =
-    omega (arith, length-append (take to out ++ q) (drop (to + length q) out), length-append (take to out) q, length-take to out, length-drop (to + length q) out)
+    omega (
+      arith,
+      length-append (take to out ++ q) (drop (to + length q) out),
+      length-append (take to out) q,
+      length-take to out,
+      length-drop (to + length q) out,
+    )
 
 -- the piece's byte as the text's
 text_byte : (text piece : List ℕ) (at from i : ℕ) → length text ≤ at → at - length text ≡ from + i → get_or (text ++ piece) at 0 ≡ get_or piece (from + i) 0
@@ -45,7 +54,8 @@ late_byte : (text piece out : List ℕ) (place : Place) (from to count k : ℕ) 
     (to + (k - to) ≡ k) × (k - to < count) × (place.at + k - length text ≡ from + (k - to))
 late_byte text piece out place from to count k f t n within there late = (omega arith, omega arith, omega arith)
 
-early_place : (text out : List ℕ) (place : Place) (to k : ℕ) → to ≡ min (length text - place.at) (length out) → k < length out → place.at + k < length text → k < to
+early_place : (text out : List ℕ) (place : Place) (to k : ℕ) → to ≡ min (length text - place.at) (length out) → k < length out
+    → place.at + k < length text → k < to
 early_place text out place to k t within early = omega arith
 
 fits : (text piece out : List ℕ) (place : Place) (from to count : ℕ) →
@@ -89,7 +99,8 @@ holds_joined text a b c place out h e =
     subst P (append_assoc text a b ∙ ap (λ xs. text ++ xs) e) h
 
 -- one item more
-pub flat_map_next : {X : Type 0} (f : X → List ℕ) (xs : List X) (i : ℕ) (x : X) → i < length xs → x ≡ get_or xs i x → flat_map f (take i xs) ++ f x ≡ flat_map f (take (i + 1) xs)
+pub flat_map_next : {X : Type 0} (f : X → List ℕ) (xs : List X) (i : ℕ) (x : X) → i < length xs → x ≡ get_or xs i x → flat_map f (take i xs)
+    ++ f x ≡ flat_map f (take (i + 1) xs)
 flat_map_next {X} f xs i x h e =
     ap (λ (y : X). flat_map f (take i xs) ++ f y) e
     ∙ (flat_map_more f [] (take i xs) (get_or xs i x) ∙ ap (λ (ys : List X). flat_map f ys) (sym (take_more xs i x h)))

@@ -1,5 +1,6 @@
 -- What is outstanding on the wire is outstanding at the node, and its retransmission is one on the wire.
-use Rattle.std.proofs.Common.{◌≡◌, ℕ, zero, suc, ◌+◌, ◌-◌, ◌<◌, ◌≤◌, ◌==◌, Bool, true, false, List, [], ◌∷◌, ◌++◌, length, map, take, All, Option, Some, None, option_map, if◌then◌else◌, refl, sym, ap, ◌∙◌, subst, arith}
+use Rattle.std.proofs.Common.{◌≡◌, ℕ, zero, suc, ◌+◌, ◌-◌, ◌<◌, ◌≤◌, ◌==◌, Bool, true, false, List, [], ◌∷◌, ◌++◌, length, map, take, All}
+use Rattle.std.proofs.Common.{Option, Some, None, option_map, if◌then◌else◌, refl, sym, ap, ◌∙◌, subst, arith}
 use Rattle.std.specs.Prelude.{slice_get}
 use Rattle.std.specs.Option.{option_map_or}
 use Rattle.std.proofs.lemmas.List.Elements.{All-cons, All-head, All-nil, All-tail}
@@ -81,11 +82,13 @@ all_unreset_back f (suc n) (x ∷ xs) w =
 both_shifted : (ack seq len f : ℕ) → ack ≡ wrap (seq + len) → wrap (ack + f) ≡ wrap (wrap (seq + f) + len)
 both_shifted ack seq len f e = omega (arith, e)
 
-outstanding_back : (f : ℕ) (xs wire : List Exchange) (s : PlainSegment) → wire ≡ map (on_wire f) xs → (o : IsOutstanding wire s) → SentBy f (sent_at xs o.place) s
+outstanding_back : (f : ℕ) (xs wire : List Exchange) (s : PlainSegment) → wire ≡ map (on_wire f) xs → (o : IsOutstanding wire s)
+    → SentBy f (sent_at xs o.place) s
 outstanding_back f xs wire s same o =
     sent_by f (sent_at xs o.place) s (sym (sent_on f xs o.place) ∙ sym (ap (λ (l : List Exchange). sent_at l o.place) same) ∙ o.output)
 
-is_outstanding : (f : ℕ) (xs wire : List Exchange) (s : PlainSegment) (same : wire ≡ map (on_wire f) xs) (o : IsOutstanding wire s) (b : SentBy f (sent_at xs o.place) s) → IsOutstanding xs b.segment
+is_outstanding : (f : ℕ) (xs wire : List Exchange) (s : PlainSegment) (same : wire ≡ map (on_wire f) xs) (o : IsOutstanding wire s)
+    (b : SentBy f (sent_at xs o.place) s) → IsOutstanding xs b.segment
 is_outstanding f xs wire s same o b = record {
   place = o.place;
   output = b.is;
@@ -106,11 +109,13 @@ none_back f (Some s) e = cc
 abbrev Silent : Sockets → TraceEntry → Type 0
 Silent p t = received_from p t.event ≡ None
 
-silent_back : (shift : Sockets → ℕ) → IsShift shift → (p : Sockets) (trace : List TraceEntry) → All (Silent p) (map (entry_on_wire shift) trace) → All (Silent p) trace
+silent_back : (shift : Sockets → ℕ) → IsShift shift → (p : Sockets) (trace : List TraceEntry)
+    → All (Silent p) (map (entry_on_wire shift) trace) → All (Silent p) trace
 silent_back shift is p [] w = All-nil (Silent p)
 silent_back shift is p (t ∷ trace) w =
     All-cons (Silent p) t trace
-    (none_back (shift p) (received_from p t.event) (sym (received_is shift is p t.event) ∙ All-head (Silent p) (entry_on_wire shift t) (map (entry_on_wire shift) trace) w))
+    (none_back (shift p) (received_from p t.event) (sym (received_is shift is p t.event) ∙ All-head (Silent p) (entry_on_wire shift t)
+    (map (entry_on_wire shift) trace) w))
     (silent_back shift is p trace (All-tail (Silent p) (entry_on_wire shift t) (map (entry_on_wire shift) trace) w))
 
 called_on : (shift : Sockets → ℕ) (e : Event) → called_by (event_on_wire shift e) ≡ called_by e
@@ -125,19 +130,23 @@ called_on shift (Periodic slot) = refl
 calls_on : (shift : Sockets → ℕ) (slot : ℕ) (trace : List TraceEntry) → calls_of slot (map (entry_on_wire shift) trace) ≡ calls_of slot trace
 calls_on shift slot [] = refl
 calls_on shift slot (t ∷ trace) =
-    ap (λ (o : Option ℕ). if option_map_or (λ place. place == slot) o false then calls_of slot (map (entry_on_wire shift) trace) + 1 else calls_of slot (map (entry_on_wire shift) trace)) (called_on shift t.event)
+    ap (λ (o : Option ℕ). if option_map_or (λ place. place == slot) o false then calls_of slot (map (entry_on_wire shift) trace) + 1 else
+    calls_of slot (map (entry_on_wire shift) trace)) (called_on shift t.event)
     ∙ ap (λ (n : ℕ). if option_map_or (λ place. place == slot) (called_by t.event) false then n + 1 else n) (calls_on shift slot trace)
 
 -- ---- the retransmission
 
-entry_at : (shift : Sockets → ℕ) (trace : List TraceEntry) (k : ℕ) (t : TraceEntry) → slice_get trace k ≡ Some t → slice_get (map (entry_on_wire shift) trace) k ≡ Some (entry_on_wire shift t)
+entry_at : (shift : Sockets → ℕ) (trace : List TraceEntry) (k : ℕ) (t : TraceEntry) → slice_get trace k ≡ Some t
+    → slice_get (map (entry_on_wire shift) trace) k ≡ Some (entry_on_wire shift t)
 entry_at shift [] k t e = cc
 entry_at shift (x ∷ trace) zero t e = ap (option_map (entry_on_wire shift)) e
 entry_at shift (x ∷ trace) (suc k) t e = entry_at shift trace k t e
 
-retried_on : (shift : Sockets → ℕ) (p : Sockets) (s : PlainSegment) (t : TraceEntry) → IsRetried p s t → IsRetried p (sent_shifted (shift p) s) (entry_on_wire shift t)
+retried_on : (shift : Sockets → ℕ) (p : Sockets) (s : PlainSegment) (t : TraceEntry) → IsRetried p s t
+    → IsRetried p (sent_shifted (shift p) s) (entry_on_wire shift t)
 retried_on shift p s t h = elim h [
-  | sent_again id u is seq alike ↦ sent_again id (sent_shifted (shift p) u) (ap (option_map (reply_on_wire shift)) is) (ap (λ (n : ℕ). wrap (n + shift p)) seq) (record { flags = alike.flags; text = alike.text })
+  | sent_again id u is seq alike ↦ sent_again id (sent_shifted (shift p) u) (ap (option_map (reply_on_wire shift)) is)
+      (ap (λ (n : ℕ). wrap (n + shift p)) seq) (record { flags = alike.flags; text = alike.text })
   | given_up id u is rst ↦ given_up id (sent_shifted (shift p) u) (ap (option_map (reply_on_wire shift)) is) rst
 ]
 

@@ -1,5 +1,6 @@
 -- What the node receives consists of bytes, if what came does.
-use Rattle.std.proofs.Common.{ℕ, ◌+◌, ◌-◌, ◌/◌, ◌%◌, ◌<◌, Bool, true, false, All, List, [], ◌∷◌, ◌++◌, take, drop, Option, Some, None, if◌then◌else◌, arith}
+use Rattle.std.proofs.Common.{ℕ, ◌+◌, ◌-◌, ◌/◌, ◌%◌, ◌<◌, Bool, true, false, All, List, [], ◌∷◌, ◌++◌, take, drop, Option, Some, None}
+use Rattle.std.proofs.Common.{if◌then◌else◌, arith}
 use Rattle.std.specs.Prelude.{length}
 use Rattle.std.proofs.lemmas.List.Elements.{All-append, All-cons, All-drop, All-nil, All-take}
 use Rattle.uip_wire.specs.Prelude.{long_at, long_bytes, word_at, word_bytes, wrap, written}
@@ -13,7 +14,8 @@ word_low : (n : ℕ) → n < 65536 → All IsByte (word_bytes n)
 word_low n h = All-cons IsByte (n / 256) (n % 256 ∷ []) (omega (arith, h)) (All-cons IsByte (n % 256) [] (omega arith) (All-nil IsByte))
 
 long_low : (n : ℕ) → n < 4294967296 → All IsByte (long_bytes n)
-long_low n h = All-append IsByte (word_bytes (n / 65536)) (word_bytes (n % 65536)) (word_low (n / 65536) (omega (arith, h))) (word_low (n % 65536) (omega arith))
+long_low n h = All-append IsByte (word_bytes (n / 65536)) (word_bytes (n % 65536)) (word_low (n / 65536) (omega (arith, h)))
+    (word_low (n % 65536) (omega arith))
 
 written_low : (bytes : List ℕ) (at : ℕ) (part : List ℕ) → All IsByte bytes → All IsByte part → All IsByte (written bytes at part)
 written_low bytes at part h p =

@@ -1,5 +1,6 @@
 -- The lens changes nothing of a datagram that is sent except the sequence number.
-use Rattle.std.proofs.Common.{◌≡◌, ℕ, ◌+◌, ◌*◌, ◌/◌, ◌%◌, ◌<◌, ◌≤◌, Bool, true, false, ◌&&◌, ◌==◌, nat_le, List, [], ◌∷◌, ◌++◌, length, take, drop, refl, sym, ap, ◌∙◌, arith, rules, Option, Some, None, if◌then◌else◌}
+use Rattle.std.proofs.Common.{◌≡◌, ℕ, ◌+◌, ◌*◌, ◌/◌, ◌%◌, ◌<◌, ◌≤◌, Bool, true, false, ◌&&◌, ◌==◌, nat_le, List, [], ◌∷◌, ◌++◌, length}
+use Rattle.std.proofs.Common.{take, drop, refl, sym, ap, ◌∙◌, arith, rules, Option, Some, None, if◌then◌else◌}
 use Rattle.std.specs.Prelude.{slice_index, slice_range}
 use Rattle.std.proofs.lemmas.Bool.{and_from}
 use Rattle.uip_wire.specs.Prelude.{address_at, bytes_of, checksum_of, long_at, word_bytes, wrap}
@@ -35,7 +36,8 @@ record HeadRead (head rest source target : List ℕ) : Type 0 where
   source_at : address_at (head ++ rest) 12 ≡ source
   target_at : address_at (head ++ rest) 16 ≡ target
 
-head_read : (total id : ℕ) (source target rest : List ℕ) → length source ≡ 4 → length target ≡ 4 → HeadRead (head_bytes total id Tcp source target) rest source target
+head_read : (total id : ℕ) (source target rest : List ℕ) → length source ≡ 4 → length target ≡ 4
+    → HeadRead (head_bytes total id Tcp source target) rest source target
 unfolding head_bytes
 head_read total id (a ∷ b ∷ c ∷ d ∷ []) (e ∷ f ∷ g ∷ h ∷ []) rest s t = record { nine = refl; source_at = refl; target_at = refl }
 head_read total id _ _ rest s t = absurd (omega arith)
@@ -47,8 +49,10 @@ record SegmentRead (head : List ℕ) (from to seq : ℕ) (segment : List ℕ) : 
   to_at : two_at (head ++ segment) 22 ≡ word_bytes to
   seq_at : long_at (head ++ segment) 24 ≡ seq
 
-segment_read : (head : List ℕ) (from to seq ack offset window sum : ℕ) (rest : List ℕ) → length head ≡ 20 → SegmentRead head from to seq (words from to seq ack offset window sum rest)
-segment_read (h0 ∷ h1 ∷ h2 ∷ h3 ∷ h4 ∷ h5 ∷ h6 ∷ h7 ∷ h8 ∷ h9 ∷ h10 ∷ h11 ∷ h12 ∷ h13 ∷ h14 ∷ h15 ∷ h16 ∷ h17 ∷ h18 ∷ h19 ∷ []) from to seq ack offset window sum rest long =
+segment_read : (head : List ℕ) (from to seq ack offset window sum : ℕ) (rest : List ℕ) → length head ≡ 20
+    → SegmentRead head from to seq (words from to seq ack offset window sum rest)
+segment_read (h0 ∷ h1 ∷ h2 ∷ h3 ∷ h4 ∷ h5 ∷ h6 ∷ h7 ∷ h8 ∷ h9 ∷ h10 ∷ h11 ∷ h12 ∷ h13 ∷ h14 ∷ h15 ∷ h16 ∷ h17 ∷ h18 ∷ h19 ∷ []) from to seq
+    ack offset window sum rest long =
     record { long = omega arith; from_at = refl; to_at = refl; seq_at = same_long seq }
 segment_read _ from to seq ack offset window sum rest long = absurd (omega arith)
 
@@ -69,9 +73,11 @@ datagram_read d sound =
     let rest : List ℕ = bytes_of (option_words d.segment.mss) ++ d.segment.text in
     let h : HeadRead head (segment_bytes d) d.source d.target = head_read total d.id d.source d.target (segment_bytes d) sound.source sound.target in
     let s : SegmentRead head d.from d.to d.segment.seq (segment_bytes d) =
-    segment_read head d.from d.to d.segment.seq d.segment.ack offset d.segment.window (segment_sum d) rest (length-head_bytes total d.id Tcp d.source d.target sound.source sound.target) in
+    segment_read head d.from d.to d.segment.seq d.segment.ack offset d.segment.window (segment_sum d) rest
+    (length-head_bytes total d.id Tcp d.source d.target sound.source sound.target) in
     record {
-      tcp = and_from (nat_le 40 (length (head ++ segment_bytes d))) (slice_index (head ++ segment_bytes d) 9 == 6) (le_true 40 (length (head ++ segment_bytes d)) s.long) (eq_true (slice_index (head ++ segment_bytes d) 9) 6 h.nine);
+      tcp = and_from (nat_le 40 (length (head ++ segment_bytes d))) (slice_index (head ++ segment_bytes d) 9 == 6)
+          (le_true 40 (length (head ++ segment_bytes d)) s.long) (eq_true (slice_index (head ++ segment_bytes d) 9) 6 h.nine);
       source_at = h.source_at;
       target_at = h.target_at;
       from_at = s.from_at;
@@ -79,18 +85,21 @@ datagram_read d sound =
       seq_at = s.seq_at;
     }
 
-same_shift : (key : Key) (a c d e b f g i : List ℕ) → a ≡ b → c ≡ f → d ≡ g → e ≡ i → wrap (sip_hash key (a ++ c ++ d ++ e)) ≡ wrap (sip_hash key (b ++ f ++ g ++ i))
+same_shift : (key : Key) (a c d e b f g i : List ℕ) → a ≡ b → c ≡ f → d ≡ g → e ≡ i → wrap (sip_hash key (a ++ c ++ d ++ e))
+    ≡ wrap (sip_hash key (b ++ f ++ g ++ i))
 same_shift key a c d e b f g i p q r s =
     ap (λ (l : List ℕ). wrap (sip_hash key (l ++ c ++ d ++ e))) p ∙ ap (λ (l : List ℕ). wrap (sip_hash key (b ++ l ++ d ++ e))) q
     ∙ ap (λ (l : List ℕ). wrap (sip_hash key (b ++ f ++ l ++ e))) r ∙ ap (λ (l : List ℕ). wrap (sip_hash key (b ++ f ++ g ++ l))) s
 
 segment_shifted : (key : Key) (own : Addr) (p : Sockets) (id : ℕ) (s : PlainSegment) → IsSoundDatagram (datagram_to own p id s) → s.seq < 4294967296
-    → outward key (datagram_bytes (datagram_to own p id s)) ≡ datagram_bytes (datagram_to own p id (record s { seq = wrap (s.seq + shift_for (Some key) own p) }))
+    → outward key (datagram_bytes (datagram_to own p id s)) ≡ datagram_bytes
+    (datagram_to own p id (record s { seq = wrap (s.seq + shift_for (Some key) own p) }))
 segment_shifted key own p id s sound low =
     let d : Datagram = datagram_to own p id s in
     let r : DatagramRead d = datagram_read d sound in
     let shift : leaving_shift key (datagram_bytes d) ≡ pair_shift key own p.peer p.peer_port p.own_port =
-    same_shift key (address_at (datagram_bytes d) 16) (address_at (datagram_bytes d) 12) (two_at (datagram_bytes d) 22) (two_at (datagram_bytes d) 20) (address_at p.peer.0 0) (address_at own.0 0) (word_bytes p.peer_port.0) (word_bytes p.own_port.0)
+    same_shift key (address_at (datagram_bytes d) 16) (address_at (datagram_bytes d) 12) (two_at (datagram_bytes d) 22)
+    (two_at (datagram_bytes d) 20) (address_at p.peer.0 0) (address_at own.0 0) (word_bytes p.peer_port.0) (word_bytes p.own_port.0)
     (ap (λ (l : List ℕ). address_at l 0) r.target_at) (ap (λ (l : List ℕ). address_at l 0) r.source_at) r.to_at r.from_at in
     ap (λ (n : ℕ). with_number (datagram_bytes d) 24 (wrap (n + leaving_shift key (datagram_bytes d)))) r.seq_at
     ∙ ap (λ (n : ℕ). with_number (datagram_bytes d) 24 (wrap (s.seq + n))) shift
@@ -121,7 +130,8 @@ pub leaving_is : LeavingIsShifted
 unfolding leaving
 leaving_is None own reply h = refl
 leaving_is (Some key) own (TcpReply p id again s) h =
-    chosen (is_tcp (datagram_bytes (datagram_to own p id s))) (outward key (datagram_bytes (datagram_to own p id s))) (datagram_bytes (datagram_to own p id s)) (datagram_read (datagram_to own p id s) h.0).tcp
+    chosen (is_tcp (datagram_bytes (datagram_to own p id s))) (outward key (datagram_bytes (datagram_to own p id s)))
+    (datagram_bytes (datagram_to own p id s)) (datagram_read (datagram_to own p id s) h.0).tcp
     ∙ segment_shifted key own p id s h.0 h.1
 leaving_is (Some key) own (Echo request) h =
     other (is_tcp (echo_reply request)) (outward key (echo_reply request)) (echo_reply request)

@@ -1,5 +1,6 @@
 -- The events for a datagram, one by one, and a run over events in two parts.
-use Rattle.std.proofs.Common.{◌≡◌, ℕ, ◌<◌, Bool, true, false, All, List, [], ◌∷◌, ◌++◌, length, Option, Some, None, Result, Ok, Err, position, if◌then◌else◌, refl}
+use Rattle.std.proofs.Common.{◌≡◌, ℕ, ◌<◌, Bool, true, false, All, List, [], ◌∷◌, ◌++◌, length, Option, Some, None, Result, Ok, Err}
+use Rattle.std.proofs.Common.{position, if◌then◌else◌, refl}
 use Rattle.std.proofs.lemmas.List.Elements.{All-cons, All-nil}
 use Rattle.uip_wire.specs.declared.addr.Addr.{Addr}
 use Rattle.app_events.specs.Prelude.{AppSpec, is_live}
@@ -16,7 +17,8 @@ use Rattle.uip_node.specs.Prelude.{AbstractNode, Event, connection_in, event_of,
 use Rattle.segment_guard.specs.Verdict.{is_foreign, passes}
 use Rattle.slot_guard.specs.Displaced.{displaced_by}
 use Rattle.guarded_node.specs.Guarded.{by_verdict, gives_up, guarded}
-use Rattle.guarded_node.specs.Verdicts.{claim_of, displacing, expected_by, finds_no_slot, held_by, verdict, verdict_at, verdict_by_head, verdict_by_proto, verdict_of, verdict_on}
+use Rattle.guarded_node.specs.Verdicts.{claim_of, displacing, expected_by, finds_no_slot, held_by, verdict, verdict_at, verdict_by_head}
+use Rattle.guarded_node.specs.Verdicts.{verdict_by_proto, verdict_of, verdict_on}
 use Rattle.guarded_node.specs.Wire.{arriving}
 use Rattle.guarded_node.specs.declared.guard.Rules.{Rules}
 use Rattle.guarded_node.specs.declared.verdict.Verdict.{Verdict}
@@ -34,7 +36,8 @@ either_live : (n : AbstractNode) (b : Bool) (x y : Verdict) → GivesUpLive n x 
 either_live n true x y h k = h
 either_live n false x y h k = k
 
-claimed : (rules : Rules) (n : AbstractNode) (peer : Addr) (s : Segment) (o : Option ℕ) → displaced_by held_by (claim_of rules n.addr peer s) n.connections ≡ o → GivesUpLive n (displacing o)
+claimed : (rules : Rules) (n : AbstractNode) (peer : Addr) (s : Segment) (o : Option ℕ)
+    → displaced_by held_by (claim_of rules n.addr peer s) n.connections ≡ o → GivesUpLive n (displacing o)
 claimed rules n peer s None e = tt
 claimed rules n peer s (Some slot) e =
     let f = displaced_is_live n.connections (claim_of rules n.addr peer s) slot e in
@@ -51,17 +54,21 @@ unfolding verdict
 of_live rules served n head (Err fate) = tt
 of_live rules served n head (Ok s) = at_live rules served n head.source s (position (serves (sockets_of head.source s)) n.connections)
 
-proto_live : (rules : Rules) (served : ℕ → Bool) (n : AbstractNode) (bytes : List ℕ) (head : IpHead) (proto : Proto) → GivesUpLive n (verdict_by_proto rules served n bytes head proto)
+proto_live : (rules : Rules) (served : ℕ → Bool) (n : AbstractNode) (bytes : List ℕ) (head : IpHead) (proto : Proto)
+    → GivesUpLive n (verdict_by_proto rules served n bytes head proto)
 proto_live rules served n bytes head Icmp = tt
 proto_live rules served n bytes head Tcp = of_live rules served n head (segment_or_fate head bytes)
 
-head_live : (rules : Rules) (served : ℕ → Bool) (n : AbstractNode) (bytes : List ℕ) (r : Result IpHead IpFate) → GivesUpLive n (verdict_by_head rules served n bytes r)
+head_live : (rules : Rules) (served : ℕ → Bool) (n : AbstractNode) (bytes : List ℕ) (r : Result IpHead IpFate)
+    → GivesUpLive n (verdict_by_head rules served n bytes r)
 head_live rules served n bytes (Err fate) = tt
 head_live rules served n bytes (Ok head) =
-    either_live n (is_foreign head.source n.addr) Drop (verdict_by_proto rules served n bytes head head.proto) tt (proto_live rules served n bytes head head.proto)
+    either_live n (is_foreign head.source n.addr) Drop (verdict_by_proto rules served n bytes head head.proto) tt
+    (proto_live rules served n bytes head head.proto)
 
 by_cases : (P : Event → Type 0) (n : AbstractNode) (event : Event) (v : Verdict) → GivesUpLive n v → P event
-    → ((slot : ℕ) → slot < length n.connections → is_live (connection_in slot n).state ≡ true → P (gives_up (connection_in slot n))) → All P (by_verdict n event v)
+    → ((slot : ℕ) → slot < length n.connections → is_live (connection_in slot n).state ≡ true → P (gives_up (connection_in slot n)))
+    → All P (by_verdict n event v)
 by_cases P n event Drop live of reset = All-nil P
 by_cases P n event Pass live of reset = All-cons P event [] of (All-nil P)
 by_cases P n event (Displace slot) live of reset =

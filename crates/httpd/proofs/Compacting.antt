@@ -1,5 +1,9 @@
 -- The states of compact pages, after each call.
-use Rattle.httpd.proofs.Prelude.{◌≡◌, ◌≤◌, ℕ, Bool, true, false, List, [], ◌∷◌, ◌++◌, Option, length, take, refl, sym, ap, subst, arith, AppState, CanSupply, IsRepresented, File, FileId, SiteContent, files_of, ScriptFunctions, Line, wanted, NotYet, Refused, method_open, target_open, CompactPages, Received, Stage, Thread, Head, CompactRepresent, ReceivesWord, pages_kept, word_stage, ReceivesTo, IsFileAsked, PagesRepresent, SendsNothing, Fits, IsFound, left_from, reply_by, left_text}
+use Rattle.httpd.proofs.Prelude.{◌≡◌, ◌≤◌, ℕ, Bool, true, false, List, [], ◌∷◌, ◌++◌, Option, length, take, refl, sym, ap, subst, arith}
+use Rattle.httpd.proofs.Prelude.{AppState, CanSupply, IsRepresented, File, FileId, SiteContent, files_of, ScriptFunctions, Line, wanted}
+use Rattle.httpd.proofs.Prelude.{NotYet, Refused, method_open, target_open, CompactPages, Received, Stage, Thread, Head, CompactRepresent}
+use Rattle.httpd.proofs.Prelude.{ReceivesWord, pages_kept, word_stage, ReceivesTo, IsFileAsked, PagesRepresent, SendsNothing, Fits, IsFound}
+use Rattle.httpd.proofs.Prelude.{left_from, reply_by, left_text}
 use Rattle.httpd.specs.declared.compact.CompactPages.TheVariants as compact
 use Rattle.httpd.specs.declared.stage.Stage.TheVariants as stage
 use Rattle.httpd.proofs.Representing.{can_supply, means, reply_fits, reply_found, some_part}
@@ -37,27 +41,34 @@ pub enters_refused : {F R : Type 0} (g : ScriptFunctions F) (text : R → List �
     → SendsNothing p → wanted (p.input ++ piece) ≡ Refused → CompactRepresent g text (compact.Refused 0) site (with_more p piece)
 enters_refused g text site p piece quiet is = record { polls = refl; represented = (is, still_nothing p piece quiet) }
 
-pub enters_reply : {F R : Type 0} (g : ScriptFunctions F) (text : R → List ℕ) (site : SiteContent) (p : AppState) (piece : List ℕ) (found : Option FileId) (none : R)
-    → SendsNothing p → IsFileAsked (files_of site) (wanted (p.input ++ piece)) found → CompactRepresent g text (compact.Replying 0 found (Head 0) none) site (with_more p piece)
+pub enters_reply : {F R : Type 0} (g : ScriptFunctions F) (text : R → List ℕ) (site : SiteContent) (p : AppState) (piece : List ℕ)
+    (found : Option FileId) (none : R)
+    → SendsNothing p → IsFileAsked (files_of site) (wanted (p.input ++ piece)) found
+    → CompactRepresent g text (compact.Replying 0 found (Head 0) none) site (with_more p piece)
 enters_reply g text site p piece found none quiet is = record {
   polls = refl;
-  represented = decided_represents g (λ made. made) (pages_kept text (compact.Replying 0 found (Head 0) none)) site (with_more p piece) (stage.Reply found) refl (still_nothing p piece quiet) is;
+  represented = decided_represents g (λ made. made) (pages_kept text (compact.Replying 0 found (Head 0) none)) site (with_more p piece)
+      (stage.Reply found) refl (still_nothing p piece quiet) is;
 }
 
 -- ---- while a reply is sent
 
-module _ {F R : Type 0} (g : ScriptFunctions F) (text : R → List ℕ) (site : SiteContent) (a : CompactPages R) (polls : ℕ) (found : Option FileId) (thread : Thread) (capture : R) (e : a ≡ compact.Replying polls found thread capture) where
+module _ {F R : Type 0} (g : ScriptFunctions F) (text : R → List ℕ) (site : SiteContent) (a : CompactPages R) (polls : ℕ)
+    (found : Option FileId) (thread : Thread) (capture : R) (e : a ≡ compact.Replying polls found thread capture) where
   pub sent_found : IsRepresented (CompactRepresent g text) a site → IsFound (files_of site) found
   sent_found has =
-      reply_found g (λ made. made) (pages_kept text (compact.Replying polls found thread capture)) site found refl (subst (λ v. IsRepresented (CompactRepresent g text) v site) e has)
+      reply_found g (λ made. made) (pages_kept text (compact.Replying polls found thread capture)) site found refl
+      (subst (λ v. IsRepresented (CompactRepresent g text) v site) e has)
 
   pub sent_fits : IsRepresented (CompactRepresent g text) a site → Fits (reply_by g text site found capture) thread
   sent_fits has =
-      reply_fits g (λ made. made) (pages_kept text (compact.Replying polls found thread capture)) site found refl (subst (λ v. IsRepresented (CompactRepresent g text) v site) e has)
+      reply_fits g (λ made. made) (pages_kept text (compact.Replying polls found thread capture)) site found refl
+      (subst (λ v. IsRepresented (CompactRepresent g text) v site) e has)
 
   pub sent_some : (n : ℕ) → CanSupply (means g) (CompactRepresent g text) a site n → IsRepresented (CompactRepresent g text) a site
   sent_some n can = some_part g (λ made. made) (pages_kept text a) site n can
 
   pub sent_enough : (n : ℕ) → CanSupply (means g) (CompactRepresent g text) a site n → n ≤ length (left_text (reply_by g text site found capture) thread)
   sent_enough n can =
-      can_supply g (λ made. made) (pages_kept text (compact.Replying polls found thread capture)) site n (stage.Reply found) refl (subst (λ v. CanSupply (means g) (CompactRepresent g text) v site n) e can)
+      can_supply g (λ made. made) (pages_kept text (compact.Replying polls found thread capture)) site n (stage.Reply found) refl
+      (subst (λ v. CanSupply (means g) (CompactRepresent g text) v site n) e can)

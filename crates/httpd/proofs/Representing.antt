@@ -1,6 +1,11 @@
 -- The text that a value of the web server can send, for each state that it represents.
 -- [add: piece] What a value of the web server can send in the piece.
-use Rattle.httpd.proofs.Prelude.{◌≡◌, ℕ, ◌+◌, ◌≤◌, Bool, true, false, List, [], ◌++◌, Option, None, Some, length, drop, refl, sym, ap, subst, ◌∙◌, arith, true≢false, append-nil, length-drop, ∥∥₁_elim, ∥∥₁_map, drop-drop, le_prop, Snapshot, AppState, text_left, IsRepresented, CanSupply, File, FileId, SiteContent, files_of, ScriptFunctions, reply_pieces_by, text_by, web_spec_by, Pages, Stage, Thread, Head, Kind, Body, Inside, Making, End, FileReply, body, is_scripted, left_from, reply_by, Fits, IsBodyPlace, IsFound, IsInner, KeepsOn, IsPast, PagesRepresent, IsLeft, IsReplying, IsRepresentedIn, left_in, left_of_value}
+use Rattle.httpd.proofs.Prelude.{◌≡◌, ℕ, ◌+◌, ◌≤◌, Bool, true, false, List, [], ◌++◌, Option, None, Some, length, drop, refl, sym, ap}
+use Rattle.httpd.proofs.Prelude.{subst, ◌∙◌, arith, true≢false, append-nil, length-drop, ∥∥₁_elim, ∥∥₁_map, drop-drop, le_prop, Snapshot}
+use Rattle.httpd.proofs.Prelude.{AppState, text_left, IsRepresented, CanSupply, File, FileId, SiteContent, files_of, ScriptFunctions}
+use Rattle.httpd.proofs.Prelude.{reply_pieces_by, text_by, web_spec_by, Pages, Stage, Thread, Head, Kind, Body, Inside, Making, End}
+use Rattle.httpd.proofs.Prelude.{FileReply, body, is_scripted, left_from, reply_by, Fits, IsBodyPlace, IsFound, IsInner, KeepsOn, IsPast}
+use Rattle.httpd.proofs.Prelude.{PagesRepresent, IsLeft, IsReplying, IsRepresentedIn, left_in, left_of_value}
 use Rattle.httpd.specs.declared.stage.Stage.TheVariants as stage
 
 abbrev pub means : {F : Type 0} → ScriptFunctions F → SiteContent → Rattle.app_events.specs.AppSpec.AppSpec
@@ -44,32 +49,39 @@ found_reported files (Some id) h = ∥∥₁_elim h le_prop (λ is. is)
 
 -- ---- while a reply is sent
 
-pub replying : {F R : Type 0} (g : ScriptFunctions F) (text : R → List ℕ) (a : Pages R) (site : SiteContent) (p : AppState) (found : Option FileId) → a.stage ≡ stage.Reply found → PagesRepresent g text a site p → (name : List ℕ) × IsReplying g text a site name found p
+pub replying : {F R : Type 0} (g : ScriptFunctions F) (text : R → List ℕ) (a : Pages R) (site : SiteContent) (p : AppState)
+    (found : Option FileId) → a.stage ≡ stage.Reply found → PagesRepresent g text a site p → (name : List ℕ) × IsReplying g text a site name found p
 replying g text a site p found e s = subst (λ st. IsRepresentedIn g text a site p st) e s.represented
 
-pub reply_fits : {F R : Type 0} (g : ScriptFunctions F) (text : R → List ℕ) (a : Pages R) (site : SiteContent) (found : Option FileId) → a.stage ≡ stage.Reply found → IsRepresented (PagesRepresent g text) a site → Fits (reply_by g text site found a.capture) a.thread
+pub reply_fits : {F R : Type 0} (g : ScriptFunctions F) (text : R → List ℕ) (a : Pages R) (site : SiteContent) (found : Option FileId)
+    → a.stage ≡ stage.Reply found → IsRepresented (PagesRepresent g text) a site → Fits (reply_by g text site found a.capture) a.thread
 reply_fits g text a site found e has =
     fits_reported (reply_by g text site found a.capture) a.thread (∥∥₁_map has (λ c. (replying g text a site c.0 found e c.1).1.fits))
 
-pub reply_found : {F R : Type 0} (g : ScriptFunctions F) (text : R → List ℕ) (a : Pages R) (site : SiteContent) (found : Option FileId) → a.stage ≡ stage.Reply found → IsRepresented (PagesRepresent g text) a site → IsFound (files_of site) found
+pub reply_found : {F R : Type 0} (g : ScriptFunctions F) (text : R → List ℕ) (a : Pages R) (site : SiteContent) (found : Option FileId)
+    → a.stage ≡ stage.Reply found → IsRepresented (PagesRepresent g text) a site → IsFound (files_of site) found
 reply_found g text a site found e has = found_reported (files_of site) found (∥∥₁_map has (λ c. (replying g text a site c.0 found e c.1).1.there))
 
-pub some_part : {F R : Type 0} (g : ScriptFunctions F) (text : R → List ℕ) (a : Pages R) (site : SiteContent) (n : ℕ) → CanSupply (means g) (PagesRepresent g text) a site n → IsRepresented (PagesRepresent g text) a site
+pub some_part : {F R : Type 0} (g : ScriptFunctions F) (text : R → List ℕ) (a : Pages R) (site : SiteContent) (n : ℕ)
+    → CanSupply (means g) (PagesRepresent g text) a site n → IsRepresented (PagesRepresent g text) a site
 some_part g text a site n can = ∥∥₁_map can (λ c. (c.0, c.1))
 
 -- this much can be sent
-pub can_supply : {F R : Type 0} (g : ScriptFunctions F) (text : R → List ℕ) (a : Pages R) (site : SiteContent) (n : ℕ) (s : Stage) → a.stage ≡ s → CanSupply (means g) (PagesRepresent g text) a site n → n ≤ length (left_in g text a site s)
+pub can_supply : {F R : Type 0} (g : ScriptFunctions F) (text : R → List ℕ) (a : Pages R) (site : SiteContent) (n : ℕ) (s : Stage)
+    → a.stage ≡ s → CanSupply (means g) (PagesRepresent g text) a site n → n ≤ length (left_in g text a site s)
 can_supply g text a site n s e can =
     ∥∥₁_elim can le_prop (λ c. subst (λ t. n ≤ length t) (left_of_value g text a site c.0 c.1 ∙ ap (left_in g text a site) e) c.2)
 
 -- if no reply is being sent, nothing is left
-pub quiet : {F R : Type 0} (g : ScriptFunctions F) (text : R → List ℕ) (a : Pages R) (site : SiteContent) (s : Stage) → ((found : Option FileId) → s ≡ stage.Reply found → ⊥) → left_in g text a site s ≡ []
+pub quiet : {F R : Type 0} (g : ScriptFunctions F) (text : R → List ℕ) (a : Pages R) (site : SiteContent) (s : Stage)
+    → ((found : Option FileId) → s ≡ stage.Reply found → ⊥) → left_in g text a site s ≡ []
 quiet g text a site stage.Method never = refl
 quiet g text a site stage.Target never = refl
 quiet g text a site stage.Refused never = refl
 quiet g text a site (stage.Reply found) never = absurd (never found refl)
 
-pub quiet_zero : {F R : Type 0} (g : ScriptFunctions F) (text : R → List ℕ) (a : Pages R) (site : SiteContent) (n : ℕ) → ((found : Option FileId) → a.stage ≡ stage.Reply found → ⊥) → CanSupply (means g) (PagesRepresent g text) a site n → n ≡ 0
+pub quiet_zero : {F R : Type 0} (g : ScriptFunctions F) (text : R → List ℕ) (a : Pages R) (site : SiteContent) (n : ℕ)
+    → ((found : Option FileId) → a.stage ≡ stage.Reply found → ⊥) → CanSupply (means g) (PagesRepresent g text) a site n → n ≡ 0
 quiet_zero g text a site n never can =
     let most : n ≤ length (left_in g text a site a.stage) = can_supply g text a site n a.stage refl can in
     let none : length (left_in g text a site a.stage) ≡ 0 = ap length (quiet g text a site a.stage never) in
@@ -77,18 +89,30 @@ quiet_zero g text a site n never can =
 
 -- ---- acknowledging
 
-acked_left : {F : Type 0} (r : FileReply F) (t u : Thread) (name : List ℕ) (p : AppState) (n : ℕ) → IsLeft r t name p → IsPast r.functions r.files n (left_from r t) (left_from r u) → n ≤ length (text_by r.functions r.files (left_from r t) [])
+acked_left : {F : Type 0} (r : FileReply F) (t u : Thread) (name : List ℕ) (p : AppState) (n : ℕ) → IsLeft r t name p
+    → IsPast r.functions r.files n (left_from r t) (left_from r u) → n ≤ length (text_by r.functions r.files (left_from r t) [])
     → IsLeft r u name (record p { acked = p.acked + n; polls = 0 })
 acked_left r t u name p n is history enough = record {
-  text = λ later. history.text later ∙ ap (λ xs. drop n xs) (is.text later) ∙ drop-drop n p.acked (text_by r.functions r.files (reply_pieces_by r.functions.function_table.named r.files name) (p.snapshots ++ later));
+  text = λ later. history.text later ∙ ap (λ xs. drop n xs) (is.text later)
+      ∙ drop-drop n p.acked (text_by r.functions r.files (reply_pieces_by r.functions.function_table.named r.files name) (p.snapshots ++ later));
   whole = λ later. history.whole later ∙ is.whole later;
   calls = ap (λ k. length p.snapshots + k) history.calls ∙ is.calls;
   within =
-      let here = ap length (is.text [] ∙ ap (λ ks. drop p.acked (text_by r.functions r.files (reply_pieces_by r.functions.function_table.named r.files name) ks)) (append-nil p.snapshots)) in
-      omega (arith, here, enough, is.within, length-drop p.acked (text_by r.functions r.files (reply_pieces_by r.functions.function_table.named r.files name) p.snapshots));
+      let here = ap length (is.text [] ∙ ap (λ ks. drop p.acked
+      (text_by r.functions r.files (reply_pieces_by r.functions.function_table.named r.files name) ks)) (append-nil p.snapshots)) in
+      omega (
+        arith,
+        here,
+        enough,
+        is.within,
+        length-drop p.acked
+            (text_by r.functions r.files (reply_pieces_by r.functions.function_table.named r.files name) p.snapshots),
+      );
 }
 
-pub reply_acked : {F R : Type 0} (g : ScriptFunctions F) (text : R → List ℕ) (a : Pages R) (site : SiteContent) (found : Option FileId) (p : AppState) (n : ℕ) (u : Thread) → a.stage ≡ stage.Reply found → Fits (reply_by g text site found a.capture) u → KeepsOn (reply_by g text site found a.capture) a.thread u
+pub reply_acked : {F R : Type 0} (g : ScriptFunctions F) (text : R → List ℕ) (a : Pages R) (site : SiteContent) (found : Option FileId)
+    (p : AppState) (n : ℕ) (u : Thread) → a.stage ≡ stage.Reply found → Fits (reply_by g text site found a.capture) u
+    → KeepsOn (reply_by g text site found a.capture) a.thread u
     → IsPast g (files_of site) n (left_from (reply_by g text site found a.capture) a.thread) (left_from (reply_by g text site found a.capture) u)
     → n ≤ length (text_by g (files_of site) (left_from (reply_by g text site found a.capture) a.thread) []) → PagesRepresent g text a site p
     → PagesRepresent g text (record a { thread = u; polls = 0 }) site (record p { acked = p.acked + n; polls = 0 })
@@ -110,13 +134,16 @@ reply_acked g text a site found p n u e fits kept history enough s =
     }
 
 -- if nothing is sent, nothing can be acknowledged
-nothing_acked : {F R : Type 0} (g : ScriptFunctions F) (text : R → List ℕ) (a : Pages R) (site : SiteContent) (p : AppState) (n : ℕ) (s : Stage) → ((found : Option FileId) → s ≡ stage.Reply found → ⊥) → n ≡ 0 → IsRepresentedIn g text a site p s
+nothing_acked : {F R : Type 0} (g : ScriptFunctions F) (text : R → List ℕ) (a : Pages R) (site : SiteContent) (p : AppState) (n : ℕ)
+    (s : Stage) → ((found : Option FileId) → s ≡ stage.Reply found → ⊥) → n ≡ 0 → IsRepresentedIn g text a site p s
     → IsRepresentedIn g text (record a { polls = 0 }) site (record p { acked = p.acked + n; polls = 0 }) s
 nothing_acked g text a site p n stage.Method never e (received, none) = (received, record { snapshots = none.snapshots; acked = omega (arith, none.acked, e) })
 nothing_acked g text a site p n stage.Target never e (received, none) = (received, record { snapshots = none.snapshots; acked = omega (arith, none.acked, e) })
 nothing_acked g text a site p n stage.Refused never e (refused, none) = (refused, record { snapshots = none.snapshots; acked = omega (arith, none.acked, e) })
 nothing_acked g text a site p n (stage.Reply found) never e represented = absurd (never found refl)
 
-pub quiet_acked : {F R : Type 0} (g : ScriptFunctions F) (text : R → List ℕ) (a : Pages R) (site : SiteContent) (p : AppState) (n : ℕ) → ((found : Option FileId) → a.stage ≡ stage.Reply found → ⊥) → CanSupply (means g) (PagesRepresent g text) a site n → PagesRepresent g text a site p
+pub quiet_acked : {F R : Type 0} (g : ScriptFunctions F) (text : R → List ℕ) (a : Pages R) (site : SiteContent) (p : AppState) (n : ℕ)
+    → ((found : Option FileId) → a.stage ≡ stage.Reply found → ⊥) → CanSupply (means g) (PagesRepresent g text) a site n → PagesRepresent g text a site p
     → PagesRepresent g text (record a { polls = 0 }) site (record p { acked = p.acked + n; polls = 0 })
-quiet_acked g text a site p n never can s = record { polls = refl; represented = nothing_acked g text a site p n a.stage never (quiet_zero g text a site n never can) s.represented }
+quiet_acked g text a site p n never can s =
+    record { polls = refl; represented = nothing_acked g text a site p n a.stage never (quiet_zero g text a site n never can) s.represented }

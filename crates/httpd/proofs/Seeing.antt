@@ -1,22 +1,29 @@
 -- The span of the first piece that is left.
 -- [add: piece] The first span of the piece.
-use Rattle.httpd.proofs.Prelude.{◌≡◌, ℕ, ◌+◌, ◌<◌, ◌≤◌, List, [], ◌∷◌, ◌++◌, length, take, drop, refl, sym, ap, ◌∙◌, arith, append_assoc, drop-append-le, drop-drop, length-take-le, take-append-drop, ScriptFunctions, ScriptPiece, Plain, text_by, reach_by, File, Span, Look, Thread, Head, Kind, Body, Inside, Making, End, FileReply, calls_in, left_from, Fits, moved, thread_place, KeepsDirective, KeepsAll, KeepsOn, Leads, IsInPiece, IsSpan, IsText, Sees, SeesBy, SeesText, SpanFits, span_text}
+use Rattle.httpd.proofs.Prelude.{◌≡◌, ℕ, ◌+◌, ◌<◌, ◌≤◌, List, [], ◌∷◌, ◌++◌, length, take, drop, refl, sym, ap, ◌∙◌, arith, append_assoc}
+use Rattle.httpd.proofs.Prelude.{drop-append-le, drop-drop, length-take-le, take-append-drop, ScriptFunctions, ScriptPiece, Plain, text_by}
+use Rattle.httpd.proofs.Prelude.{reach_by, File, Span, Look, Thread, Head, Kind, Body, Inside, Making, End, FileReply, calls_in, left_from}
+use Rattle.httpd.proofs.Prelude.{Fits, moved, thread_place, KeepsDirective, KeepsAll, KeepsOn, Leads, IsInPiece, IsSpan, IsText, Sees}
+use Rattle.httpd.proofs.Prelude.{SeesBy, SeesText, SpanFits, span_text}
 use Rattle.httpd.specs.declared.span.Span.TheVariants as span
 
 pub span_along : {R F : Type 0} (text : R → List ℕ) (s : Span R F) (xs ys : List ℕ) → xs ≡ ys → IsSpan text s xs → IsSpan text s ys
 span_along text s xs ys e is = record { plain = is.plain; text = is.text ∙ e; fits = is.fits }
 
-sees_by : {R F : Type 0} (text : R → List ℕ) (r : FileReply F) (pieces : List (ScriptPiece F)) (look : Look R F) (s : Span R F) → IsText s → SeesText text r pieces look → SeesBy text r pieces look s
+sees_by : {R F : Type 0} (text : R → List ℕ) (r : FileReply F) (pieces : List (ScriptPiece F)) (look : Look R F) (s : Span R F) → IsText s
+    → SeesText text r pieces look → SeesBy text r pieces look s
 sees_by text r pieces look (span.Bytes world send) t sees = sees
 sees_by text r pieces look (span.Line kind at) t sees = sees
 sees_by text r pieces look (span.Made capture at end) t sees = sees
 sees_by text r pieces look (span.Call function argument) t sees = absurd t
 sees_by text r pieces look span.End t sees = absurd t
 
-pub sees_text : {R F : Type 0} (text : R → List ℕ) (r : FileReply F) (pieces : List (ScriptPiece F)) (look : Look R F) → IsText look.span → SpanFits text look.span → SeesText text r pieces look → Sees text r pieces look
+pub sees_text : {R F : Type 0} (text : R → List ℕ) (r : FileReply F) (pieces : List (ScriptPiece F)) (look : Look R F) → IsText look.span
+    → SpanFits text look.span → SeesText text r pieces look → Sees text r pieces look
 sees_text text r pieces look t fits sees = record { sees = sees_by text r pieces look look.span t sees; fits = fits }
 
-pub leads_first : {F : Type 0} (g : ScriptFunctions F) (files : List File) (prefix : List ℕ) (more : List (ScriptPiece F)) → Leads g files (Plain prefix ∷ more) prefix more
+pub leads_first : {F : Type 0} (g : ScriptFunctions F) (files : List File) (prefix : List ℕ) (more : List (ScriptPiece F))
+    → Leads g files (Plain prefix ∷ more) prefix more
 leads_first g files prefix more = record { text = λ later. refl; whole = λ later. refl; calls = refl }
 
 -- a thread n bytes further generates the rest of the first piece
@@ -25,7 +32,8 @@ pub record IsFurther {F : Type 0} (r : FileReply F) (prefix : List ℕ) (more : 
   pub small : thread_place here + n < 2147483648
   pub pieces : left_from r (moved here n) ≡ Plain (drop n prefix) ∷ more
 
-in_piece : {F : Type 0} (r : FileReply F) (prefix : List ℕ) (more : List (ScriptPiece F)) (here : Thread) (n : ℕ) → n ≤ length prefix → IsFurther r prefix more here n → IsInPiece r (Plain prefix ∷ more) here n
+in_piece : {F : Type 0} (r : FileReply F) (prefix : List ℕ) (more : List (ScriptPiece F)) (here : Thread) (n : ℕ) → n ≤ length prefix
+    → IsFurther r prefix more here n → IsInPiece r (Plain prefix ∷ more) here n
 in_piece r prefix more here n h is = record {
   fits = is.fits;
   small = is.small;
@@ -36,7 +44,8 @@ in_piece r prefix more here n h is = record {
   };
 }
 
-pub sees_first : {R F : Type 0} (text : R → List ℕ) (r : FileReply F) (prefix : List ℕ) (more : List (ScriptPiece F)) (look : Look R F) → IsSpan text look.span prefix → left_from r look.next ≡ more → Fits r look.next → KeepsAll r look.next
+pub sees_first : {R F : Type 0} (text : R → List ℕ) (r : FileReply F) (prefix : List ℕ) (more : List (ScriptPiece F)) (look : Look R F)
+    → IsSpan text look.span prefix → left_from r look.next ≡ more → Fits r look.next → KeepsAll r look.next
     → ((n : ℕ) → n < length prefix → IsFurther r prefix more look.here n) → Sees text r (Plain prefix ∷ more) look
 sees_first text r prefix more look is e next begins further =
     let size : length (span_text text look.span) ≡ length prefix = ap length is.text in
@@ -55,7 +64,8 @@ sees_first text r prefix more look is e next begins further =
     })
 
 -- a prefix of a piece that continues
-pub sees_prefix : {R F : Type 0} (text : R → List ℕ) (r : FileReply F) (prefix : List ℕ) (more : List (ScriptPiece F)) (s : Span R F) (here : Thread) (n : ℕ) → 0 < n → n < length prefix → IsSpan text s (take n prefix) → KeepsAll r (moved here n)
+pub sees_prefix : {R F : Type 0} (text : R → List ℕ) (r : FileReply F) (prefix : List ℕ) (more : List (ScriptPiece F)) (s : Span R F)
+    (here : Thread) (n : ℕ) → 0 < n → n < length prefix → IsSpan text s (take n prefix) → KeepsAll r (moved here n)
     → ((k : ℕ) → k ≤ n → IsFurther r prefix more here k) → Sees text r (Plain prefix ∷ more) (record { span = s; here = here; next = moved here n })
 sees_prefix text r prefix more s here n some within is begins further =
     let there = further n (omega arith) in
@@ -78,8 +88,10 @@ sees_prefix text r prefix more s here n some within is begins further =
     })
 
 -- a thread that generates a text from an offset on, whatever the offset
-pub rest_seen : {R F : Type 0} (text : R → List ℕ) (r : FileReply F) (T : ℕ → Thread) (world : List ℕ) (more : List (ScriptPiece F)) (at : ℕ) (s : Span R F) (next : Thread) → IsSpan text s (drop at world) → at ≤ length world → length world ≤ 16777216
-    → ((n : ℕ) → moved (T at) n ≡ T (at + n)) → thread_place (T at) ≡ at → ((a : ℕ) → left_from r (T a) ≡ Plain (drop a world) ∷ more) → ((a : ℕ) → a ≤ length world → Fits r (T a))
+pub rest_seen : {R F : Type 0} (text : R → List ℕ) (r : FileReply F) (T : ℕ → Thread) (world : List ℕ) (more : List (ScriptPiece F))
+    (at : ℕ) (s : Span R F) (next : Thread) → IsSpan text s (drop at world) → at ≤ length world → length world ≤ 16777216
+    → ((n : ℕ) → moved (T at) n ≡ T (at + n)) → thread_place (T at) ≡ at → ((a : ℕ) → left_from r (T a) ≡ Plain (drop a world) ∷ more)
+    → ((a : ℕ) → a ≤ length world → Fits r (T a))
     → left_from r next ≡ more → Fits r next → KeepsAll r next → Sees text r (Plain (drop at world) ∷ more) (record { span = s; here = T at; next = next })
 rest_seen text r T world more at s next is h short goes place pieces fits e next_fits begins =
     sees_first text r (drop at world) more (record { span = s; here = T at; next = next }) is e next_fits begins
@@ -92,14 +104,17 @@ rest_seen text r T world more at s next is h short goes place pieces fits e next
     })
 
 -- nothing is left
-pub end_seen : {R F : Type 0} (text : R → List ℕ) (r : FileReply F) (pieces : List (ScriptPiece F)) (look : Look R F) → pieces ≡ [] → look.span ≡ span.End → Sees text r pieces look
+pub end_seen : {R F : Type 0} (text : R → List ℕ) (r : FileReply F) (pieces : List (ScriptPiece F)) (look : Look R F) → pieces ≡ []
+    → look.span ≡ span.End → Sees text r pieces look
 end_seen text r pieces look none e = record {
   sees = Rattle.std.proofs.Common.subst (λ s. SeesBy text r pieces look s) (sym e) none;
   fits = Rattle.std.proofs.Common.subst (SpanFits text) (sym e) tt;
 }
 
 -- a piece without text
-pub nothing_seen : {R F : Type 0} (text : R → List ℕ) (r : FileReply F) (piece : ScriptPiece F) (more : List (ScriptPiece F)) (look : Look R F) → IsSpan text look.span [] → left_from r look.next ≡ more → Fits r look.next → KeepsAll r look.next → Leads r.functions r.files (piece ∷ more) [] more → Sees text r (piece ∷ more) look
+pub nothing_seen : {R F : Type 0} (text : R → List ℕ) (r : FileReply F) (piece : ScriptPiece F) (more : List (ScriptPiece F))
+    (look : Look R F) → IsSpan text look.span [] → left_from r look.next ≡ more → Fits r look.next → KeepsAll r look.next
+    → Leads r.functions r.files (piece ∷ more) [] more → Sees text r (piece ∷ more) look
 nothing_seen text r piece more look is e next begins leads =
     let size : length (span_text text look.span) ≡ 0 = ap length is.text in
     let fewer : length (left_from r look.next) ≡ length more = ap length e in

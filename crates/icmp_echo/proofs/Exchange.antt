@@ -1,5 +1,6 @@
 -- The two addresses of a header, exchanged.
-use Rattle.icmp_echo.proofs.Prelude.{◌≡◌, ℕ, ◌+◌, ◌<◌, ◌≤◌, List, ◌∷◌, ◌++◌, length, take, drop, get_or, slice_range, sym, ap, ◌∙◌, arith, length-append, length-take, drop_more, drop-drop, take_at, drop_at, address_at, written}
+use Rattle.icmp_echo.proofs.Prelude.{◌≡◌, ℕ, ◌+◌, ◌<◌, ◌≤◌, List, ◌∷◌, ◌++◌, length, take, drop, get_or, slice_range, sym, ap, ◌∙◌, arith}
+use Rattle.icmp_echo.proofs.Prelude.{length-append, length-take, drop_more, drop-drop, take_at, drop_at, address_at, written}
 
 next : (d : List ℕ) (at more : ℕ) → at < length d → at + 1 ≡ more → drop at d ≡ get_or d at 0 ∷ drop more d
 next d at more h e = drop_more d at 0 h ∙ ap (λ k. get_or d at 0 ∷ drop k d) e

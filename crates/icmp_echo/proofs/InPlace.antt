@@ -1,5 +1,7 @@
 -- A reply that is made in place.
-use Rattle.icmp_echo.proofs.Prelude.{◌≡◌, ℕ, ◌-◌, ◌≤◌, List, [], ◌++◌, length, take, drop, slice_range, refl, sym, ap, ◌∙◌, arith, append-nil, length-append, length-take, length-drop, take_rest, drop_all, drop-drop, drop-take, take-take, take_at, drop_at, echo_message, echo_reply}
+use Rattle.icmp_echo.proofs.Prelude.{◌≡◌, ℕ, ◌-◌, ◌≤◌, List, [], ◌++◌, length, take, drop, slice_range, refl, sym, ap, ◌∙◌, arith}
+use Rattle.icmp_echo.proofs.Prelude.{append-nil, length-append, length-take, length-drop, take_rest, drop_all, drop-drop, drop-take}
+use Rattle.icmp_echo.proofs.Prelude.{take-take, take_at, drop_at, echo_message, echo_reply}
 use borrow.Rule.Slice.PartMut.{put_mid}
 
 abbrev pub exchanged : List ℕ → List ℕ

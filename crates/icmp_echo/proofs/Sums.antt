@@ -1,5 +1,8 @@
 -- The checksum of a reply, by that of its request.
-use Rattle.icmp_echo.proofs.Prelude.{◌≡◌, ◌≢◌, ℕ, ◌+◌, ◌-◌, ◌*◌, ◌<◌, ◌≤◌, inl, inr, Bool, true, false, not, ◌||◌, if◌then◌else◌, Option, Some, None, List, [], ◌∷◌, length, drop, slice_index, refl, sym, ap, ◌∙◌, arith, ltb, eqb, common_steps, checksum_of, folded, word_sum, word_at, folded_cases, folded_most, IcmpFate, Short, Checksum, NotEcho, echo_fate}
+use Rattle.icmp_echo.proofs.Prelude.{◌≡◌, ◌≢◌, ℕ, ◌+◌, ◌-◌, ◌*◌, ◌<◌, ◌≤◌, inl, inr, Bool, true, false, not, ◌||◌, if◌then◌else◌, Option}
+use Rattle.icmp_echo.proofs.Prelude.{Some, None, List, [], ◌∷◌, length, drop, slice_index, refl, sym, ap, ◌∙◌, arith, ltb, eqb}
+use Rattle.icmp_echo.proofs.Prelude.{common_steps, checksum_of, folded, word_sum, word_at, folded_cases, folded_most, IcmpFate, Short}
+use Rattle.icmp_echo.proofs.Prelude.{Checksum, NotEcho, echo_fate}
 
 -- what holds of a message that fails no check
 pub record IsRequest (message : List ℕ) : Type 0 where
@@ -27,7 +30,8 @@ is_request a b e = (grind (arith, common_steps), grind (arith, common_steps))
 
 pub passed : (message : List ℕ) → echo_fate message ≡ None → IsRequest message
 passed message e =
-    let p = all_passed (ltb (length message) 8) (not (eqb (checksum_of message) 0)) (not (eqb (slice_index message 0) 8) || not (eqb (slice_index message 1) 0)) e in
+    let p = all_passed (ltb (length message) 8) (not (eqb (checksum_of message) 0))
+    (not (eqb (slice_index message 0) 8) || not (eqb (slice_index message 1) 0)) e in
     let t = is_request (slice_index message 0) (slice_index message 1) p.2 in
     record { long = not_short _ p.0; sum = is_zero _ p.1; type = t.0; code = t.1 }
 
@@ -54,6 +58,7 @@ sums (a ∷ b ∷ c ∷ d ∷ rest) is small other =
     let same : word_sum (a ∷ b ∷ c ∷ d ∷ rest) ≡ 2048 + (256 * c + d) + word_sum rest = omega (arith, is.type, is.code) in
     let ones : folded (word_sum (a ∷ b ∷ c ∷ d ∷ rest)) ≡ 65535 = omega (arith, is.sum, folded_most (word_sum (a ∷ b ∷ c ∷ d ∷ rest))) in
     let whole : folded (2048 + (256 * c + d) + word_sum rest) ≡ 65535 = ap folded (sym same) ∙ ones in
-    let by : (63487 < 256 * c + d → 256 * c + d - 63487 ≡ 65535 - folded (word_sum rest)) × (256 * c + d < 63487 → 256 * c + d + 2048 ≡ 65535 - folded (word_sum rest)) = by_sums (256 * c + d) (word_sum rest) small other whole in
+    let by : (63487 < 256 * c + d → 256 * c + d - 63487 ≡ 65535 - folded (word_sum rest))
+    × (256 * c + d < 63487 → 256 * c + d + 2048 ≡ 65535 - folded (word_sum rest)) = by_sums (256 * c + d) (word_sum rest) small other whole in
     let zeros : word_sum rest ≡ word_sum (0 ∷ 0 ∷ 0 ∷ 0 ∷ rest) = omega arith in
     ((λ above. by.0 above ∙ ap (λ (n : ℕ). 65535 - folded n) zeros), (λ below. by.1 below ∙ ap (λ (n : ℕ). 65535 - folded n) zeros))

@@ -1,5 +1,8 @@
 -- If a line conforms, so does each prefix of it.
-use Rattle.line_laws.proofs.Prelude.{All, ◌≡◌, ℕ, Bool, ◌∙◌, ap, List, [], ◌∷◌, ◌++◌, map, refl, sym, subst, append_assoc, All-cons, All-head, All-nil, All-tail, Addr, OutputModel, Sockets, MediumSpec, StationEvent, OfMedium, OfNode, reply_text, IsEchoed, TraceConforms, Exchange, TraceEntry, exchange, exchanges_onto, exchanges_with, PrefixConforms, events_among, text_in}
+use Rattle.line_laws.proofs.Prelude.{All, ◌≡◌, ℕ, Bool, ◌∙◌, ap, List, [], ◌∷◌, ◌++◌, map, refl, sym, subst, append_assoc, All-cons}
+use Rattle.line_laws.proofs.Prelude.{All-head, All-nil, All-tail, Addr, OutputModel, Sockets, MediumSpec, StationEvent, OfMedium, OfNode}
+use Rattle.line_laws.proofs.Prelude.{reply_text, IsEchoed, TraceConforms, Exchange, TraceEntry, exchange, exchanges_onto, exchanges_with}
+use Rattle.line_laws.proofs.Prelude.{PrefixConforms, events_among, text_in}
 
 -- ---- of turns
 
@@ -15,7 +18,8 @@ later p (t ∷ turns) before =
     let rest = later p turns (one ∷ before) in
     record { more = rest.more ++ one ∷ []; split = rest.split ∙ sym (append_assoc rest.more (one ∷ []) before) }
 
-session_on : (p : Sockets) (turns more : List TraceEntry) (before : List Exchange) → exchanges_onto p (turns ++ more) before ≡ exchanges_onto p more (exchanges_onto p turns before)
+session_on : (p : Sockets) (turns more : List TraceEntry) (before : List Exchange) → exchanges_onto p (turns ++ more) before
+    ≡ exchanges_onto p more (exchanges_onto p turns before)
 session_on p [] more before = refl
 session_on p (t ∷ turns) more before = session_on p turns more (exchange p t.event t.sent ∷ before)
 
@@ -29,17 +33,20 @@ module _ (model : ℕ → OutputModel) (served : ℕ → Bool) (turns more : Lis
       let rest = later p more (exchanges_with p turns) in
       record { more = rest.more; split = session_on p turns more [] ∙ rest.split }
 
-  within : (p : Sockets) (newer rest : List Exchange) → exchanges_with p turns ≡ newer ++ rest → exchanges_with p (turns ++ more) ≡ ((session_later p).more ++ newer) ++ rest
+  within : (p : Sockets) (newer rest : List Exchange) → exchanges_with p turns ≡ newer ++ rest → exchanges_with p (turns ++ more)
+      ≡ ((session_later p).more ++ newer) ++ rest
   within p newer rest e =
       (session_later p).split ∙ ap (λ l. (session_later p).more ++ l) e ∙ sym (append_assoc (session_later p).more newer rest)
 
   turns_prefix : TraceConforms model served (turns ++ more) → TraceConforms model served turns
   turns_prefix k = record {
-    incarnations = λ p incarnation is. k.incarnations p incarnation (record { later = (session_later p).more ++ is.later; before = is.before; split = within p is.later (incarnation ++ is.before) is.split; is = is.is });
+    incarnations = λ p incarnation is. k.incarnations p incarnation
+        (record { later = (session_later p).more ++ is.later; before = is.before; split = within p is.later (incarnation ++ is.before) is.split; is = is.is });
     asked = λ p newer x before e. k.asked p ((session_later p).more ++ newer) x before (within p newer (x ∷ before) e);
     ports = λ p newer x before e o. k.ports p ((session_later p).more ++ newer) x before (within p newer (x ∷ before) e) o;
     echoes = prefix_all IsEchoed turns more k.echoes;
-    retries = λ p s before waiting later split. k.retries p s before waiting (later ++ more) (ap (λ (l : List TraceEntry). l ++ more) split ∙ append_assoc before (waiting ++ later) more ∙ ap (λ (l : List TraceEntry). before ++ l) (append_assoc waiting later more));
+    retries = λ p s before waiting later split. k.retries p s before waiting (later ++ more) (ap (λ (l : List TraceEntry). l ++ more) split
+        ∙ append_assoc before (waiting ++ later) more ∙ ap (λ (l : List TraceEntry). before ++ l) (append_assoc waiting later more));
   }
 
 -- ---- of a line

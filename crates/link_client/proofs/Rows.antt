@@ -1,5 +1,6 @@
 -- Datagrams worked by hand: a client's SYN, and the server's answer to it, which it accepts and another client does not.
-use Rattle.link_client.proofs.Prelude.{◌≡◌, ℕ, List, [], ◌∷◌, Some, None, refl, head_bytes, head_or_fate, folded, segment_in, datagram_bytes, client_datagram, client_receives, idle, syn_of, Setup}
+use Rattle.link_client.proofs.Prelude.{◌≡◌, ℕ, List, [], ◌∷◌, Some, None, refl, head_bytes, head_or_fate, folded, segment_in}
+use Rattle.link_client.proofs.Prelude.{datagram_bytes, client_datagram, client_receives, idle, syn_of, Setup}
 
 abbrev setup : Setup
 setup = record {

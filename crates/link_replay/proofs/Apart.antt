@@ -1,7 +1,20 @@
 -- Giving up and closing never meet at a connection of the web server.
 -- [add: function] Function: a text that may be empty.
 -- [add: state] State: whether the node can give up in it.
-use Rattle.link_replay.proofs.Prelude.{◌≡◌, ℕ, zero, suc, ◌+◌, ◌-◌, ◌<◌, Bool, true, false, not, ◌&&◌, List, [], ◌∷◌, ◌++◌, length, length-append, replicate, set, refl, sym, ap, ◌∙◌, subst, arith, eqb, eq-eqb, ltb, Some, slice_get, decimal, flat_map, length-replicate, and-false, PlainSegment, has_fin, has_rst, Beat, Function, FileStats, TcpConnections, NetStats, Ticks, Unknown, AppState, After, Snapshot, AppSpec, Now, Row, State, Closed, SynRcvd, Established, CloseWait, FinWait1, FinWait2, Closing, TimeWait, LastAck, counter_line, in_ten_places, row_parts, row_text, File, Connection, Sockets, closed, is_live, rows_from, Outcome, after_own_fin, asked, asked_for, closes, does_as_wanted, idles, peer_has_closed, prepared, accepted, by_state, fin_acked, fin_waits, stays_established, has_text, delivers_text, in_established, is_acked, is_out_of_order, on_segment, peer_closes, rests, with_part, by_beat, on_tick, outstanding, Step, Event, AbstractNode, snapshot, hits_of, is_page_whole, made_text, page, page_for, page_text, reach_end, whole_for, ScriptPiece, reply_pieces, Plain, Made, Wanted, wanted, NotYet, Refused, Name, is_acknowledged, left_of, waits_for_capture, web_spec, web_want, MOST_POLLS, and_true, choose, eqb-eq, ltb-zero, not-true, by_own_fin, on_tick_by, every, AbortAndCloseApart, ClosesInTime, is_at_end}
+use Rattle.link_replay.proofs.Prelude.{◌≡◌, ℕ, zero, suc, ◌+◌, ◌-◌, ◌<◌, Bool, true, false, not, ◌&&◌, List, [], ◌∷◌, ◌++◌, length}
+use Rattle.link_replay.proofs.Prelude.{length-append, replicate, set, refl, sym, ap, ◌∙◌, subst, arith, eqb, eq-eqb, ltb, Some, slice_get}
+use Rattle.link_replay.proofs.Prelude.{decimal, flat_map, length-replicate, and-false, PlainSegment, has_fin, has_rst, Beat, Function}
+use Rattle.link_replay.proofs.Prelude.{FileStats, TcpConnections, NetStats, Ticks, Unknown, AppState, After, Snapshot, AppSpec, Now, Row}
+use Rattle.link_replay.proofs.Prelude.{State, Closed, SynRcvd, Established, CloseWait, FinWait1, FinWait2, Closing, TimeWait, LastAck}
+use Rattle.link_replay.proofs.Prelude.{counter_line, in_ten_places, row_parts, row_text, File, Connection, Sockets, closed, is_live}
+use Rattle.link_replay.proofs.Prelude.{rows_from, Outcome, after_own_fin, asked, asked_for, closes, does_as_wanted, idles, peer_has_closed}
+use Rattle.link_replay.proofs.Prelude.{prepared, accepted, by_state, fin_acked, fin_waits, stays_established, has_text, delivers_text}
+use Rattle.link_replay.proofs.Prelude.{in_established, is_acked, is_out_of_order, on_segment, peer_closes, rests, with_part, by_beat}
+use Rattle.link_replay.proofs.Prelude.{on_tick, outstanding, Step, Event, AbstractNode, snapshot, hits_of, is_page_whole, made_text, page}
+use Rattle.link_replay.proofs.Prelude.{page_for, page_text, reach_end, whole_for, ScriptPiece, reply_pieces, Plain, Made, Wanted, wanted}
+use Rattle.link_replay.proofs.Prelude.{NotYet, Refused, Name, is_acknowledged, left_of, waits_for_capture, web_spec, web_want, MOST_POLLS}
+use Rattle.link_replay.proofs.Prelude.{and_true, choose, eqb-eq, ltb-zero, not-true, by_own_fin, on_tick_by, every, AbortAndCloseApart}
+use Rattle.link_replay.proofs.Prelude.{ClosesInTime, is_at_end}
 
 -- ---- the text of a capture is never empty
 
@@ -30,8 +43,10 @@ not_silent x xs e = absurd (let z : length (x ∷ xs) ≡ 0 = ltb-zero (length (
 -- ---- a capture makes a page longer
 
 module _ (files : List File) where
-  behind : (f : Function) (argument : List ℕ) (more : List (ScriptPiece Function)) (first : Snapshot) (later : List Snapshot) (new : Snapshot) → length (page_text files more later) < length (page_text files more (later ++ new ∷ []))
-      → length (made_text files f argument first ++ page_text files more later) < length (made_text files f argument first ++ page_text files more (later ++ new ∷ []))
+  behind : (f : Function) (argument : List ℕ) (more : List (ScriptPiece Function)) (first : Snapshot) (later : List Snapshot)
+      (new : Snapshot) → length (page_text files more later) < length (page_text files more (later ++ new ∷ []))
+      → length (made_text files f argument first ++ page_text files more later) < length (made_text files f argument first ++ page_text
+      files more (later ++ new ∷ []))
   behind f argument more first later new l =
       let output : List ℕ = made_text files f argument first in
       omega (arith, l, length-append output (page_text files more later), length-append output (page_text files more (later ++ new ∷ [])))
@@ -40,7 +55,12 @@ module _ (files : List File) where
       → length (page_text files pieces captures) < length (page_text files pieces (captures ++ new ∷ []))
   grows [] captures new g h = absurd (cc)
   grows (Plain text ∷ more) captures new g h =
-      omega (arith, grows more captures new g h, length-append text (page_text files more captures), length-append text (page_text files more (captures ++ new ∷ [])))
+      omega (
+        arith,
+        grows more captures new g h,
+        length-append text (page_text files more captures),
+        length-append text (page_text files more (captures ++ new ∷ [])),
+      )
   grows (Made FileStats argument ∷ more) [] new g h =
       omega (arith, ten_places (hits_of files new.numbers argument), length-append (made_text files FileStats argument new) (page_text files more []))
   grows (Made TcpConnections argument ∷ more) [] new g h =
@@ -88,7 +108,8 @@ module _ (files : List File) where
       let q : AppState = record p { snapshots = p.snapshots ++ new ∷ [] } in
       let here : p.acked ≡ length (page files p.input p.snapshots) = eqb-eq p.acked (length (page files p.input p.snapshots)) both.0 in
       let more = longer p new (wanted p.input) refl g both.1 in
-      let none : is_acknowledged files q ≡ false = below q.acked (length (page files q.input q.snapshots)) (omega (arith, here, more)) (is_acknowledged files q) refl in
+      let none : is_acknowledged files q ≡ false = below q.acked (length (page files q.input q.snapshots)) (omega (arith, here, more))
+      (is_acknowledged files q) refl in
       ap (λ b. is_page_whole files q.input q.snapshots && b) none ∙ and-false (is_page_whole files q.input q.snapshots)
 
   prepared_apart : (numbers : List ℕ) (p : AppState) (now : Now) → IsSeen now → Apart p → Apart (m.prepare numbers p now)
@@ -97,20 +118,27 @@ module _ (files : List File) where
       (λ e q. captured_apart p (record { numbers = numbers; now = now }) g e) (λ e. h)
 
   never_open : (st : State) → after_own_fin st ≡ Established → ⊥
-  never_open st e = by_own_fin (λ x. x ≡ Established → ⊥) (λ q. (let z : FinWait1 ≡ Established = q in cc)) (λ q. (let z : LastAck ≡ Established = q in cc)) st e
+  never_open st e = by_own_fin (λ x. x ≡ Established → ⊥) (λ q. (let z : FinWait1 ≡ Established = q in cc))
+      (λ q. (let z : LastAck ≡ Established = q in cc)) st e
 
   closes_apart : (c : Connection) → Apart c.part → ClosesInTime files (closes c)
   closes_apart c h = record { idle = λ s l. absurd (let z : Closed ≡ Established = s in cc); apart = h }
 
-  wanted_apart : (fresh : Bool) (c : Connection) (numbers : List ℕ) → Apart c.part → ClosesInTime files (does_as_wanted (web_want files c.part) fresh c numbers).connection
+  wanted_apart : (fresh : Bool) (c : Connection) (numbers : List ℕ) → Apart c.part
+      → ClosesInTime files (does_as_wanted (web_want files c.part) fresh c numbers).connection
   unfolding idles
   wanted_apart fresh c numbers h =
       choose (λ w. ClosesInTime files (does_as_wanted w fresh c numbers).connection) (eqb c.part.polls MOST_POLLS) _ _ (λ e. closes_apart c h)
       (λ e. choose (λ w. ClosesInTime files (does_as_wanted w fresh c numbers).connection) (is_at_end files c.part) _ _
-      (λ f. record { idle = λ s l. absurd (never_open c.state s); apart = λ q. absurd (let z : true ≡ false = sym (eq-eqb c.part.polls MOST_POLLS q) ∙ e in cc) })
-      (λ f. choose (λ w. ClosesInTime files (does_as_wanted w fresh c numbers).connection) (ltb 0 (left_of files c.part)) _ _ (λ g. record { idle = λ s l. f; apart = λ q. f })
+      (λ f. record {
+        idle = λ s l. absurd (never_open c.state s);
+        apart = λ q. absurd (let z : true ≡ false = sym (eq-eqb c.part.polls MOST_POLLS q) ∙ e in cc);
+      })
+      (λ f. choose (λ w. ClosesInTime files (does_as_wanted w fresh c numbers).connection) (ltb 0 (left_of files c.part)) _ _
+      (λ g. record { idle = λ s l. f; apart = λ q. f })
       (λ g. choose (λ (o : Outcome). ClosesInTime files o.connection) (peer_has_closed c.state) _ _ (λ i. closes_apart c h)
-      (λ i. choose (λ (o : Outcome). ClosesInTime files o.connection) fresh _ _ (λ j. record { idle = λ s l. f; apart = λ q. f }) (λ j. record { idle = λ s l. f; apart = λ q. f })))))
+      (λ i. choose (λ (o : Outcome). ClosesInTime files o.connection) fresh _ _ (λ j. record { idle = λ s l. f; apart = λ q. f })
+      (λ j. record { idle = λ s l. f; apart = λ q. f })))))
 
   -- ---- what a step leaves: in time, or still to be asked
 
@@ -140,7 +168,8 @@ module _ (files : List File) where
   received_apart numbers p [] h = h
   received_apart numbers p (x ∷ xs) h = moved_apart (delivers_text m numbers p (x ∷ xs)).part refl
 
-  nothing_received : (numbers : List ℕ) (p : AppState) (text : List ℕ) → ltb 0 (length text) ≡ false → is_at_end files p ≡ false → is_at_end files (delivers_text m numbers p text).part ≡ false
+  nothing_received : (numbers : List ℕ) (p : AppState) (text : List ℕ) → ltb 0 (length text) ≡ false → is_at_end files p ≡ false
+      → is_at_end files (delivers_text m numbers p text).part ≡ false
   nothing_received numbers p [] e h = h
   nothing_received numbers p (x ∷ xs) e h = absurd (not_silent x xs e)
 
@@ -150,19 +179,25 @@ module _ (files : List File) where
   idle_still false true h = absurd (cc)
   idle_still false false h = (refl, refl)
 
-  established_apart : (acked : Bool) (c : Connection) (numbers : List ℕ) (s : PlainSegment) → c.state ≡ Established → Apart c.part → (acked ≡ false → c.len ≡ 0 → is_at_end files c.part ≡ false)
+  established_apart : (acked : Bool) (c : Connection) (numbers : List ℕ) (s : PlainSegment) → c.state ≡ Established → Apart c.part
+      → (acked ≡ false → c.len ≡ 0 → is_at_end files c.part ≡ false)
       → Leaves (in_established m acked c numbers s)
   unfolding in_established peer_closes stays_established
   established_apart acked c numbers s e h i =
       let delivered = received_apart numbers c.part s.text h in
       let incarnations : is_live c.state ≡ true = ap is_live e in
       choose (λ (o : Outcome). Leaves o) (has_fin s.flags) _ _
-      (λ f. choose (λ (o : Outcome). Leaves o) (ltb 0 c.len) _ _ (λ l. record { idle = λ st z. absurd (let y : CloseWait ≡ Established = st in cc); apart = delivered }) (λ l. (refl, delivered)))
+      (λ f. choose (λ (o : Outcome). Leaves o) (ltb 0 c.len) _ _
+      (λ l. record { idle = λ st z. absurd (let y : CloseWait ≡ Established = st in cc); apart = delivered }) (λ l. (refl, delivered)))
       (λ f. choose (λ (o : Outcome). Leaves o) (not acked && not (has_text s)) _ _
-      (λ g. (let both = idle_still acked (has_text s) g in record { idle = λ st z. nothing_received numbers c.part s.text both.1 (i both.0 z); apart = delivered }))
-      (λ g. choose (λ (o : Outcome). Leaves o) (ltb 0 c.len) _ _ (λ l. record { idle = λ st z. absurd (let y : ltb 0 0 ≡ true = subst (λ n. ltb 0 n ≡ true) z l in cc); apart = delivered }) (λ l. (incarnations, delivered))))
+      (λ g. (let both = idle_still acked (has_text s) g in
+      record { idle = λ st z. nothing_received numbers c.part s.text both.1 (i both.0 z); apart = delivered }))
+      (λ g. choose (λ (o : Outcome). Leaves o) (ltb 0 c.len) _ _
+      (λ l. record { idle = λ st z. absurd (let y : ltb 0 0 ≡ true = subst (λ n. ltb 0 n ≡ true) z l in cc); apart = delivered })
+      (λ l. (incarnations, delivered))))
 
-  state_apart : (st : State) (acked : Bool) (c : Connection) (numbers : List ℕ) (s : PlainSegment) → c.state ≡ st → ClosesInTime files c → Leaves (by_state m st acked c numbers s)
+  state_apart : (st : State) (acked : Bool) (c : Connection) (numbers : List ℕ) (s : PlainSegment) → c.state ≡ st → ClosesInTime files c
+      → Leaves (by_state m st acked c numbers s)
   unfolding fin_acked fin_waits
   state_apart SynRcvd true c numbers s e h =
       let start : After = m.connected numbers c.sockets.own_port.0 in
@@ -175,12 +210,16 @@ module _ (files : List File) where
   state_apart CloseWait true c numbers s e h = (ap is_live e, moved_apart (m.acked numbers c.part c.len).part refl)
   state_apart CloseWait false c numbers s e h = record { idle = h.idle; apart = h.apart }
   state_apart FinWait1 true c numbers s e h =
-      choose (λ (o : Outcome). Leaves o) (has_fin s.flags) _ _ (λ f. record { idle = λ st z. absurd (let y : TimeWait ≡ Established = st in cc); apart = h.apart }) (λ f. record { idle = λ st z. absurd (let y : FinWait2 ≡ Established = st in cc); apart = h.apart })
+      choose (λ (o : Outcome). Leaves o) (has_fin s.flags) _ _
+      (λ f. record { idle = λ st z. absurd (let y : TimeWait ≡ Established = st in cc); apart = h.apart })
+      (λ f. record { idle = λ st z. absurd (let y : FinWait2 ≡ Established = st in cc); apart = h.apart })
   state_apart FinWait1 false c numbers s e h =
-      choose (λ (o : Outcome). Leaves o) (has_fin s.flags) _ _ (λ f. record { idle = λ st z. absurd (let y : Closing ≡ Established = st in cc); apart = h.apart })
+      choose (λ (o : Outcome). Leaves o) (has_fin s.flags) _ _
+      (λ f. record { idle = λ st z. absurd (let y : Closing ≡ Established = st in cc); apart = h.apart })
       (λ f. choose (λ (o : Outcome). Leaves o) (has_text s) _ _ (λ t. record { idle = h.idle; apart = h.apart }) (λ t. h))
   state_apart FinWait2 acked c numbers s e h =
-      choose (λ (o : Outcome). Leaves o) (has_fin s.flags) _ _ (λ f. record { idle = λ st z. absurd (let y : TimeWait ≡ Established = st in cc); apart = h.apart })
+      choose (λ (o : Outcome). Leaves o) (has_fin s.flags) _ _
+      (λ f. record { idle = λ st z. absurd (let y : TimeWait ≡ Established = st in cc); apart = h.apart })
       (λ f. choose (λ (o : Outcome). Leaves o) (has_text s) _ _ (λ t. record { idle = h.idle; apart = h.apart }) (λ t. h))
   state_apart Closing true c numbers s e h = record { idle = λ st z. absurd (let y : TimeWait ≡ Established = st in cc); apart = h.apart }
   state_apart Closing false c numbers s e h = h
@@ -189,7 +228,8 @@ module _ (files : List File) where
   state_apart TimeWait acked c numbers s e h = h
   state_apart Closed acked c numbers s e h = h
 
-  receives_apart : (at : Connection → Now) → IsAt at → (c : Connection) (numbers : List ℕ) (s : PlainSegment) → ClosesInTime files c → ClosesInTime files (asked m at (on_segment m c numbers s)).connection
+  receives_apart : (at : Connection → Now) → IsAt at → (c : Connection) (numbers : List ℕ) (s : PlainSegment) → ClosesInTime files c
+      → ClosesInTime files (asked m at (on_segment m c numbers s)).connection
   unfolding on_segment
   receives_apart at g c numbers s h =
       let o : Outcome = on_segment m c numbers s in
@@ -217,14 +257,17 @@ module _ (files : List File) where
     polled = λ e l. (ap is_live e, λ q. h.idle e l);
   }
 
-  ticks_apart : (at : Connection → Now) → IsAt at → (c : Connection) (numbers : List ℕ) → ClosesInTime files c → ClosesInTime files (asked m at (on_tick m c numbers)).connection
+  ticks_apart : (at : Connection → Now) → IsAt at → (c : Connection) (numbers : List ℕ) → ClosesInTime files c
+      → ClosesInTime files (asked m at (on_tick m c numbers)).connection
   ticks_apart at g c numbers h = (let o : Outcome = on_tick m c numbers in asked_apart at g o o.step (tick_apart c numbers h))
 
   -- ---- the moments of a node
 
-  row_there : (k : ℕ) (cs : List Connection) (slot : ℕ) (old c : Connection) → slice_get cs slot ≡ Some old → is_live c.state ≡ true → 0 < length (rows_from k (set cs slot c))
+  row_there : (k : ℕ) (cs : List Connection) (slot : ℕ) (old c : Connection) → slice_get cs slot ≡ Some old → is_live c.state ≡ true
+      → 0 < length (rows_from k (set cs slot c))
   row_there k [] slot old c e l = absurd (cc)
-  row_there k (x ∷ cs) zero old c e l = choose (λ (rows : List Row). 0 < length rows) (is_live c.state) _ _ (λ y. omega arith) (λ y. absurd (let z : true ≡ false = sym l ∙ y in cc))
+  row_there k (x ∷ cs) zero old c e l = choose (λ (rows : List Row). 0 < length rows) (is_live c.state) _ _ (λ y. omega arith)
+      (λ y. absurd (let z : true ≡ false = sym l ∙ y in cc))
   row_there k (x ∷ cs) (suc slot) old c e l =
       choose (λ (rows : List Row). 0 < length rows) (is_live x.state) _ _ (λ y. omega arith) (λ y. row_there (k + 1) cs slot old c e l)
 
@@ -235,8 +278,12 @@ module _ (files : List File) where
   shut_apart = record { idle = λ s l. absurd (cc); apart = moved_apart closed.part refl }
 
   born_apart : (first : ℕ) (sockets : Sockets) (s : PlainSegment) → ClosesInTime files (accepted first sockets s)
-  born_apart first sockets s = record { idle = λ st l. absurd (let z : SynRcvd ≡ Established = st in cc); apart = moved_apart (accepted first sockets s).part refl }
+  born_apart first sockets s = record {
+    idle = λ st l. absurd (let z : SynRcvd ≡ Established = st in cc);
+    apart = moved_apart (accepted first sockets s).part refl;
+  }
 
 pub abort_and_close_apart : AbortAndCloseApart
 abort_and_close_apart files c r =
-    every (web_spec files) (ClosesInTime files) (IsAt files) (snapshots files) (shut_apart files) (born_apart files) (receives_apart files) (ticks_apart files) r.served r.events r.addr r.numbers r.slot c r.there
+    every (web_spec files) (ClosesInTime files) (IsAt files) (snapshots files) (shut_apart files) (born_apart files) (receives_apart files)
+    (ticks_apart files) r.served r.events r.addr r.numbers r.slot c r.there

@@ -1,6 +1,13 @@
 -- Each event is counted, and its answer counts as a retransmission exactly if it is one.
 -- [add: counter] An event with a further case.
-use Rattle.link_replay.proofs.Prelude.{◌≡◌, ℕ, ◌+◌, ◌==◌, Bool, true, false, not, if◌then◌else◌, ◌&&◌, List, ◌∷◌, refl, ap, ◌∙◌, Option, Some, None, position, eqb, arith, TcpReply, option_map, option_map_or, list_any, common_steps, wrap, PlainSegment, has_rst, AppSpec, Sockets, Connection, serves, Outcome, asked, accept, on_segment, on_tick, is_plain_syn, is_again, segment_of, initial_number, raised_by_answer, raises, times, Answer, Event, HistoryEntry, IpRefused, IcmpRefused, TcpRefused, EchoAsked, Arrived, Overlong, Periodic, Silent, NoSlot, EchoReplied, Spoke, AbstractNode, NodeStep, arrives_at, connection_in, for_no_connection, happened, snapshot, opens, opens_in, passes, slot_for_syn, step, choose, is_sent_again, resent}
+use Rattle.link_replay.proofs.Prelude.{◌≡◌, ℕ, ◌+◌, ◌==◌, Bool, true, false, not, if◌then◌else◌, ◌&&◌, List, ◌∷◌, refl, ap, ◌∙◌, Option}
+use Rattle.link_replay.proofs.Prelude.{Some, None, position, eqb, arith, TcpReply, option_map, option_map_or, list_any, common_steps, wrap}
+use Rattle.link_replay.proofs.Prelude.{PlainSegment, has_rst, AppSpec, Sockets, Connection, serves, Outcome, asked, accept, on_segment}
+use Rattle.link_replay.proofs.Prelude.{on_tick, is_plain_syn, is_again, segment_of, initial_number, raised_by_answer, raises, times, Answer}
+use Rattle.link_replay.proofs.Prelude.{Event, HistoryEntry, IpRefused, IcmpRefused, TcpRefused, EchoAsked, Arrived, Overlong, Periodic}
+use Rattle.link_replay.proofs.Prelude.{Silent, NoSlot, EchoReplied, Spoke, AbstractNode, NodeStep, arrives_at, connection_in}
+use Rattle.link_replay.proofs.Prelude.{for_no_connection, happened, snapshot, opens, opens_in, passes, slot_for_syn, step, choose}
+use Rattle.link_replay.proofs.Prelude.{is_sent_again, resent}
 use Rattle.uip_ipv4.specs.declared.fate.IpFate.TheVariants as Ip
 use Rattle.icmp_echo.specs.declared.fate.IcmpFate.TheVariants as Icmp
 use Rattle.tcp_segment.specs.declared.fate.TcpFate.TheVariants as Tcp
@@ -21,7 +28,8 @@ by_answer (IcmpRefused Icmp.Short) answer = refl
 by_answer (TcpRefused Tcp.Short) answer = refl
 by_answer event answer = refl
 
-answered : (output : Option PlainSegment) (again : Bool) (sockets : Sockets) (id : ℕ) → was_again (option_map_or (λ s. Spoke again) output Silent) ≡ is_sent_again (option_map (λ s. TcpReply sockets id again s) output)
+answered : (output : Option PlainSegment) (again : Bool) (sockets : Sockets) (id : ℕ)
+    → was_again (option_map_or (λ s. Spoke again) output Silent) ≡ is_sent_again (option_map (λ s. TcpReply sockets id again s) output)
 answered None again sockets id = refl
 answered (Some s) true sockets id = refl
 answered (Some s) false sockets id = refl
@@ -44,17 +52,20 @@ reported_opens m n sockets s (Some slot) =
     let t = reported_happened m n (Arrived sockets s) slot (connection_in slot n) (accept (initial_number n.history) sockets s n.numbers) in
     record { last = t.last; is = t.is; again = t.again }
 
-reported_stranger : (m : AppSpec) (served : ℕ → Bool) (n : AbstractNode) (sockets : Sockets) (s : PlainSegment) → Reported n (for_no_connection m served n sockets s)
+reported_stranger : (m : AppSpec) (served : ℕ → Bool) (n : AbstractNode) (sockets : Sockets) (s : PlainSegment)
+    → Reported n (for_no_connection m served n sockets s)
 unfolding for_no_connection
 reported_stranger m served n sockets s =
     choose (λ (r : NodeStep). Reported n r) (is_plain_syn s && served sockets.own_port.0) _ _ (λ e. reported_opens m n sockets s (slot_for_syn n.connections))
     (λ e. choose (λ (r : NodeStep). Reported n r) (has_rst s.flags) _ _ (λ f. passed n (Arrived sockets s) Silent refl)
     (λ f. record { last = record { event = Arrived sockets s; answer = Spoke false }; is = refl; again = refl }))
 
-reported_arrives : (m : AppSpec) (served : ℕ → Bool) (n : AbstractNode) (sockets : Sockets) (s : PlainSegment) (found : Option ℕ) → Reported n (arrives_at m served n sockets s found)
+reported_arrives : (m : AppSpec) (served : ℕ → Bool) (n : AbstractNode) (sockets : Sockets) (s : PlainSegment) (found : Option ℕ)
+    → Reported n (arrives_at m served n sockets s found)
 reported_arrives m served n sockets s None = reported_stranger m served n sockets s
 reported_arrives m served n sockets s (Some slot) =
-    reported_happened m n (Arrived sockets s) slot (connection_in slot n) (asked m (snapshot n (Arrived sockets s) slot) (on_segment m (connection_in slot n) n.numbers s))
+    reported_happened m n (Arrived sockets s) slot (connection_in slot n) (asked m (snapshot n (Arrived sockets s) slot)
+    (on_segment m (connection_in slot n) n.numbers s))
 
 reported : (m : AppSpec) (served : ℕ → Bool) (n : AbstractNode) (event : Event) → Reported n (step m served n event)
 reported m served n (IpRefused fate) = passed n (IpRefused fate) Silent refl

@@ -1,12 +1,17 @@
 -- Pairs of hexadecimal digits spell bytes.
-use Rattle.link_replay.proofs.Prelude.{All, IfSome, ◌≡◌, ℕ, ◌+◌, ◌*◌, ◌-◌, ◌<◌, ◌%◌, Bool, true, false, cond, ◌&&◌, List, [], ◌∷◌, length, Option, Some, None, Result, Ok, Err, IfOk, refl, arith, eqb, leb, and_parts, leb-true, All-cons, All-nil, decode_of, decode_pairs, digit_or_error, hex_digit_value, pair_value, value_at, ◌>>=◌, FromHexError, OddLength, IsByte}
+use Rattle.link_replay.proofs.Prelude.{All, IfSome, ◌≡◌, ℕ, ◌+◌, ◌*◌, ◌-◌, ◌<◌, ◌%◌, Bool, true, false, cond, ◌&&◌, List, [], ◌∷◌, length}
+use Rattle.link_replay.proofs.Prelude.{Option, Some, None, Result, Ok, Err, IfOk, refl, arith, eqb, leb, and_parts, leb-true, All-cons}
+use Rattle.link_replay.proofs.Prelude.{All-nil, decode_of, decode_pairs, digit_or_error, hex_digit_value, pair_value, value_at, ◌>>=◌}
+use Rattle.link_replay.proofs.Prelude.{FromHexError, OddLength, IsByte}
 
 abbrev IsDigit : ℕ → Type 0
 IsDigit v = v < 16
 
 -- a digit of a range, or another one
-ranged : (low high less : ℕ) (c : ℕ) (other : Option ℕ) → high < less + 16 → IfSome other IsDigit → IfSome (cond (leb low c && leb c high) (Some (c - less)) other) IsDigit
-ranged low high less c other room p = by_test (leb low c && leb c high) (λ e. let most = leb-true c high (and_parts (leb low c) (leb c high) e).1 in omega (arith, most, room))
+ranged : (low high less : ℕ) (c : ℕ) (other : Option ℕ) → high < less + 16 → IfSome other IsDigit
+    → IfSome (cond (leb low c && leb c high) (Some (c - less)) other) IsDigit
+ranged low high less c other room p = by_test (leb low c && leb c high)
+    (λ e. let most = leb-true c high (and_parts (leb low c) (leb c high) e).1 in omega (arith, most, room))
   where
     by_test : (b : Bool) → (b ≡ true → IsDigit (c - less)) → IfSome (cond b (Some (c - less)) other) IsDigit
     by_test true q = q refl
@@ -29,7 +34,8 @@ pair_is_byte high low i =
     pair_of (value_at high i) (value_at low (i + 1)) (or_error high i (hex_digit_value high) (digit_value high))
     (or_error low (i + 1) (hex_digit_value low) (digit_value low))
 
-with_byte : (r : Result ℕ FromHexError) (s : Result (List ℕ) FromHexError) → IfOk r IsByte → IfOk s (All IsByte) → IfOk (r >>= λ x. s >>= λ xs. Ok (x ∷ xs)) (All IsByte)
+with_byte : (r : Result ℕ FromHexError) (s : Result (List ℕ) FromHexError) → IfOk r IsByte → IfOk s (All IsByte)
+    → IfOk (r >>= λ x. s >>= λ xs. Ok (x ∷ xs)) (All IsByte)
 with_byte (Ok x) (Ok xs) p q = All-cons IsByte x xs p q
 with_byte (Ok x) (Err e) p q = tt
 with_byte (Err e) s p q = tt

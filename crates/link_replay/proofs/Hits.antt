@@ -1,6 +1,21 @@
 -- A file's hits as a count over the events of a node.
 -- [add: state] A request that arrives in it.
-use Rattle.link_replay.proofs.Prelude.{◌≡◌, ℕ, zero, suc, ◌+◌, ◌%◌, ◌^◌, ◌<◌, Bool, true, false, not, ◌&&◌, ◌||◌, if◌then◌else◌, List, [], ◌∷◌, length, get_or, set, replicate, refl, sym, ap, ◌∙◌, subst, arith, eqb, eq-eqb, ltb, Option, Some, None, slice_get, slice_index_or, position, length-set, REST_TIME, get_or-set_other, get_or-set_same, wrap, PlainSegment, has_fin, has_rst, beat_at, Beat, AppState, After, AppSpec, Now, Ending, State, Closed, SynRcvd, Established, CloseWait, FinWait1, FinWait2, Closing, TimeWait, LastAck, Want, Nothing, Send, Close, Abort, File, Connection, Sockets, closed, serves, is_plain_syn, Outcome, after_own_fin, closes, peer_has_closed, idles, does_as_wanted, prepared, asked_for, asked, accept, in_state, takes, reported_end, with_window, delivers_text, is_out_of_order, is_acked, rests, has_text, in_established, peer_closes, stays_established, fin_acked, fin_waits, with_part, by_state, on_segment, grows_older, limit_of, outstanding, by_beat, rests_on, ticks_established, tick_by, on_tick, Step, initial_number, Event, IpRefused, IcmpRefused, TcpRefused, EchoAsked, Arrived, Overlong, Periodic, AbstractNode, NodeStep, arrives_at, connection_in, for_no_connection, happened, snapshot, initial_node, opens, opens_in, run, slot_for_syn, step, place_of, Wanted, wanted, NotYet, Refused, Name, is_served, no_hits, hit_at, hits_by, is_acknowledged, waits_for_capture, web_spec, choose, eqb-eq, wrap_wrap, Inside, slot_inside, position_in, all_closed, get_set, index_none, index_of, set_past, here, there, HitsAreCounted, becomes_hit, hits_over, is_place, one_hits}
+use Rattle.link_replay.proofs.Prelude.{◌≡◌, ℕ, zero, suc, ◌+◌, ◌%◌, ◌^◌, ◌<◌, Bool, true, false, not, ◌&&◌, ◌||◌, if◌then◌else◌, List, []}
+use Rattle.link_replay.proofs.Prelude.{◌∷◌, length, get_or, set, replicate, refl, sym, ap, ◌∙◌, subst, arith, eqb, eq-eqb, ltb, Option}
+use Rattle.link_replay.proofs.Prelude.{Some, None, slice_get, slice_index_or, position, length-set, REST_TIME, get_or-set_other}
+use Rattle.link_replay.proofs.Prelude.{get_or-set_same, wrap, PlainSegment, has_fin, has_rst, beat_at, Beat, AppState, After, AppSpec, Now}
+use Rattle.link_replay.proofs.Prelude.{Ending, State, Closed, SynRcvd, Established, CloseWait, FinWait1, FinWait2, Closing, TimeWait}
+use Rattle.link_replay.proofs.Prelude.{LastAck, Want, Nothing, Send, Close, Abort, File, Connection, Sockets, closed, serves, is_plain_syn}
+use Rattle.link_replay.proofs.Prelude.{Outcome, after_own_fin, closes, peer_has_closed, idles, does_as_wanted, prepared, asked_for, asked}
+use Rattle.link_replay.proofs.Prelude.{accept, in_state, takes, reported_end, with_window, delivers_text, is_out_of_order, is_acked, rests}
+use Rattle.link_replay.proofs.Prelude.{has_text, in_established, peer_closes, stays_established, fin_acked, fin_waits, with_part, by_state}
+use Rattle.link_replay.proofs.Prelude.{on_segment, grows_older, limit_of, outstanding, by_beat, rests_on, ticks_established, tick_by}
+use Rattle.link_replay.proofs.Prelude.{on_tick, Step, initial_number, Event, IpRefused, IcmpRefused, TcpRefused, EchoAsked, Arrived}
+use Rattle.link_replay.proofs.Prelude.{Overlong, Periodic, AbstractNode, NodeStep, arrives_at, connection_in, for_no_connection, happened}
+use Rattle.link_replay.proofs.Prelude.{snapshot, initial_node, opens, opens_in, run, slot_for_syn, step, place_of, Wanted, wanted, NotYet}
+use Rattle.link_replay.proofs.Prelude.{Refused, Name, is_served, no_hits, hit_at, hits_by, is_acknowledged, waits_for_capture, web_spec}
+use Rattle.link_replay.proofs.Prelude.{choose, eqb-eq, wrap_wrap, Inside, slot_inside, position_in, all_closed, get_set, index_none}
+use Rattle.link_replay.proofs.Prelude.{index_of, set_past, here, there, HitsAreCounted, becomes_hit, hits_over, is_place, one_hits}
 
 -- ---- one connection
 
@@ -31,7 +46,8 @@ module _ (files : List File) where
   late _ c d e h = tt
 
   -- a step in which nothing is received
-  quiet : (c d : Connection) (numbers : List ℕ) (s : Step) → d.part.input ≡ c.part.input → Fresh d.state d → Counts (asks c) numbers (record { connection = d; numbers = numbers; step = s })
+  quiet : (c d : Connection) (numbers : List ℕ) (s : Step) → d.part.input ≡ c.part.input → Fresh d.state d
+      → Counts (asks c) numbers (record { connection = d; numbers = numbers; step = s })
   quiet c d numbers s e f = record { hits = sym (same_by numbers (asks c)) ∙ ap (λ xs. hits_by files numbers (asks c) (wanted xs)) (sym e); fresh = f }
 
   at_state : (d : Connection) (st : State) → d.state ≡ st → Fresh st d → Fresh d.state d
@@ -45,11 +61,13 @@ module _ (files : List File) where
   reported_same how Closed p numbers = refl
   reported_same how _ p numbers = refl
 
-  closes_counts : (c : Connection) (how : Ending) (numbers : List ℕ) (s : Step) → Counts (asks c) numbers (record { connection = closes c; numbers = reported_end m how c.state c.part numbers; step = s })
+  closes_counts : (c : Connection) (how : Ending) (numbers : List ℕ) (s : Step)
+      → Counts (asks c) numbers (record { connection = closes c; numbers = reported_end m how c.state c.part numbers; step = s })
   closes_counts c how numbers s = record { hits = reported_same how c.state c.part numbers ∙ sym (same_by numbers (asks c)); fresh = tt }
 
   -- what the application receives
-  receives_hits : (numbers : List ℕ) (p : AppState) (text : List ℕ) → (delivers_text m numbers p text).numbers ≡ hits_by files numbers (wanted p.input) (wanted (delivers_text m numbers p text).part.input)
+  receives_hits : (numbers : List ℕ) (p : AppState) (text : List ℕ) → (delivers_text m numbers p text).numbers ≡ hits_by files numbers
+      (wanted p.input) (wanted (delivers_text m numbers p text).part.input)
   receives_hits numbers p [] = sym (same_by numbers (wanted p.input))
   receives_hits numbers p (x ∷ xs) = refl
 
@@ -60,21 +78,28 @@ module _ (files : List File) where
     input : r.connection.part.input ≡ o.connection.part.input
     fresh : Fresh r.connection.state r.connection
 
-  wanted_like : (w : Want) (fresh : Bool) (c : Connection) (o : Outcome) → c.part.input ≡ o.connection.part.input → Fresh c.state c → Like o (does_as_wanted w fresh c o.numbers)
+  wanted_like : (w : Want) (fresh : Bool) (c : Connection) (o : Outcome) → c.part.input ≡ o.connection.part.input → Fresh c.state c
+      → Like o (does_as_wanted w fresh c o.numbers)
   unfolding idles
   wanted_like Abort fresh c o e f = record { numbers = refl; input = e; fresh = tt }
   wanted_like Close fresh c o e f = record { numbers = refl; input = e; fresh = fin_fresh (does_as_wanted Close fresh c o.numbers).connection c.state }
-  wanted_like (Send n) fresh c o e f = record { numbers = refl; input = e; fresh = late c.state c (does_as_wanted (Send n) fresh c o.numbers).connection refl f }
+  wanted_like (Send n) fresh c o e f = record {
+    numbers = refl;
+    input = e;
+    fresh = late c.state c (does_as_wanted (Send n) fresh c o.numbers).connection refl f;
+  }
   wanted_like Nothing fresh c o e f =
       choose (λ (r : Outcome). Like o r) (peer_has_closed c.state) _ _ (λ x. record { numbers = refl; input = e; fresh = tt })
-      (λ x. choose (λ (r : Outcome). Like o r) fresh _ _ (λ y. record { numbers = refl; input = e; fresh = f }) (λ y. record { numbers = refl; input = e; fresh = f }))
+      (λ x. choose (λ (r : Outcome). Like o r) fresh _ _ (λ y. record { numbers = refl; input = e; fresh = f })
+      (λ y. record { numbers = refl; input = e; fresh = f }))
 
   asked_for_like : (at : Connection → Now) (o : Outcome) (s : Step) → Fresh o.connection.state o.connection → Like o (asked_for m at o s)
   asked_for_like at o (Step.Ask fresh) f =
       let now : Now = at o.connection in
       let b : Connection = prepared m now o.connection o.numbers in
       let same : b.part.input ≡ o.connection.part.input =
-      choose (λ (p : AppState). p.input ≡ o.connection.part.input) (is_acknowledged files o.connection.part && waits_for_capture files (wanted o.connection.part.input) o.connection.part) _ _ (λ e. refl) (λ e. refl) in
+      choose (λ (p : AppState). p.input ≡ o.connection.part.input) (is_acknowledged files o.connection.part && waits_for_capture files
+      (wanted o.connection.part.input) o.connection.part) _ _ (λ e. refl) (λ e. refl) in
       wanted_like (m.want o.numbers (m.prepare o.numbers o.connection.part now)) fresh b o same (late o.connection.state o.connection b same f)
   asked_for_like at o Step.Drop f = record { numbers = refl; input = refl; fresh = f }
   asked_for_like at o _ f = record { numbers = refl; input = refl; fresh = f }
@@ -89,21 +114,28 @@ module _ (files : List File) where
   closes_in : (c : Connection) (numbers : List ℕ) (s : PlainSegment) → Counts (asks c) numbers (peer_closes m c numbers s)
   unfolding peer_closes
   closes_in c numbers s =
-      choose (λ (o : Outcome). Counts (asks c) numbers o) (ltb 0 c.len) _ _ (λ e. record { hits = receives_hits numbers c.part s.text; fresh = tt }) (λ e. record { hits = receives_hits numbers c.part s.text; fresh = tt })
+      choose (λ (o : Outcome). Counts (asks c) numbers o) (ltb 0 c.len) _ _
+      (λ e. record { hits = receives_hits numbers c.part s.text; fresh = tt }) (λ e. record { hits = receives_hits numbers c.part s.text; fresh = tt })
 
-  goes_on_in : (acked : Bool) (c : Connection) (numbers : List ℕ) (s : PlainSegment) → c.state ≡ Established → Counts (asks c) numbers (stays_established m acked c numbers s)
+  goes_on_in : (acked : Bool) (c : Connection) (numbers : List ℕ) (s : PlainSegment) → c.state ≡ Established
+      → Counts (asks c) numbers (stays_established m acked c numbers s)
   unfolding stays_established
   goes_on_in acked c numbers s st =
       let d : Connection = with_window s.window (with_part (delivers_text m numbers c.part s.text).part (takes (length s.text) c)) in
       let f : Fresh d.state d = at_state d Established st tt in
-      choose (λ (o : Outcome). Counts (asks c) numbers o) (not acked && not (has_text s)) _ _ (λ e. record { hits = receives_hits numbers c.part s.text; fresh = f })
-      (λ e. choose (λ (o : Outcome). Counts (asks c) numbers o) (ltb 0 c.len) _ _ (λ g. record { hits = receives_hits numbers c.part s.text; fresh = f }) (λ g. record { hits = receives_hits numbers c.part s.text; fresh = f }))
+      choose (λ (o : Outcome). Counts (asks c) numbers o) (not acked && not (has_text s)) _ _
+      (λ e. record { hits = receives_hits numbers c.part s.text; fresh = f })
+      (λ e. choose (λ (o : Outcome). Counts (asks c) numbers o) (ltb 0 c.len) _ _
+      (λ g. record { hits = receives_hits numbers c.part s.text; fresh = f }) (λ g. record { hits = receives_hits numbers c.part s.text; fresh = f }))
 
-  established_counts : (acked : Bool) (c : Connection) (numbers : List ℕ) (s : PlainSegment) → c.state ≡ Established → Counts (asks c) numbers (in_established m acked c numbers s)
+  established_counts : (acked : Bool) (c : Connection) (numbers : List ℕ) (s : PlainSegment) → c.state ≡ Established
+      → Counts (asks c) numbers (in_established m acked c numbers s)
   unfolding in_established
-  established_counts acked c numbers s st = choose (λ (o : Outcome). Counts (asks c) numbers o) (has_fin s.flags) _ _ (λ e. closes_in c numbers s) (λ e. goes_on_in acked c numbers s st)
+  established_counts acked c numbers s st = choose (λ (o : Outcome). Counts (asks c) numbers o) (has_fin s.flags) _ _
+      (λ e. closes_in c numbers s) (λ e. goes_on_in acked c numbers s st)
 
-  by_state_counts : (st : State) (acked : Bool) (c : Connection) (numbers : List ℕ) (s : PlainSegment) → c.state ≡ st → Fresh st c → Counts (asks c) numbers (by_state m st acked c numbers s)
+  by_state_counts : (st : State) (acked : Bool) (c : Connection) (numbers : List ℕ) (s : PlainSegment) → c.state ≡ st → Fresh st c
+      → Counts (asks c) numbers (by_state m st acked c numbers s)
   unfolding fin_acked fin_waits
   by_state_counts Closed acked c numbers s e f = quiet c c numbers Step.Drop refl (at_state c Closed e tt)
   by_state_counts SynRcvd true c numbers s e f =
@@ -121,17 +153,20 @@ module _ (files : List File) where
   by_state_counts CloseWait false c numbers s e f = let d : Connection = with_window s.window c in quiet c d numbers Step.Drop refl (at_state d CloseWait e tt)
   by_state_counts FinWait1 true c numbers s e f =
       choose (λ (o : Outcome). Counts (asks c) numbers o) (has_fin s.flags) _ _
-      (λ g. quiet c (in_state TimeWait (takes (length s.text + 1) (rests c))) numbers Step.Ack refl tt) (λ g. quiet c (in_state FinWait2 (takes (length s.text) (rests c))) numbers Step.Drop refl tt)
+      (λ g. quiet c (in_state TimeWait (takes (length s.text + 1) (rests c))) numbers Step.Ack refl tt)
+      (λ g. quiet c (in_state FinWait2 (takes (length s.text) (rests c))) numbers Step.Drop refl tt)
   by_state_counts FinWait1 false c numbers s e f =
       choose (λ (o : Outcome). Counts (asks c) numbers o) (has_fin s.flags) _ _
       (λ g. quiet c (in_state Closing (takes (length s.text + 1) c)) numbers Step.Ack refl tt)
       (λ g. choose (λ (o : Outcome). Counts (asks c) numbers o) (has_text s) _ _
-      (λ h. let d : Connection = takes (length s.text) c in quiet c d numbers Step.Ack refl (at_state d FinWait1 e tt)) (λ h. quiet c c numbers Step.Drop refl (at_state c FinWait1 e tt)))
+      (λ h. let d : Connection = takes (length s.text) c in quiet c d numbers Step.Ack refl (at_state d FinWait1 e tt))
+      (λ h. quiet c c numbers Step.Drop refl (at_state c FinWait1 e tt)))
   by_state_counts FinWait2 acked c numbers s e f =
       choose (λ (o : Outcome). Counts (asks c) numbers o) (has_fin s.flags) _ _
       (λ g. quiet c (record (in_state TimeWait (takes (length s.text + 1) c)) { age = 0 }) numbers Step.Ack refl tt)
       (λ g. choose (λ (o : Outcome). Counts (asks c) numbers o) (has_text s) _ _
-      (λ h. let d : Connection = takes (length s.text) c in quiet c d numbers Step.Ack refl (at_state d FinWait2 e tt)) (λ h. quiet c c numbers Step.Drop refl (at_state c FinWait2 e tt)))
+      (λ h. let d : Connection = takes (length s.text) c in quiet c d numbers Step.Ack refl (at_state d FinWait2 e tt))
+      (λ h. quiet c c numbers Step.Drop refl (at_state c FinWait2 e tt)))
   by_state_counts Closing true c numbers s e f = quiet c (in_state TimeWait (rests c)) numbers Step.Drop refl tt
   by_state_counts Closing false c numbers s e f = quiet c c numbers Step.Drop refl (at_state c Closing e tt)
   by_state_counts LastAck true c numbers s e f = quiet c (closes (rests c)) numbers Step.Drop refl tt
@@ -142,7 +177,8 @@ module _ (files : List File) where
   unfolding on_segment
   segment_counts c numbers s f =
       choose (λ (o : Outcome). Counts (asks c) numbers o) (has_rst s.flags) _ _ (λ e. closes_counts c Ending.Reset numbers Step.Drop)
-      (λ e. choose (λ (o : Outcome). Counts (asks c) numbers o) (is_out_of_order c s) _ _ (λ g. quiet c c numbers Step.Ack refl f) (λ g. by_state_counts c.state (is_acked c s) c numbers s refl f))
+      (λ e. choose (λ (o : Outcome). Counts (asks c) numbers o) (is_out_of_order c s) _ _ (λ g. quiet c c numbers Step.Ack refl f)
+      (λ g. by_state_counts c.state (is_acked c s) c numbers s refl f))
 
   -- ---- a tick
 
@@ -198,12 +234,15 @@ module _ (files : List File) where
   or_false false = refl
 
   -- of a slot that was written
-  one_of : (place : ℕ) (cs : List Connection) (slot : ℕ) (old new : Connection) → slice_get cs slot ≡ Some old → one_hits files place cs (set cs slot new) ≡ becomes_hit files place (asks old) (asks new)
+  one_of : (place : ℕ) (cs : List Connection) (slot : ℕ) (old new : Connection) → slice_get cs slot ≡ Some old
+      → one_hits files place cs (set cs slot new) ≡ becomes_hit files place (asks old) (asks new)
   one_of place [] slot old new x = absurd (cc)
   one_of place (c ∷ cs) zero old new x =
       let e : c ≡ old = cc in
-      ap (λ b. becomes_hit files place (asks c) (asks new) || b) (none_hits place cs) ∙ or_false (becomes_hit files place (asks c) (asks new)) ∙ ap (λ (y : Connection). becomes_hit files place (asks y) (asks new)) e
-  one_of place (c ∷ cs) (suc slot) old new x = ap (λ b. b || one_hits files place cs (set cs slot new)) (same_no_hit place (asks c)) ∙ one_of place cs slot old new x
+      ap (λ b. becomes_hit files place (asks c) (asks new) || b) (none_hits place cs)
+      ∙ or_false (becomes_hit files place (asks c) (asks new)) ∙ ap (λ (y : Connection). becomes_hit files place (asks y) (asks new)) e
+  one_of place (c ∷ cs) (suc slot) old new x = ap (λ b. b || one_hits files place cs (set cs slot new)) (same_no_hit place (asks c))
+      ∙ one_of place cs slot old new x
 
   -- ---- the number at a place
 
@@ -211,17 +250,21 @@ module _ (files : List File) where
   abbrev next : Bool → ℕ → ℕ
   next b n = if b then wrap (n + 1) else n
 
-  hit_there : (numbers : List ℕ) (place : ℕ) (o : Option ℕ) → place < length numbers → get_or (hit_at numbers o) place 0 ≡ next (is_place place o) (get_or numbers place 0)
+  hit_there : (numbers : List ℕ) (place : ℕ) (o : Option ℕ) → place < length numbers → get_or (hit_at numbers o) place 0
+      ≡ next (is_place place o) (get_or numbers place 0)
   hit_there numbers place None l = refl
   hit_there numbers place (Some found) l = at (eqb found place) refl
     where
       at : (b : Bool) → eqb found place ≡ b → get_or (hit_at numbers (Some found)) place 0 ≡ next b (get_or numbers place 0)
       at true e =
           let same : found ≡ place = eqb-eq found place e in
-          subst (λ k. get_or (set numbers k ((get_or numbers k 0 + 1) % 2 ^ 32)) place 0 ≡ wrap (get_or numbers place 0 + 1)) (sym same) (get_or-set_same numbers place ((get_or numbers place 0 + 1) % 2 ^ 32) 0 l)
-      at false e = get_or-set_other numbers found place ((get_or numbers found 0 + 1) % 2 ^ 32) 0 (λ p. absurd (let z : eqb found place ≡ true = eq-eqb found place (sym p) in cc))
+          subst (λ k. get_or (set numbers k ((get_or numbers k 0 + 1) % 2 ^ 32)) place 0 ≡ wrap (get_or numbers place 0 + 1)) (sym same)
+          (get_or-set_same numbers place ((get_or numbers place 0 + 1) % 2 ^ 32) 0 l)
+      at false e = get_or-set_other numbers found place ((get_or numbers found 0 + 1) % 2 ^ 32) 0
+          (λ p. absurd (let z : eqb found place ≡ true = eq-eqb found place (sym p) in cc))
 
-  counts_there : (numbers : List ℕ) (place : ℕ) (w v : Wanted) → place < length numbers → get_or (hits_by files numbers w v) place 0 ≡ next (becomes_hit files place w v) (get_or numbers place 0)
+  counts_there : (numbers : List ℕ) (place : ℕ) (w v : Wanted) → place < length numbers → get_or (hits_by files numbers w v) place 0
+      ≡ next (becomes_hit files place w v) (get_or numbers place 0)
   counts_there numbers place NotYet NotYet l = refl
   counts_there numbers place NotYet Refused l = refl
   counts_there numbers place NotYet (Name name) l = hit_there numbers place (place_of files name) l
@@ -250,11 +293,13 @@ module _ (files : List File) where
   still place n d ec en f = record {
     fresh = subst (λ cs. AllFresh cs) (sym ec) f;
     size = ap length en;
-    count = λ l. ap (λ xs. get_or xs place 0) en ∙ ap (λ b. next b (get_or n.numbers place 0)) (sym (ap (one_hits files place n.connections) ec ∙ none_hits place n.connections));
+    count = λ l. ap (λ xs. get_or xs place 0) en ∙ ap (λ b. next b (get_or n.numbers place 0))
+        (sym (ap (one_hits files place n.connections) ec ∙ none_hits place n.connections));
   }
 
   -- a connection in a slot took a step
-  slot_stepped : (place : ℕ) (n d : AbstractNode) (slot : ℕ) (old : Connection) (o : Outcome) → d.connections ≡ set n.connections slot o.connection → d.numbers ≡ o.numbers → slice_get n.connections slot ≡ Some old → Counts (asks old) n.numbers o
+  slot_stepped : (place : ℕ) (n d : AbstractNode) (slot : ℕ) (old : Connection) (o : Outcome) → d.connections ≡ set n.connections slot
+      o.connection → d.numbers ≡ o.numbers → slice_get n.connections slot ≡ Some old → Counts (asks old) n.numbers o
       → AllFresh n.connections → Stepped place n d
   slot_stepped place n d slot old o ec en x h f = record {
     fresh = subst (λ cs. AllFresh cs) (sym ec) (set_fresh n.connections slot o.connection h.fresh f);
@@ -263,18 +308,21 @@ module _ (files : List File) where
         ∙ ap (λ b. next b (get_or n.numbers place 0)) (sym (ap (one_hits files place n.connections) ec ∙ one_of place n.connections slot old o.connection x));
   }
 
-  happened_stepped : (place : ℕ) (n : AbstractNode) (event : Event) (slot : ℕ) (c old : Connection) (o : Outcome) → slice_get n.connections slot ≡ Some old → Counts (asks old) n.numbers o → AllFresh n.connections
+  happened_stepped : (place : ℕ) (n : AbstractNode) (event : Event) (slot : ℕ) (c old : Connection) (o : Outcome)
+      → slice_get n.connections slot ≡ Some old → Counts (asks old) n.numbers o → AllFresh n.connections
       → Stepped place n (happened m n event slot c o).node
   unfolding happened
   happened_stepped place n event slot c old o x h f = slot_stepped place n (happened m n event slot c o).node slot old o refl refl x h f
 
-  opened_stepped : (place : ℕ) (n : AbstractNode) (sockets : Sockets) (s : PlainSegment) (slot : Option ℕ) → ((i : ℕ) → slot ≡ Some i → Inside n.connections i) → AllFresh n.connections → Stepped place n (opens m n sockets s slot).node
+  opened_stepped : (place : ℕ) (n : AbstractNode) (sockets : Sockets) (s : PlainSegment) (slot : Option ℕ)
+      → ((i : ℕ) → slot ≡ Some i → Inside n.connections i) → AllFresh n.connections → Stepped place n (opens m n sockets s slot).node
   unfolding opens_in happened
   opened_stepped place n sockets s None i f = still place n (opens m n sockets s None).node refl refl f
   opened_stepped place n sockets s (Some slot) i f =
       let there = i slot refl in
       let o : Outcome = accept (initial_number n.history) sockets s n.numbers in
-      slot_stepped place n (opens m n sockets s (Some slot)).node slot there.item o refl refl there.get record { hits = sym (fresh_by n.numbers (asks there.item)); fresh = refl } f
+      slot_stepped place n (opens m n sockets s (Some slot)).node slot there.item o refl refl there.get
+      record { hits = sym (fresh_by n.numbers (asks there.item)); fresh = refl } f
     where
       -- a connection that is opened asks for nothing
       fresh_by : (numbers : List ℕ) (w : Wanted) → hits_by files numbers w NotYet ≡ numbers
@@ -282,20 +330,25 @@ module _ (files : List File) where
       fresh_by numbers Refused = refl
       fresh_by numbers (Name name) = refl
 
-  stranger_stepped : (place : ℕ) (n : AbstractNode) (sockets : Sockets) (s : PlainSegment) → AllFresh n.connections → Stepped place n (for_no_connection m is_served n sockets s).node
+  stranger_stepped : (place : ℕ) (n : AbstractNode) (sockets : Sockets) (s : PlainSegment) → AllFresh n.connections
+      → Stepped place n (for_no_connection m is_served n sockets s).node
   unfolding for_no_connection
   stranger_stepped place n sockets s f =
-      choose (λ (x : NodeStep). Stepped place n x.node) (is_plain_syn s && is_served sockets.own_port.0) _ _ (λ e. opened_stepped place n sockets s (slot_for_syn n.connections) (slot_inside n.connections) f)
+      choose (λ (x : NodeStep). Stepped place n x.node) (is_plain_syn s && is_served sockets.own_port.0) _ _
+      (λ e. opened_stepped place n sockets s (slot_for_syn n.connections) (slot_inside n.connections) f)
       (λ e. choose (λ (x : NodeStep). Stepped place n x.node) (has_rst s.flags) _ _ (λ g. still place n _ refl refl f) (λ g. still place n _ refl refl f))
 
   -- the connection in a slot
-  at_slot : (place : ℕ) (n : AbstractNode) (event : Event) (slot : ℕ) (old : Connection) (o : Connection → Outcome) → slice_get n.connections slot ≡ Some old → ((c : Connection) → Fresh c.state c → Counts (asks c) n.numbers (o c)) → AllFresh n.connections
+  at_slot : (place : ℕ) (n : AbstractNode) (event : Event) (slot : ℕ) (old : Connection) (o : Connection → Outcome)
+      → slice_get n.connections slot ≡ Some old → ((c : Connection) → Fresh c.state c → Counts (asks c) n.numbers (o c)) → AllFresh n.connections
       → Stepped place n (happened m n event slot (connection_in slot n) (o (connection_in slot n))).node
   at_slot place n event slot old o x h f =
       let e : connection_in slot n ≡ old = index_of n.connections slot closed old x in
-      subst (λ c. Stepped place n (happened m n event slot c (o c)).node) (sym e) (happened_stepped place n event slot old old (o old) x (h old (f slot old x)) f)
+      subst (λ c. Stepped place n (happened m n event slot c (o c)).node) (sym e) (happened_stepped place n event slot old old (o old) x
+      (h old (f slot old x)) f)
 
-  arrived_stepped : (place : ℕ) (n : AbstractNode) (sockets : Sockets) (s : PlainSegment) (found : Option ℕ) → ((i : ℕ) → found ≡ Some i → Inside n.connections i) → AllFresh n.connections → Stepped place n (arrives_at m is_served n sockets s found).node
+  arrived_stepped : (place : ℕ) (n : AbstractNode) (sockets : Sockets) (s : PlainSegment) (found : Option ℕ)
+      → ((i : ℕ) → found ≡ Some i → Inside n.connections i) → AllFresh n.connections → Stepped place n (arrives_at m is_served n sockets s found).node
   arrived_stepped place n sockets s None i f = stranger_stepped place n sockets s f
   arrived_stepped place n sockets s (Some slot) i f =
       let there = i slot refl in
@@ -303,14 +356,16 @@ module _ (files : List File) where
       (λ c g. asked_counts (snapshot n (Arrived sockets s) slot) (asks c) n.numbers (on_segment m c n.numbers s) (segment_counts c n.numbers s g)) f
 
   -- a slot past the table is CLOSED, and nothing changes
-  past_slot : (place : ℕ) (n : AbstractNode) (slot : ℕ) → slice_get n.connections slot ≡ None → AllFresh n.connections → Stepped place n (step m is_served n (Periodic slot)).node
+  past_slot : (place : ℕ) (n : AbstractNode) (slot : ℕ) → slice_get n.connections slot ≡ None → AllFresh n.connections
+      → Stepped place n (step m is_served n (Periodic slot)).node
   unfolding happened
   past_slot place n slot x f =
       let e : connection_in slot n ≡ closed = index_none n.connections slot closed x in
       subst (λ c. Stepped place n (happened m n (Periodic slot) slot c (asked m (snapshot n (Periodic slot) slot) (on_tick m c n.numbers))).node) (sym e)
       (still place n _ (set_past n.connections slot closed x) refl f)
 
-  periodic_stepped : (place : ℕ) (n : AbstractNode) (slot : ℕ) (at : Option Connection) → slice_get n.connections slot ≡ at → AllFresh n.connections → Stepped place n (step m is_served n (Periodic slot)).node
+  periodic_stepped : (place : ℕ) (n : AbstractNode) (slot : ℕ) (at : Option Connection) → slice_get n.connections slot ≡ at
+      → AllFresh n.connections → Stepped place n (step m is_served n (Periodic slot)).node
   periodic_stepped place n slot None x f = past_slot place n slot x f
   periodic_stepped place n slot (Some old) x f =
       at_slot place n (Periodic slot) slot old (λ c. asked m (snapshot n (Periodic slot) slot) (on_tick m c n.numbers)) x
@@ -321,7 +376,8 @@ module _ (files : List File) where
   step_stepped place n (IcmpRefused fate) f = still place n _ refl refl f
   step_stepped place n (TcpRefused fate) f = still place n _ refl refl f
   step_stepped place n (EchoAsked datagram) f = still place n _ refl refl f
-  step_stepped place n (Arrived sockets s) f = arrived_stepped place n sockets s (position (serves sockets) n.connections) (λ i x. position_in (serves sockets) n.connections i x) f
+  step_stepped place n (Arrived sockets s) f = arrived_stepped place n sockets s (position (serves sockets) n.connections)
+      (λ i x. position_in (serves sockets) n.connections i x) f
   step_stepped place n Overlong f = still place n _ refl refl f
   step_stepped place n (Periodic slot) f = periodic_stepped place n slot (slice_get n.connections slot) refl f
 
@@ -331,7 +387,8 @@ module _ (files : List File) where
   more true n later = wrap_wrap (n + 1) later ∙ ap wrap (let z : n + 1 + later ≡ n + (later + 1) = omega arith in z)
   more false n later = refl
 
-  run_counts : (place : ℕ) (events : List Event) (n : AbstractNode) → place < length n.numbers → AllFresh n.connections → get_or n.numbers place 0 ≡ wrap (get_or n.numbers place 0)
+  run_counts : (place : ℕ) (events : List Event) (n : AbstractNode) → place < length n.numbers → AllFresh n.connections
+      → get_or n.numbers place 0 ≡ wrap (get_or n.numbers place 0)
       → get_or (run m is_served events n).node.numbers place 0 ≡ wrap (get_or n.numbers place 0 + hits_over files place events n)
   run_counts place [] n l f w = w ∙ ap wrap (let z : get_or n.numbers place 0 ≡ get_or n.numbers place 0 + 0 = omega arith in z)
   run_counts place (e ∷ es) n l f w =
@@ -365,6 +422,8 @@ pub hits_are_counted : HitsAreCounted
 hits_are_counted files addr events place l =
     let first : AbstractNode = initial_node addr (no_hits files) in
     let none : get_or first.numbers place 0 ≡ 0 = zero_at (length files) place in
-    run_counts files place events first (omega (arith, l, length_same (length files))) (λ i c x. subst (λ (y : Connection). Fresh files y.state y) (all_closed 10 i c x) tt)
+    run_counts files place events first (omega (arith, l, length_same (length files)))
+    (λ i c x. subst (λ (y : Connection). Fresh files y.state y) (all_closed 10 i c x) tt)
     (none ∙ ap wrap (sym none))
-    ∙ ap wrap (ap (λ k. k + hits_over files place events first) none ∙ (let z : 0 + hits_over files place events first ≡ hits_over files place events first = omega arith in z))
+    ∙ ap wrap (ap (λ k. k + hits_over files place events first) none
+    ∙ (let z : 0 + hits_over files place events first ≡ hits_over files place events first = omega arith in z))

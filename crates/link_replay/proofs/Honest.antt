@@ -1,5 +1,9 @@
 -- A schedule of one client over a link that loses nothing.
-use Rattle.link_replay.proofs.Prelude.{All, list_all, ◌≡◌, ℕ, zero, suc, ◌≤◌, ◌&&◌, true, replicate, List, [], ◌∷◌, Some, Ok, length, sym, subst, refl, ap, ◌∙◌, arith, lit<, leb, slice_get, and_parts, leb-true, All-head, All-replicate, IsU32, SiteContent, IsLoaded, files_of, pages_of, IsServedWhole, World, SchedulePlan, outcome, File, web_spec, Plan, client_in_range, is_between, IsPlan, IsPlanned, Planned, plays, Round, opening_for, plan_from, planned, server, IsHonest, rounds_for, HonestReplay, is_served, no_hits}
+use Rattle.link_replay.proofs.Prelude.{All, list_all, ◌≡◌, ℕ, zero, suc, ◌≤◌, ◌&&◌, true, replicate, List, [], ◌∷◌, Some, Ok, length, sym}
+use Rattle.link_replay.proofs.Prelude.{subst, refl, ap, ◌∙◌, arith, lit<, leb, slice_get, and_parts, leb-true, All-head, All-replicate}
+use Rattle.link_replay.proofs.Prelude.{IsU32, SiteContent, IsLoaded, files_of, pages_of, IsServedWhole, World, SchedulePlan, outcome, File}
+use Rattle.link_replay.proofs.Prelude.{web_spec, Plan, client_in_range, is_between, IsPlan, IsPlanned, Planned, plays, Round, opening_for}
+use Rattle.link_replay.proofs.Prelude.{plan_from, planned, server, IsHonest, rounds_for, HonestReplay, is_served, no_hits}
 use Rattle.link_replay.proofs.Web.{honest_pages}
 use Rattle.link_schedule.specs.declared.event.Event.{Event}
 use Rattle.link_schedule.specs.declared.event.Event.TheVariants.{Opens}
@@ -44,7 +48,8 @@ honest_outcome site loaded content plan is honest =
     let world = honest_pages site loaded is_served server (no_hits files) (planned 1 plan) server_is_addr (All-replicate IsU32 (length files) 0 (lit< tt))
     (one_plan plan is) refl honest.decided (omega (arith, room)) in
     let lines = ap (λ (events : List Event). plays (web_spec files) is_served events (opening_for (no_hits files) content.clients)) honest.lines in
-    let clients = ap (λ (plans : List Plan). plays (web_spec files) is_served (Opens 1 ∷ replicate (rounds_for files plan) Round) (opening_for (no_hits files) plans)) honest.alone in
+    let clients = ap (λ (plans : List Plan). plays (web_spec files) is_served (Opens 1 ∷ replicate (rounds_for files plan) Round)
+    (opening_for (no_hits files) plans)) honest.alone in
     (world.0, lines ∙ clients ∙ world.1, world.2)
 
 -- so it is of the world that is reached
@@ -63,6 +68,7 @@ pub honest_replay : HonestReplay
 honest_replay site loaded text content reads plan honest =
     let typed : HasTypes plan = All-head HasTypes plan [] (subst (All HasTypes) honest.alone (all_typed text content reads)) in
     let keeps = read_keeps text content reads in
-    let range : client_in_range plan ≡ true = (and_parts (client_in_range plan) true (ap (list_all client_in_range) (sym honest.alone) ∙ keeps.clients_in_range)).0 in
+    let range : client_in_range plan ≡ true = (and_parts (client_in_range plan) true (ap (list_all client_in_range) (sym honest.alone)
+    ∙ keeps.clients_in_range)).0 in
     let whole = honest_outcome site loaded content plan (is_planned plan typed range) honest in
     (whole.0, record { content = content; reads = reads; plays = whole.1 }, whole.2)

@@ -1,5 +1,6 @@
 -- A cooperating peer of the web server has its page.
-use Rattle.link_replay.proofs.Prelude.{◌<◌, ◌≤◌, List, arith, File, files_of, first_low, pages_of, wanted, web_spec, keeps_page_laws, honest_peer, of_syn, mss_low, HonestWebPeer, pieces_for, texts_for}
+use Rattle.link_replay.proofs.Prelude.{◌<◌, ◌≤◌, List, arith, File, files_of, first_low, pages_of, wanted, web_spec, keeps_page_laws}
+use Rattle.link_replay.proofs.Prelude.{honest_peer, of_syn, mss_low, HonestWebPeer, pieces_for, texts_for}
 use Rattle.link_replay.proofs.Answering.{fine, left, answers_polled}
 
 pub honest_web_peer : HonestWebPeer

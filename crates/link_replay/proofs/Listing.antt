@@ -1,5 +1,8 @@
 -- The texts of a list's elements, one after another, and the digits of bytes.
-use Rattle.link_replay.proofs.Prelude.{◌≡◌, ℕ, ◌+◌, ◌<◌, ◌≤◌, List, [], ◌∷◌, ◌++◌, length, take, drop, get_or, Option, Some, Result, Ok, Err, inl, inr, refl, sym, ap, ◌∙◌, arith, add-one, drop-cons, slice_index, slice_get, ◌/◌, ◌%◌, take-append-drop, drop_all, slice_get_cases, slice_get_within, get_or_from_slice_get, encode_with, encode_lower, Matched, numbered_texts, Wrote}
+use Rattle.link_replay.proofs.Prelude.{◌≡◌, ℕ, ◌+◌, ◌<◌, ◌≤◌, List, [], ◌∷◌, ◌++◌, length, take, drop, get_or, Option, Some, Result, Ok}
+use Rattle.link_replay.proofs.Prelude.{Err, inl, inr, refl, sym, ap, ◌∙◌, arith, add-one, drop-cons, slice_index, slice_get, ◌/◌, ◌%◌}
+use Rattle.link_replay.proofs.Prelude.{take-append-drop, drop_all, slice_get_cases, slice_get_within, get_or_from_slice_get, encode_with}
+use Rattle.link_replay.proofs.Prelude.{encode_lower, Matched, numbered_texts, Wrote}
 use Rattle.link_replay.proofs.Transmission.{Transmission, sending_more, sending_stops, sending_done}
 
 pub encode_with-append : (t xs ys : List ℕ) → encode_with t (xs ++ ys) ≡ encode_with t xs ++ encode_with t ys
@@ -54,7 +57,8 @@ module _ {X Y : Type 0} (P : X → Y → Type 0) (xs : List X) (ys : List Y) (te
 
   -- all are written
   pub texts_end : {T E : Type 0} (i : ℕ) (first now : Option (List ℕ)) (t : T) → length xs ≤ i
-      → Transmission first now (numbered_texts text 1 ys) (numbered_texts text (i + 1) (drop i ys)) → Wrote {T = T} {E = E} first now (Ok t) (numbered_texts text 1 ys)
+      → Transmission first now (numbered_texts text 1 ys) (numbered_texts text (i + 1) (drop i ys)) → Wrote {T = T} {E = E} first now (Ok t)
+      (numbered_texts text 1 ys)
   texts_end i first now t le s =
       let none : drop i ys ≡ [] = drop_all i ys (omega (arith, m.same_length)) in
       sending_done first now (numbered_texts text 1 ys) (numbered_texts text (i + 1) (drop i ys)) t s (ap (λ (l : List Y). numbered_texts text (i + 1) l) none)

@@ -1,9 +1,13 @@
 -- A cooperating peer of the web server has its page, over a link that loses, repeats and reorders datagrams.
-use Rattle.link_replay.proofs.Prelude.{◌≡◌, ◌<◌, ◌≤◌, ℕ, All, Bool, true, List, arith, Addr, AppSpec, AppState, Event, File, IsLoaded, IsSteady, IsU32, SiteContent, TraceEntry, files_of, first_low, initial_node, pages_of, steady_of, trace_of, wanted, web_spec, keeps_page_laws, lossy_syn, mss_low, LossyWebPeer, WebPeersArrive, pieces_for, texts_for, IsOfLine, ActsAs, Asker, Sockets, acts_as_itself, anywhere, arrives_acting_in}
+use Rattle.link_replay.proofs.Prelude.{◌≡◌, ◌<◌, ◌≤◌, ℕ, All, Bool, true, List, arith, Addr, AppSpec, AppState, Event, File, IsLoaded}
+use Rattle.link_replay.proofs.Prelude.{IsSteady, IsU32, SiteContent, TraceEntry, files_of, first_low, initial_node, pages_of, steady_of}
+use Rattle.link_replay.proofs.Prelude.{trace_of, wanted, web_spec, keeps_page_laws, lossy_syn, mss_low, LossyWebPeer, WebPeersArrive}
+use Rattle.link_replay.proofs.Prelude.{pieces_for, texts_for, IsOfLine, ActsAs, Asker, Sockets, acts_as_itself, anywhere, arrives_acting_in}
 use Rattle.link_replay.specs.LossyPeers.{WebPeerArrives}
 use Rattle.link_replay.proofs.Answering.{fine, left, answers_polled}
 
-module _ (site : SiteContent) (loaded : IsLoaded site) (m : AppSpec) (here : AppState → Bool) (steady : IsSteady m) (served : ℕ → Bool) (own : Addr) (hits : List ℕ) (words : All IsU32 hits) (events : List Event) (of : All (IsOfLine own) events) where
+module _ (site : SiteContent) (loaded : IsLoaded site) (m : AppSpec) (here : AppState → Bool) (steady : IsSteady m) (served : ℕ → Bool)
+    (own : Addr) (hits : List ℕ) (words : All IsU32 hits) (events : List Event) (of : All (IsOfLine own) events) where
   abbrev files : List File
   files = files_of site
 
@@ -26,4 +30,5 @@ module _ (site : SiteContent) (loaded : IsLoaded site) (m : AppSpec) (here : App
 pub lossy_web_peer : LossyWebPeer
 lossy_web_peer site loaded served own addr hits words events of a p =
     let m : AppSpec = web_spec (files_of site) in
-    peer_arrives site loaded m anywhere (steady_of m (pages_of (files_of site)) (keeps_page_laws site loaded)) served own hits words events of a p (acts_as_itself m p.own_port.0)
+    peer_arrives site loaded m anywhere (steady_of m (pages_of (files_of site)) (keeps_page_laws site loaded)) served own hits words events
+    of a p (acts_as_itself m p.own_port.0)

@@ -32,7 +32,8 @@ matched_image {X} {Y} f [] = matched_nil (λ (x : X) (y : Y). f x ≡ y)
 matched_image {X} {Y} f (x ∷ xs) = matched_cons (λ (x : X) (y : Y). f x ≡ y) x (f x) xs (map f xs) refl (matched_image f xs)
 
 -- two functions that make the same of what agrees
-pub same_images : {X Y Z : Type 0} (P : X → Y → Type 0) (f : X → Z) (g : Y → Z) (xs : List X) (ys : List Y) → ((x : X) (y : Y) → P x y → f x ≡ g y) → Matched P xs ys
+pub same_images : {X Y Z : Type 0} (P : X → Y → Type 0) (f : X → Z) (g : Y → Z) (xs : List X) (ys : List Y)
+    → ((x : X) (y : Y) → P x y → f x ≡ g y) → Matched P xs ys
     → map f xs ≡ map g ys
 same_images P f g [] [] same m = refl
 same_images P f g [] (y ∷ ys) same m = absurd (let e = m.same_length in omega arith)

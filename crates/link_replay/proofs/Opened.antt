@@ -1,17 +1,25 @@
 -- The initial world: each client represents the one that is planned, and the plan is one.
-use Rattle.link_replay.proofs.Prelude.{All, list_all, list_any, ◌≡◌, ℕ, zero, suc, ◌+◌, ◌<◌, ◌≤◌, Bool, true, false, not, ◌&&◌, List, [], ◌∷◌, ◌++◌, length, map, refl, sym, ap, ◌∙◌, subst, arith, Some, None, slice_get, eqb, leb, lit<, length-map, and_parts, and_from, leb-true, or_parts, bytes_eq, slice_get_within, Addr, Port, IsAddr, IsByte, slice_get-element, FitsRequest, abstract_client, idle, Client, Setup, Plan, are_apart, client_in_range, is_between, meets, Sockets, World, Planned, IsPlan, IsPlanned, fresh_side, sockets_in, get_push, older, newest, all_nil, all_cons, get_map, Matched, AreFresh, IsFresh, plan_from, planned, server, IsLink, SentRepresents, SideRepresents, CodeSent, Link, CodeSide}
+use Rattle.link_replay.proofs.Prelude.{All, list_all, list_any, ◌≡◌, ℕ, zero, suc, ◌+◌, ◌<◌, ◌≤◌, Bool, true, false, not, ◌&&◌, List, []}
+use Rattle.link_replay.proofs.Prelude.{◌∷◌, ◌++◌, length, map, refl, sym, ap, ◌∙◌, subst, arith, Some, None, slice_get, eqb, leb, lit<}
+use Rattle.link_replay.proofs.Prelude.{length-map, and_parts, and_from, leb-true, or_parts, bytes_eq, slice_get_within, Addr, Port, IsAddr}
+use Rattle.link_replay.proofs.Prelude.{IsByte, slice_get-element, FitsRequest, abstract_client, idle, Client, Setup, Plan, are_apart}
+use Rattle.link_replay.proofs.Prelude.{client_in_range, is_between, meets, Sockets, World, Planned, IsPlan, IsPlanned, fresh_side}
+use Rattle.link_replay.proofs.Prelude.{sockets_in, get_push, older, newest, all_nil, all_cons, get_map, Matched, AreFresh, IsFresh}
+use Rattle.link_replay.proofs.Prelude.{plan_from, planned, server, IsLink, SentRepresents, SideRepresents, CodeSent, Link, CodeSide}
 use Rattle.std.proofs.lemmas.Bool.{eq-eqb, not-true}
 
 pub server_is_addr : IsAddr server
 server_is_addr = record {
   four = refl;
-  all_bytes = all_cons IsByte 10 (0 ∷ 0 ∷ 1 ∷ []) (lit< tt) (all_cons IsByte 0 (0 ∷ 1 ∷ []) (lit< tt) (all_cons IsByte 0 (1 ∷ []) (lit< tt) (all_cons IsByte 1 [] (lit< tt) (all_nil IsByte))));
+  all_bytes = all_cons IsByte 10 (0 ∷ 0 ∷ 1 ∷ []) (lit< tt)
+      (all_cons IsByte 0 (0 ∷ 1 ∷ []) (lit< tt) (all_cons IsByte 0 (1 ∷ []) (lit< tt) (all_cons IsByte 1 [] (lit< tt) (all_nil IsByte))));
 }
 
 -- one client
 pub fresh : (number : ℕ) (plan : Plan) (setup : Setup) (client : Client) (request received : List ℕ) → number ≤ 64 → client_in_range plan ≡ true
     → setup ≡ (planned number plan).setup → IsAddr plan.addr → plan.port.0 < 65536 → plan.mss < 65536 → All IsByte plan.request
-    → request ≡ plan.request → received ≡ [] → ((r : List ℕ) → abstract_client client r [] ≡ idle setup r) → ((r : List ℕ) → length r ≤ 4096 → FitsRequest client r)
+    → request ≡ plan.request → received ≡ [] → ((r : List ℕ) → abstract_client client r [] ≡ idle setup r)
+    → ((r : List ℕ) → length r ≤ 4096 → FitsRequest client r)
     → IsFresh number plan (record { client = client; request = request; received = received; epoch = 0; first_stale = None })
 fresh number plan setup client request received few range e addr port mss bytes asked none is_idle fits =
     let parts = and_parts (is_between 1 65535 plan.port.0 && is_between 1 1460 plan.seg) (is_between 1 4096 (length plan.request)) range in
@@ -40,7 +48,8 @@ fresh number plan setup client request received few range e addr port mss bytes 
       };
     }
 
-pub in_range_at : (clients : List Plan) (i : ℕ) (plan : Plan) → list_all client_in_range clients ≡ true → slice_get clients i ≡ Some plan → client_in_range plan ≡ true
+pub in_range_at : (clients : List Plan) (i : ℕ) (plan : Plan) → list_all client_in_range clients ≡ true → slice_get clients i ≡ Some plan
+    → client_in_range plan ≡ true
 in_range_at [] i plan h g = absurd (cc)
 in_range_at (x ∷ xs) zero plan h g =
     let e : x ≡ plan = cc in
@@ -61,7 +70,8 @@ one_more clients sides at plan new there size is h i p side g s =
           let number : at + 1 ≡ suc i = omega (arith, here) in
           let found : slice_get clients i ≡ Some plan = ap (slice_get clients) here ∙ there in
           let meant : plan ≡ p = cc in
-          subst (λ (n : ℕ). IsFresh n p side) number (subst (λ (x : Plan). IsFresh (at + 1) x side) meant (subst (λ (x : CodeSide). IsFresh (at + 1) plan x) q is)))
+          subst (λ (n : ℕ). IsFresh n p side) number (subst (λ (x : Plan). IsFresh (at + 1) x side) meant
+          (subst (λ (x : CodeSide). IsFresh (at + 1) plan x) q is)))
     ]
 
 -- what is at an index of a plan
@@ -88,7 +98,8 @@ plan_length number (x ∷ xs) = ap suc (plan_length (number + 1) xs)
 first_number : (i : ℕ) → 1 + i ≡ suc i
 first_number i = omega arith
 
-pub all_planned : (plans : List Plan) (sides : List CodeSide) → AreFresh plans sides → (k : ℕ) (p : Planned) → slice_get (plan_from 1 plans) k ≡ Some p → IsPlanned p
+pub all_planned : (plans : List Plan) (sides : List CodeSide) → AreFresh plans sides → (k : ℕ) (p : Planned)
+    → slice_get (plan_from 1 plans) k ≡ Some p → IsPlanned p
 all_planned plans sides h k p g =
     let r = planned_at 1 plans k p g in
     let l = slice_get_within plans k r.plan r.get in
@@ -101,16 +112,19 @@ sides_represent plans sides h = record {
   each = λ i x y g f.
       (let m = get_map fresh_side (plan_from 1 plans) i y f in
       let r = planned_at 1 plans i m.from m.get in
-      subst (SideRepresents x) (ap (λ (n : ℕ). fresh_side (planned n r.plan)) (sym (first_number i)) ∙ ap fresh_side (sym r.is) ∙ m.is) (h.each i r.plan x r.get g).represented);
+      subst (SideRepresents x) (ap (λ (n : ℕ). fresh_side (planned n r.plan)) (sym (first_number i)) ∙ ap fresh_side (sym r.is) ∙ m.is)
+      (h.each i r.plan x r.get g).represented);
 }
 
-fresh_at : (plans : List Plan) (sides : List CodeSide) → AreFresh plans sides → (i : ℕ) (side : CodeSide) → slice_get sides i ≡ Some side → (plan : Plan) × IsFresh (suc i) plan side
+fresh_at : (plans : List Plan) (sides : List CodeSide) → AreFresh plans sides → (i : ℕ) (side : CodeSide) → slice_get sides i ≡ Some side
+    → (plan : Plan) × IsFresh (suc i) plan side
 fresh_at plans sides h i side g =
     let l = slice_get_within sides i side g in
     let p = slice_get-element plans i (omega (arith, l, h.same_length)) in
     (p.0, h.each i p.0 side p.1 g)
 
-pub link_opened : (addr : Addr) (link : Link) (plans : List Plan) → AreFresh plans link.sides → length plans ≤ 64 → link.sent ≡ [] → addr ≡ server → IsLink addr link
+pub link_opened : (addr : Addr) (link : Link) (plans : List Plan) → AreFresh plans link.sides → length plans ≤ 64 → link.sent ≡ []
+    → addr ≡ server → IsLink addr link
 link_opened addr link plans h few none at = record {
   few = omega (arith, few, h.same_length);
   clients = λ i side g. (fresh_at plans link.sides h i side g).1.fits;
@@ -138,7 +152,8 @@ meets_same p q a b =
     and_from (bytes_eq p.addr.0 q.addr.0) (eqb p.port.0 q.port.0)
     (ap (λ (z : Addr). bytes_eq p.addr.0 z.0) (sym a) ∙ bytes_same p.addr.0) (eq-eqb p.port.0 q.port.0 (ap (λ (z : Port). z.0) b))
 
-later_apart : (plans : List Plan) → are_apart plans ≡ true → (j k : ℕ) (p q : Plan) → slice_get plans j ≡ Some p → slice_get plans k ≡ Some q → j < k → meets p q ≡ true → ⊥
+later_apart : (plans : List Plan) → are_apart plans ≡ true → (j k : ℕ) (p q : Plan) → slice_get plans j ≡ Some p
+    → slice_get plans k ≡ Some q → j < k → meets p q ≡ true → ⊥
 later_apart [] h j k p q g f l m = cc
 later_apart (x ∷ xs) h zero zero p q g f l m = omega (arith, l)
 later_apart (x ∷ xs) h zero (suc k) p q g f l m =
@@ -152,7 +167,8 @@ later_apart (x ∷ xs) h (suc j) (suc k) p q g f l m =
 one_place : (j k : ℕ) → (j < k → ⊥) → (k < j → ⊥) → j ≡ k
 one_place j k a b = omega (arith, a, b)
 
-pub is_plan : (plans : List Plan) → are_apart plans ≡ true → ((k : ℕ) (p : Planned) → slice_get (plan_from 1 plans) k ≡ Some p → IsPlanned p) → IsPlan (plan_from 1 plans)
+pub is_plan : (plans : List Plan) → are_apart plans ≡ true → ((k : ℕ) (p : Planned) → slice_get (plan_from 1 plans) k ≡ Some p
+    → IsPlanned p) → IsPlan (plan_from 1 plans)
 is_plan plans apart each = record {
   each = each;
   apart = λ j k p q g f e.

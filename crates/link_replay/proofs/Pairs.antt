@@ -1,5 +1,7 @@
 -- Lists that agree at each index continue to do so.
-use Rattle.link_replay.proofs.Prelude.{◌≡◌, ℕ, zero, suc, ◌+◌, ◌-◌, ◌<◌, List, [], ◌∷◌, ◌++◌, length, set, refl, sym, ap, ◌∙◌, subst, arith, Some, None, inl, inr, slice_get, slice_get_cases, slice_get_past, get_or, drop, length-append, length-set, numbered, get_push, older, newest, get_set, here, there, Matched}
+use Rattle.link_replay.proofs.Prelude.{◌≡◌, ℕ, zero, suc, ◌+◌, ◌-◌, ◌<◌, List, [], ◌∷◌, ◌++◌, length, set, refl, sym, ap, ◌∙◌, subst, arith}
+use Rattle.link_replay.proofs.Prelude.{Some, None, inl, inr, slice_get, slice_get_cases, slice_get_past, get_or, drop, length-append}
+use Rattle.link_replay.proofs.Prelude.{length-set, numbered, get_push, older, newest, get_set, here, there, Matched}
 use Rattle.std.proofs.Math.Seq.{drop-cons}
 
 inside : {X : Type 0} (xs : List X) (i : ℕ) (x : X) → slice_get xs i ≡ Some x → i < length xs

@@ -1,5 +1,9 @@
 -- The bytes of a datagram stay the same while its world's addresses and ports do.
-use Rattle.link_replay.proofs.Prelude.{◌≡◌, ℕ, zero, suc, Bool, List, [], ◌∷◌, ◌++◌, refl, sym, ap, ◌∙◌, subst, Option, Some, None, slice_get, set, length-set, ◌≤◌, option_map_or, Addr, ticks_of, PlainSegment, Setup, World, Side, Sent, Content, numbered, epoch_of, posts, with_side, OfSegment, OfPing, OfEcho, bytes_by, client_bytes, node_bytes, Who, FromClient, FromNode, Pinger, Matched, FitsRequest, get_set, here, there, SideRepresents, SentRepresents, LinkRepresents, IsLink, Link, link_of, CodeSide, CodeSent}
+use Rattle.link_replay.proofs.Prelude.{◌≡◌, ℕ, zero, suc, Bool, List, [], ◌∷◌, ◌++◌, refl, sym, ap, ◌∙◌, subst, Option, Some, None}
+use Rattle.link_replay.proofs.Prelude.{slice_get, set, length-set, ◌≤◌, option_map_or, Addr, ticks_of, PlainSegment, Setup, World, Side}
+use Rattle.link_replay.proofs.Prelude.{Sent, Content, numbered, epoch_of, posts, with_side, OfSegment, OfPing, OfEcho, bytes_by}
+use Rattle.link_replay.proofs.Prelude.{client_bytes, node_bytes, Who, FromClient, FromNode, Pinger, Matched, FitsRequest, get_set, here}
+use Rattle.link_replay.proofs.Prelude.{there, SideRepresents, SentRepresents, LinkRepresents, IsLink, Link, link_of, CodeSide, CodeSent}
 use Rattle.link_replay.proofs.Pairs.{push, put, turn}
 
 -- the same addresses and ports, or no client on either side
@@ -19,9 +23,11 @@ client_same id s (Some x) (Some y) h = ap (λ (z : Setup). client_bytes id s (re
 client_same id s None (Some y) h = absurd h
 client_same id s (Some x) None h = absurd h
 
-node_same : (a b : Addr) (id : ℕ) (s : PlainSegment) (x y : Option Side) → a ≡ b → Sames x y → option_map_or (node_bytes a id s) x [] ≡ option_map_or (node_bytes b id s) y []
+node_same : (a b : Addr) (id : ℕ) (s : PlainSegment) (x y : Option Side) → a ≡ b → Sames x y → option_map_or (node_bytes a id s) x []
+    ≡ option_map_or (node_bytes b id s) y []
 node_same a b id s None None e h = refl
-node_same a b id s (Some x) (Some y) e h = ap (λ z. node_bytes z id s x) e ∙ ap (λ (z : Setup). node_bytes b id s (record x { client = record x.client { setup = z } })) h
+node_same a b id s (Some x) (Some y) e h = ap (λ z. node_bytes z id s x) e
+    ∙ ap (λ (z : Setup). node_bytes b id s (record x { client = record x.client { setup = z } })) h
 node_same a b id s None (Some y) e h = absurd h
 node_same a b id s (Some x) None e h = absurd h
 
@@ -29,14 +35,17 @@ same_numbered : (xs ys : List Side) (n : ℕ) → SamePlaces xs ys → Sames (nu
 same_numbered xs ys zero h = tt
 same_numbered xs ys (suc n) h = h.each n
 
-by_same : (w v : World) → w.node.addr ≡ v.node.addr → SamePlaces w.sides v.sides → (who : Who) (content : Content) → bytes_by w who content ≡ bytes_by v who content
+by_same : (w v : World) → w.node.addr ≡ v.node.addr → SamePlaces w.sides v.sides → (who : Who) (content : Content) → bytes_by w who content
+    ≡ bytes_by v who content
 by_same w v a h (FromClient n) (OfSegment id s) = client_same id s (numbered w.sides n) (numbered v.sides n) (same_numbered w.sides v.sides n h)
-by_same w v a h (FromNode n) (OfSegment id s) = node_same w.node.addr v.node.addr id s (numbered w.sides n) (numbered v.sides n) a (same_numbered w.sides v.sides n h)
+by_same w v a h (FromNode n) (OfSegment id s) = node_same w.node.addr v.node.addr id s (numbered w.sides n) (numbered v.sides n) a
+    (same_numbered w.sides v.sides n h)
 by_same w v a h Pinger (OfSegment id s) = refl
 by_same w v a h who (OfPing datagram) = refl
 by_same w v a h who (OfEcho request) = refl
 
-pub sent_stays : (w v : World) → w.node.addr ≡ v.node.addr → SamePlaces w.sides v.sides → (xs : List CodeSent) (ys : List Sent) → Matched (SentRepresents w) xs ys → Matched (SentRepresents v) xs ys
+pub sent_stays : (w v : World) → w.node.addr ≡ v.node.addr → SamePlaces w.sides v.sides → (xs : List CodeSent) (ys : List Sent)
+    → Matched (SentRepresents w) xs ys → Matched (SentRepresents v) xs ys
 sent_stays w v a h xs ys m = turn (SentRepresents w) (SentRepresents v) xs ys (λ x y p. record {
   who = p.who;
   tick = p.tick;
@@ -46,12 +55,15 @@ sent_stays w v a h xs ys m = turn (SentRepresents w) (SentRepresents v) xs ys (�
 }) m
 
 -- one more datagram on both sides
-pub posted : (w : World) (xs : List CodeSent) (x : CodeSent) (who : Who) (again : Bool) (content : Content) → Matched (SentRepresents w) xs w.sent → SentRepresents w x (record { who = who; tick = ticks_of w.node.history; epoch = epoch_of who w.sides; again = again; content = content })
+pub posted : (w : World) (xs : List CodeSent) (x : CodeSent) (who : Who) (again : Bool) (content : Content)
+    → Matched (SentRepresents w) xs w.sent → SentRepresents w x
+    (record { who = who; tick = ticks_of w.node.history; epoch = epoch_of who w.sides; again = again; content = content })
     → Matched (SentRepresents (posts w who again content)) (xs ++ x ∷ []) (posts w who again content).sent
 posted w xs x who again content m p =
     let e : Sent = record { who = who; tick = ticks_of w.node.history; epoch = epoch_of who w.sides; again = again; content = content } in
     let v : World = posts w who again content in
-    turn (SentRepresents w) (SentRepresents v) (xs ++ x ∷ []) (w.sent ++ e ∷ []) (λ a b q. record { who = q.who; tick = q.tick; epoch = q.epoch; again = q.again; bytes = q.bytes })
+    turn (SentRepresents w) (SentRepresents v) (xs ++ x ∷ []) (w.sent ++ e ∷ [])
+    (λ a b q. record { who = q.who; tick = q.tick; epoch = q.epoch; again = q.again; bytes = q.bytes })
     (push (SentRepresents w) xs w.sent x e m p)
 
 -- a client is put anew
@@ -59,14 +71,16 @@ sames_refl : (x : Option Side) → Sames x x
 sames_refl None = tt
 sames_refl (Some x) = refl
 
-get_put : (xs : List Side) (n : ℕ) (old new : Side) → slice_get xs n ≡ Some old → new.client.setup ≡ old.client.setup → (i : ℕ) → Sames (slice_get xs i) (slice_get (set xs n new) i)
+get_put : (xs : List Side) (n : ℕ) (old new : Side) → slice_get xs n ≡ Some old → new.client.setup ≡ old.client.setup → (i : ℕ)
+    → Sames (slice_get xs i) (slice_get (set xs n new) i)
 get_put [] n old new h e i = absurd (cc)
 get_put (x ∷ xs) zero old new h e zero = let q : x ≡ old = cc in ap (λ (z : Side). z.client.setup) q ∙ sym e
 get_put (x ∷ xs) zero old new h e (suc i) = sames_refl (slice_get xs i)
 get_put (x ∷ xs) (suc n) old new h e zero = refl
 get_put (x ∷ xs) (suc n) old new h e (suc i) = get_put xs n old new h e i
 
-pub side_put : (link : Link) (w : World) (n : ℕ) (new : CodeSide) (s t : Side) → LinkRepresents link w → slice_get w.sides n ≡ Some s → t.client.setup ≡ s.client.setup → SideRepresents new t
+pub side_put : (link : Link) (w : World) (n : ℕ) (new : CodeSide) (s t : Side) → LinkRepresents link w → slice_get w.sides n ≡ Some s
+    → t.client.setup ≡ s.client.setup → SideRepresents new t
     → LinkRepresents (record link { sides = set link.sides n new }) (with_side w (suc n) t)
 side_put link w n new s t h g e p = record {
   sides = put SideRepresents link.sides w.sides n new t h.sides p;
@@ -77,8 +91,14 @@ pub link_put : (addr : Addr) (link : Link) (n : ℕ) (new : CodeSide) → IsLink
     → IsLink addr (record link { sides = set link.sides n new })
 link_put addr link n new h c e = record {
   few = subst (λ k. k ≤ 64) (sym (length-set link.sides n new)) h.few;
-  clients = λ i side g. elim (get_set link.sides n new i side g) [ here q p ↦ subst (λ (z : CodeSide). FitsRequest z.client z.request) p c | there q o ↦ h.clients i side o ];
-  servers = λ i side g. elim (get_set link.sides n new i side g) [ here q p ↦ subst (λ (z : CodeSide). z.client.setup.server ≡ addr) p e | there q o ↦ h.servers i side o ];
+  clients = λ i side g. elim (get_set link.sides n new i side g) [
+    | here q p ↦ subst (λ (z : CodeSide). FitsRequest z.client z.request) p c
+    | there q o ↦ h.clients i side o
+  ];
+  servers = λ i side g. elim (get_set link.sides n new i side g) [
+    | here q p ↦ subst (λ (z : CodeSide). z.client.setup.server ≡ addr) p e
+    | there q o ↦ h.servers i side o
+  ];
   many = h.many;
   sizes = h.sizes;
 }

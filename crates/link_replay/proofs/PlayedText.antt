@@ -1,5 +1,11 @@
 -- What is due for a schedule that was played by the server of a site.
-use Rattle.link_replay.proofs.Prelude.{All, ◌≡◌, ℕ, List, Result, Ok, Err, length, sym, subst, refl, inl, inr, ap, ◌∙◌, Bool, lit<, All-replicate, AppSpec, IsByte, IsPaged, IsU32, Pages, SiteContent, IsLoaded, files_of, File, pages_of, web_spec, keeps_page_laws, ReadsSchedule, IfOk, MatchResult, Some, slice_get, BadText, SchedulePlan, read_text, ReadSchedule, Bad, HasBytes, plays, World, plan_from, PlaysSchedule, Reaches, Refuses, IsAt, bad_schedule, outcome, is_served, no_hits, WritesDue, IsPlayDue, IsTextDue, WritesFault, reported_of, HasReached, ServesHonest, KeepsPromises, ReplayEnd, OutputForm, Report, Planned, IsPlanned, WritesEnd, SinkView}
+use Rattle.link_replay.proofs.Prelude.{All, ◌≡◌, ℕ, List, Result, Ok, Err, length, sym, subst, refl, inl, inr, ap, ◌∙◌, Bool, lit<}
+use Rattle.link_replay.proofs.Prelude.{All-replicate, AppSpec, IsByte, IsPaged, IsU32, Pages, SiteContent, IsLoaded, files_of, File}
+use Rattle.link_replay.proofs.Prelude.{pages_of, web_spec, keeps_page_laws, ReadsSchedule, IfOk, MatchResult, Some, slice_get, BadText}
+use Rattle.link_replay.proofs.Prelude.{SchedulePlan, read_text, ReadSchedule, Bad, HasBytes, plays, World, plan_from, PlaysSchedule}
+use Rattle.link_replay.proofs.Prelude.{Reaches, Refuses, IsAt, bad_schedule, outcome, is_served, no_hits, WritesDue, IsPlayDue, IsTextDue}
+use Rattle.link_replay.proofs.Prelude.{WritesFault, reported_of, HasReached, ServesHonest, KeepsPromises, ReplayEnd, OutputForm, Report}
+use Rattle.link_replay.proofs.Prelude.{Planned, IsPlanned, WritesEnd, SinkView}
 use Rattle.link_schedule.specs.declared.read_schedule.ReadSchedule.TheVariants.{NoMemory}
 use Rattle.link_replay.specs.declared.commands.replay_end.ReplayEnd.TheVariants as ends
 use Rattle.link_replay.proofs.Honest.{honest_at}
@@ -10,11 +16,13 @@ abbrev pub ForPages : List File → List ℕ → Type 0 → Type 0
 ForPages files hits Done = (pages : Pages) → IsPaged (web_spec files) pages → HasBytes pages → All IsU32 hits → Done
 
 -- what holds of a site that was loaded holds of the one that it is
-pub at_site : (P : SiteContent → Type 0) (site given : SiteContent) (hits : List ℕ) → site ≡ given → IsLoaded given → All IsByte given.image → hits ≡ no_hits (files_of given)
+pub at_site : (P : SiteContent → Type 0) (site given : SiteContent) (hits : List ℕ) → site ≡ given → IsLoaded given → All IsByte given.image
+    → hits ≡ no_hits (files_of given)
     → (IsLoaded site → All IsByte site.image → hits ≡ no_hits (files_of site) → P site) → P given
 at_site P site given hits same loaded bytes none done =
     subst P same
-    (done (subst IsLoaded (sym same) loaded) (subst (λ (s : SiteContent). All IsByte s.image) (sym same) bytes) (none ∙ ap (λ (s : SiteContent). no_hits (files_of s)) (sym same)))
+    (done (subst IsLoaded (sym same) loaded) (subst (λ (s : SiteContent). All IsByte s.image) (sym same) bytes)
+    (none ∙ ap (λ (s : SiteContent). no_hits (files_of s)) (sym same)))
 
 -- a site has pages, and its counts are words before the first request
 web_has : (site : SiteContent) → IsLoaded site → All IsByte site.image → (hits : List ℕ) → hits ≡ no_hits (files_of site)
@@ -29,7 +37,8 @@ pub plays_for_site : {X : Type 0} (Now : X → World → Type 0) (content : Sche
     → ForPages (files_of site) hits (PlaysSchedule (web_spec (files_of site)) is_served hits content Now result)
     → PlaysSchedule (web_spec (files_of given)) is_served (no_hits (files_of given)) content Now result
 plays_for_site Now content result site given hits same loaded bytes none plays_for =
-    at_site (λ (s : SiteContent). PlaysSchedule (web_spec (files_of s)) is_served (no_hits (files_of s)) content Now result) site given hits same loaded bytes none
+    at_site (λ (s : SiteContent). PlaysSchedule (web_spec (files_of s)) is_served (no_hits (files_of s)) content Now result) site given hits
+    same loaded bytes none
     (λ here all_bytes counts. subst (λ (h : List ℕ). PlaysSchedule (web_spec (files_of site)) is_served h content Now result) counts
     (web_has site here all_bytes hits counts (PlaysSchedule (web_spec (files_of site)) is_served hits content Now result) plays_for))
 
@@ -63,7 +72,8 @@ module _ (site : SiteContent) (loaded : IsLoaded site) (content : SchedulePlan) 
   pub played_due : All IsByte site.image → (Now : World → Type 0)
       → ((k : ℕ) (p : Planned) → slice_get (plan_from 1 content.clients) k ≡ Some p → IsPlanned p)
       → Reaches (web_spec (files_of site)) is_served Now (outcome (files_of site) content)
-      → ((m : AppSpec) (served : ℕ → Bool) (w : World) → Now w → IsAt m served w → WritesEnd ends.Done ends.WriteFault old new (reported_of chosen_form w) result)
+      → ((m : AppSpec) (served : ℕ → Bool) (w : World) → Now w → IsAt m served w → WritesEnd ends.Done ends.WriteFault old new
+      (reported_of chosen_form w) result)
       → WritesDue (IsPlayDue (files_of site) content chosen_form) old new result
   played_due bytes Now are_planned reach wrote =
       let due : IsPlayDue (files_of site) content chosen_form (reported_of chosen_form reach.world) ends.Done = record {
@@ -88,7 +98,8 @@ module _ (site : SiteContent) (loaded : IsLoaded site) (content : SchedulePlan) 
 -- what is due where a text reads so
 abbrev ReadDue : List File → Bool → List ℕ → ReplayEnd → Result SchedulePlan BadText → Type 0
 ReadDue files show text end r =
-    MatchResult r (λ content. IsPlayDue files content (Report show) text end) (λ bad. (end ≡ ends.BadSchedule bad.line bad.why) × (text ≡ bad_schedule bad.line bad.why))
+    MatchResult r (λ content. IsPlayDue files content (Report show) text end) (λ bad. (end ≡ ends.BadSchedule bad.line bad.why)
+    × (text ≡ bad_schedule bad.line bad.why))
 
 pub text_answers : (files : List File) (bytes : List ℕ) (content : SchedulePlan) (show : Bool) → read_text bytes ≡ Ok content
     → (old new : SinkView) (result : ReplayEnd) → WritesDue (IsPlayDue files content (Report show)) old new result

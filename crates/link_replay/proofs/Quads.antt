@@ -1,5 +1,6 @@
 -- A dotted quad spells an address.
-use Rattle.link_replay.proofs.Prelude.{IfSome, ◌≡◌, ℕ, Bool, true, false, cond, List, [], ◌∷◌, Option, Some, None, refl, ltb, ltb-true, All-cons, All-nil, cut_at_dot, part_number, quad_of, numeral, IsAddr, IsByte}
+use Rattle.link_replay.proofs.Prelude.{IfSome, ◌≡◌, ℕ, Bool, true, false, cond, List, [], ◌∷◌, Option, Some, None, refl, ltb, ltb-true}
+use Rattle.link_replay.proofs.Prelude.{All-cons, All-nil, cut_at_dot, part_number, quad_of, numeral, IsAddr, IsByte}
 use Rattle.uip_wire.specs.Addr.{◌>>=◌}
 
 -- what passes a test
@@ -39,4 +40,5 @@ quad_is_addr text =
     cut IsQuad (cut_at_dot text) _
     (λ first. cut IsQuad (cut_at_dot first.1) _
     (λ second. cut IsQuad (cut_at_dot second.1) _
-    (λ third. of_bytes (part_number first.0) (part_number second.0) (part_number third.0) (part_number third.1) (byte_of first.0) (byte_of second.0) (byte_of third.0) (byte_of third.1))))
+    (λ third. of_bytes (part_number first.0) (part_number second.0) (part_number third.0) (part_number third.1) (byte_of first.0)
+    (byte_of second.0) (byte_of third.0) (byte_of third.1))))

@@ -1,5 +1,8 @@
 -- Where accepted acts lead from a world of a replay.
-use Rattle.link_replay.proofs.Prelude.{All, ◌≡◌, ℕ, List, [], ◌∷◌, ◌++◌, sym, ap, ◌∙◌, inl, refl, subst, Bool, Result, Ok, Err, IsErr, IsErrAnd, All-append, AppSpec, World, acts, runs, started, Act, StepFault, IsAct, IsReached, with_mark, runs_mark, runs_joined, reached_sound, sound_marked, all_nil, all_cons, IsAt, ActsEnd, ActSteps, DamageLoses, Stops, StopsAt, NoDatagram, NoByte, AlreadyOpen, NotOpen, Full, NoMemory}
+use Rattle.link_replay.proofs.Prelude.{All, ◌≡◌, ℕ, List, [], ◌∷◌, ◌++◌, sym, ap, ◌∙◌, inl, refl, subst, Bool, Result, Ok, Err, IsErr}
+use Rattle.link_replay.proofs.Prelude.{IsErrAnd, All-append, AppSpec, World, acts, runs, started, Act, StepFault, IsAct, IsReached}
+use Rattle.link_replay.proofs.Prelude.{with_mark, runs_mark, runs_joined, reached_sound, sound_marked, all_nil, all_cons, IsAt, ActsEnd}
+use Rattle.link_replay.proofs.Prelude.{ActSteps, DamageLoses, Stops, StopsAt, NoDatagram, NoByte, AlreadyOpen, NotOpen, Full, NoMemory}
 use Rattle.link_schedule.specs.Numbers.{◌>>=◌}
 use Rattle.link_world.proofs.DamageThere.{there}
 
@@ -66,13 +69,19 @@ module _ (m : AppSpec) (served : ℕ → Bool) where
       }
 
   pub stopped : (Before Now : World → Type 0) (w : World) (act : Act) (left all : List Act) (fault : StepFault) →
-      ((v : World) → IsAt m served v → Before v → ActSteps Now v (Err fault) (acts m served v act)) → Gone Before w all (act ∷ left) → Stops m served Now all w (Err fault)
+      ((v : World) → IsAt m served v → Before v → ActSteps Now v (Err fault) (acts m served v act)) → Gone Before w all (act ∷ left)
+      → Stops m served Now all w (Err fault)
   stopped Before Now w act left all NoMemory f h = tt
-  stopped Before Now w act left all NoDatagram f h = let s = f h.world h.at h.now in record { before = h.before; act = act; after = left; joined = h.joined; world = h.world; reached = h.reached; refused = s.0; now = s.1 }
-  stopped Before Now w act left all NoByte f h = let s = f h.world h.at h.now in record { before = h.before; act = act; after = left; joined = h.joined; world = h.world; reached = h.reached; refused = s.0; now = s.1 }
-  stopped Before Now w act left all AlreadyOpen f h = let s = f h.world h.at h.now in record { before = h.before; act = act; after = left; joined = h.joined; world = h.world; reached = h.reached; refused = s.0; now = s.1 }
-  stopped Before Now w act left all NotOpen f h = let s = f h.world h.at h.now in record { before = h.before; act = act; after = left; joined = h.joined; world = h.world; reached = h.reached; refused = s.0; now = s.1 }
-  stopped Before Now w act left all Full f h = let s = f h.world h.at h.now in record { before = h.before; act = act; after = left; joined = h.joined; world = h.world; reached = h.reached; refused = s.0; now = s.1 }
+  stopped Before Now w act left all NoDatagram f h = let s = f h.world h.at h.now in
+      record { before = h.before; act = act; after = left; joined = h.joined; world = h.world; reached = h.reached; refused = s.0; now = s.1 }
+  stopped Before Now w act left all NoByte f h = let s = f h.world h.at h.now in
+      record { before = h.before; act = act; after = left; joined = h.joined; world = h.world; reached = h.reached; refused = s.0; now = s.1 }
+  stopped Before Now w act left all AlreadyOpen f h = let s = f h.world h.at h.now in
+      record { before = h.before; act = act; after = left; joined = h.joined; world = h.world; reached = h.reached; refused = s.0; now = s.1 }
+  stopped Before Now w act left all NotOpen f h = let s = f h.world h.at h.now in
+      record { before = h.before; act = act; after = left; joined = h.joined; world = h.world; reached = h.reached; refused = s.0; now = s.1 }
+  stopped Before Now w act left all Full f h = let s = f h.world h.at h.now in
+      record { before = h.before; act = act; after = left; joined = h.joined; world = h.world; reached = h.reached; refused = s.0; now = s.1 }
 
   -- what all acts reach, those that are left reach
   runs_left : (Now : World → Type 0) (w : World) (all left : List Act) (h : Gone Now w all left) → runs m served all w ≡ runs m served left h.world
@@ -90,8 +99,10 @@ module _ (m : AppSpec) (served : ℕ → Bool) where
       ∙ ap (λ (r : Result World StepFault). r >>= runs m served h.after) h.refused
 
   -- acts that stopped before one of them end there
-  pub ends_stopped : (Now : World → Type 0) (all : List Act) (w : World) (r : Result (Unit {0}) StepFault) (e : StepFault) → r ≡ Err e → Stops m served Now all w r → ActsEnd Now r (runs m served all w)
-  ends_stopped Now all w r e q h = subst (λ (x : Result (Unit {0}) StepFault). ActsEnd Now x (runs m served all w)) (sym q) (by_fault e (subst (λ (x : Result (Unit {0}) StepFault). Stops m served Now all w x) q h))
+  pub ends_stopped : (Now : World → Type 0) (all : List Act) (w : World) (r : Result (Unit {0}) StepFault) (e : StepFault) → r ≡ Err e
+      → Stops m served Now all w r → ActsEnd Now r (runs m served all w)
+  ends_stopped Now all w r e q h = subst (λ (x : Result (Unit {0}) StepFault). ActsEnd Now x (runs m served all w)) (sym q)
+      (by_fault e (subst (λ (x : Result (Unit {0}) StepFault). Stops m served Now all w x) q h))
     where
       by_fault : (fault : StepFault) → Stops m served Now all w (Err fault) → ActsEnd Now (Err fault) (runs m served all w)
       by_fault NoMemory h = tt

@@ -1,5 +1,8 @@
 -- What is known of the datagrams of a world of a replay.
-use Rattle.link_replay.proofs.Prelude.{◌≡◌, ℕ, zero, suc, ◌≤◌, Bool, refl, sym, subst, Some, length, slice_get, List, Addr, LARGEST_DATAGRAM, AppSpec, bytes_by, sent_bytes, World, Sent, Content, numbered, OfSegment, OfPing, OfEcho, Who, FromClient, FromNode, Pinger, IsRead, IsSentBy, bytes_are_read, reached_sound, sent_to_clients, SoundWorld, IsAt, IsLink, Link, CodeSent}
+use Rattle.link_replay.proofs.Prelude.{◌≡◌, ℕ, zero, suc, ◌≤◌, Bool, refl, sym, subst, Some, length, slice_get, List, Addr}
+use Rattle.link_replay.proofs.Prelude.{LARGEST_DATAGRAM, AppSpec, bytes_by, sent_bytes, World, Sent, Content, numbered, OfSegment, OfPing}
+use Rattle.link_replay.proofs.Prelude.{OfEcho, Who, FromClient, FromNode, Pinger, IsRead, IsSentBy, bytes_are_read, reached_sound}
+use Rattle.link_replay.proofs.Prelude.{sent_to_clients, SoundWorld, IsAt, IsLink, Link, CodeSent}
 use Rattle.link_replay.proofs.Reaching.{reached_at}
 
 bytes_mark : (w : World) (k : ℕ) (who : Who) (content : Content) → bytes_by (record w { mark = k }) who content ≡ bytes_by w who content
@@ -34,9 +37,11 @@ module _ (m : AppSpec) (served : ℕ → Bool) (w : World) (h : IsAt m served w)
   sent_at n e g = sent_to_clients m h.pages h.lawful (record w { mark = 0 }) (reached_at m served w h) n e g
 
   pub sound_at : SoundWorld w
-  sound_at = let s = reached_sound m h.pages h.lawful h.bytes (record w { mark = 0 }) (reached_at m served w h) in record { addr = s.addr; conns = s.conns; sides = s.sides; sent = s.sent }
+  sound_at = let s = reached_sound m h.pages h.lawful h.bytes (record w { mark = 0 }) (reached_at m served w h) in
+      record { addr = s.addr; conns = s.conns; sides = s.sides; sent = s.sent }
 
 -- a datagram that was read fits the largest one
-pub sent_fits : (addr : Addr) (link : Link) (number : ℕ) (x : CodeSent) → Some x ≡ numbered link.sent number → IsLink addr link → length x.bytes ≤ LARGEST_DATAGRAM
+pub sent_fits : (addr : Addr) (link : Link) (number : ℕ) (x : CodeSent) → Some x ≡ numbered link.sent number → IsLink addr link
+    → length x.bytes ≤ LARGEST_DATAGRAM
 sent_fits addr link zero x h kept = absurd (cc)
 sent_fits addr link (suc n) x h kept = kept.sizes n x (sym h)

@@ -1,5 +1,8 @@
 -- What a datagram is, as its receiver reads it.
-use Rattle.link_replay.proofs.Prelude.{◌≡◌, ℕ, List, Bool, true, false, if◌then◌else◌, Some, None, refl, ap, ◌∙◌, subst, option_map, Addr, Sockets, same_sockets, PlainSegment, event_of, Event, Arrived, Setup, World, Side, Content, numbered, client_sockets, OfSegment, OfPing, OfEcho, received_by, server_of, FromClient, FromNode, IsRead, IsSentBy, Kind, EchoReply, kind_sent, segment_kind}
+use Rattle.link_replay.proofs.Prelude.{◌≡◌, ℕ, List, Bool, true, false, if◌then◌else◌, Some, None, refl, ap, ◌∙◌, subst, option_map, Addr}
+use Rattle.link_replay.proofs.Prelude.{Sockets, same_sockets, PlainSegment, event_of, Event, Arrived, Setup, World, Side, Content, numbered}
+use Rattle.link_replay.proofs.Prelude.{client_sockets, OfSegment, OfPing, OfEcho, received_by, server_of, FromClient, FromNode, IsRead}
+use Rattle.link_replay.proofs.Prelude.{IsSentBy, Kind, EchoReply, kind_sent, segment_kind}
 
 abbrev pub addr_of : Side → Addr
 addr_of side = side.client.setup.addr

@@ -1,5 +1,6 @@
 -- What holds of the text of each world that a replay may be at, by how the call ended.
-use Rattle.link_replay.proofs.Prelude.{ℕ, Bool, List, Option, Result, Ok, Err, OnErr, OnOk, Appends, AppendsPrefix, AppSpec, World, IsAt, Wrote}
+use Rattle.link_replay.proofs.Prelude.{ℕ, Bool, List, Option, Result, Ok, Err, OnErr, OnOk, Appends, AppendsPrefix, AppSpec, World, IsAt}
+use Rattle.link_replay.proofs.Prelude.{Wrote}
 
 module _ {T E : Type 0} (StandsFor : World → Type 0) (text : World → List ℕ) (old new : Option (List ℕ)) where
   pub reported_whole : (r : Result T E) → ((m : AppSpec) (served : ℕ → Bool) (w : World) → StandsFor w → IsAt m served w → Wrote old new r (text w))

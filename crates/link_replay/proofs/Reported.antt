@@ -1,5 +1,8 @@
 -- A text that was written ends the replay as is due.
-use Rattle.link_replay.proofs.Prelude.{◌≡◌, ℕ, List, Option, Ok, Err, sym, subst, refl, inl, inr, Bool, ⊤, HoldsFile, File, SiteError, FindsInFiles, LacksFile, site_read, Files, bad_line, EndsWith, IsLoadText, IsReplayText, LacksEither, LoadEnds, ReplayEnds, WritesDue, IsPlayDue, IsShort, IsTextDue, WritesText, ReplayEnd, Summary, workload_of, WorkView, WritesEnd, WritesAll}
+use Rattle.link_replay.proofs.Prelude.{◌≡◌, ℕ, List, Option, Ok, Err, sym, subst, refl, inl, inr, Bool, ⊤, HoldsFile, File, SiteError}
+use Rattle.link_replay.proofs.Prelude.{FindsInFiles, LacksFile, site_read, Files, bad_line, EndsWith, IsLoadText, IsReplayText, LacksEither}
+use Rattle.link_replay.proofs.Prelude.{LoadEnds, ReplayEnds, WritesDue, IsPlayDue, IsShort, IsTextDue, WritesText, ReplayEnd, Summary}
+use Rattle.link_replay.proofs.Prelude.{workload_of, WorkView, WritesEnd, WritesAll}
 use Rattle.link_replay.specs.declared.commands.replay_end.ReplayEnd.TheVariants as ends
 use Rattle.link_replay.proofs.ReportTexts.{IsProperPrefixOf, holds_file, is_text, text_ends}
 
@@ -36,7 +39,8 @@ module _ (Is : Option Files → List ℕ → ReplayEnd → Type 0) (Missing : Op
   pub short_ends : (result : ReplayEnd) → IsShort old.sink new.sink result → EndsWith Is Missing old new result
   short_ends result short = subst (EndsWith Is Missing old new) (sym short.0) (same_work old new held short.1 shelf)
 
-module _ (site schedule : List ℕ) (show : Bool) (old new : WorkView) (held : new.shelf.held ≡ old.shelf.held) (shelf : new.shelf.faults ≡ old.shelf.faults) where
+module _ (site schedule : List ℕ) (show : Bool) (old new : WorkView) (held : new.shelf.held ≡ old.shelf.held)
+    (shelf : new.shelf.faults ≡ old.shelf.faults) where
   only_text : (text : List ℕ) (end : ReplayEnd) → IsReplayText site schedule show old.shelf.held text end → IsReportedEnd end
   only_text text ends.Done is = tt
   only_text text (ends.BadSite error) is = tt
@@ -46,7 +50,8 @@ module _ (site schedule : List ℕ) (show : Bool) (old new : WorkView) (held : n
   only_text text ends.NoMemory is = absurd (text_ends is.0 is.1 show text ends.NoMemory is.4)
 
   -- the bytes that were read of the schedule's file
-  pub schedule_ends : (files : List File) (bytes : List ℕ) (result : ReplayEnd) → FindsInFiles (site_read site) old.shelf.held (Ok files) → HoldsFile old.shelf.held schedule (IsProperPrefixOf bytes)
+  pub schedule_ends : (files : List File) (bytes : List ℕ) (result : ReplayEnd) → FindsInFiles (site_read site) old.shelf.held (Ok files)
+      → HoldsFile old.shelf.held schedule (IsProperPrefixOf bytes)
       → WritesDue (IsTextDue files bytes show) old.sink new.sink result → ReplayEnds site schedule show old new result
   schedule_ends files bytes result read prefix (inl reported) =
       written_ends (IsReplayText site schedule show) (LacksEither site schedule) old new only_text held shelf reported.0 reported.1 result
@@ -55,7 +60,8 @@ module _ (site schedule : List ℕ) (show : Bool) (old new : WorkView) (held : n
       short_ends (IsReplayText site schedule show) (LacksEither site schedule) old new only_text held shelf result short
 
   -- the line of a bad image
-  pub image_ends : (error : SiteError) (bytes : List ℕ) (result : ReplayEnd) → FindsInFiles (site_read site) old.shelf.held (Err error) → HoldsFile old.shelf.held schedule (IsProperPrefixOf bytes)
+  pub image_ends : (error : SiteError) (bytes : List ℕ) (result : ReplayEnd) → FindsInFiles (site_read site) old.shelf.held (Err error)
+      → HoldsFile old.shelf.held schedule (IsProperPrefixOf bytes)
       → WritesText (bad_line error) (ends.BadSite error) old.sink new.sink result → ReplayEnds site schedule show old new result
   image_ends error bytes result read prefix (inl wrote) =
       written_ends (IsReplayText site schedule show) (LacksEither site schedule) old new only_text held shelf (bad_line error) (ends.BadSite error) result
@@ -70,7 +76,8 @@ module _ (site : List ℕ) (seed clients : ℕ) (old new : WorkView) (held : new
   only_load text (ends.BadSchedule line why) is = tt
   only_load text _ is = absurd is.2
 
-  load_text : (files : List File) (text : List ℕ) (end : ReplayEnd) → FindsInFiles (site_read site) old.shelf.held (Ok files) → IsPlayDue files (workload_of seed clients) Summary text end
+  load_text : (files : List File) (text : List ℕ) (end : ReplayEnd) → FindsInFiles (site_read site) old.shelf.held (Ok files)
+      → IsPlayDue files (workload_of seed clients) Summary text end
       → IsLoadText site seed clients old.shelf.held text end
   load_text files text ends.Done read due = (files, read, due)
   load_text files text (ends.BadSchedule line why) read due = (files, read, due)
@@ -88,5 +95,7 @@ module _ (site : List ℕ) (seed clients : ℕ) (old new : WorkView) (held : new
   pub load_image_ends : (error : SiteError) (result : ReplayEnd) → FindsInFiles (site_read site) old.shelf.held (Err error)
       → WritesText (bad_line error) (ends.BadSite error) old.sink new.sink result → LoadEnds site seed clients old new result
   load_image_ends error result read (inl wrote) =
-      written_ends (IsLoadText site seed clients) (LacksFile (site_read site)) old new only_load held shelf (bad_line error) (ends.BadSite error) result (read, refl) wrote
-  load_image_ends error result read (inr short) = short_ends (IsLoadText site seed clients) (LacksFile (site_read site)) old new only_load held shelf result short
+      written_ends (IsLoadText site seed clients) (LacksFile (site_read site)) old new only_load held shelf (bad_line error)
+      (ends.BadSite error) result (read, refl) wrote
+  load_image_ends error result read (inr short) = short_ends (IsLoadText site seed clients) (LacksFile (site_read site)) old new only_load
+      held shelf result short

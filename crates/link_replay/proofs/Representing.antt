@@ -1,5 +1,6 @@
 -- The lines of what the code holds are those of what it represents.
-use Rattle.link_replay.proofs.Prelude.{◌≡◌, ℕ, Bool, ap, ◌∙◌, World, Sent, Who, SentRepresents, CodeSent, Kind, counts_line, datagram_line, kind_sent, line_of_datagram}
+use Rattle.link_replay.proofs.Prelude.{◌≡◌, ℕ, Bool, ap, ◌∙◌, World, Sent, Who, SentRepresents, CodeSent, Kind, counts_line, datagram_line}
+use Rattle.link_replay.proofs.Prelude.{kind_sent, line_of_datagram}
 
 pub datagram_represents : (w : World) (number : ℕ) (sent : CodeSent) (e : Sent) (kind : Kind) → SentRepresents w sent e → kind ≡ kind_sent e.content
     → datagram_line number sent.tick sent.who kind sent.again ≡ line_of_datagram number e

@@ -1,5 +1,8 @@
 -- What a world shows by itself is what is shown of the world that it represents.
-use Rattle.link_replay.proofs.Prelude.{◌≡◌, ℕ, Bool, true, List, [], ◌++◌, Option, Result, Ok, Err, map, refl, sym, ap, ◌∙◌, subst, append_assoc, OnOk, Appends, Appends-none, Appends-then, appends_by, AbstractClient, Side, World, Matched, CodeSide, ShownSide, lines_of_client, numbered_texts, side_shown, AppendsShown, EndsReport, code_side_shown, LinkRepresents, SentRepresents, SideRepresents, Link, tally_of, Wrote}
+use Rattle.link_replay.proofs.Prelude.{◌≡◌, ℕ, Bool, true, List, [], ◌++◌, Option, Result, Ok, Err, map, refl, sym, ap, ◌∙◌, subst}
+use Rattle.link_replay.proofs.Prelude.{append_assoc, OnOk, Appends, Appends-none, Appends-then, appends_by, AbstractClient, Side, World}
+use Rattle.link_replay.proofs.Prelude.{Matched, CodeSide, ShownSide, lines_of_client, numbered_texts, side_shown, AppendsShown, EndsReport}
+use Rattle.link_replay.proofs.Prelude.{code_side_shown, LinkRepresents, SentRepresents, SideRepresents, Link, tally_of, Wrote}
 use Rattle.link_replay.proofs.Matching.{same_images}
 
 -- what is reported of a client
@@ -55,6 +58,7 @@ report_ends show old a b new clients line (Ok t) d c w = record {
 report_ends show old a b new clients line (Err e) d c w = tt
 
 -- the lines of what is reported of a client
-pub lines_reported : {T E : Type 0} (show : Bool) (number : ℕ) (x : CodeSide) (y : ShownSide) (old new : Option (List ℕ)) (r : Result T E) → code_side_shown x ≡ y
+pub lines_reported : {T E : Type 0} (show : Bool) (number : ℕ) (x : CodeSide) (y : ShownSide) (old new : Option (List ℕ)) (r : Result T E)
+    → code_side_shown x ≡ y
     → Wrote old new r (lines_of_client show number (code_side_shown x)) → Wrote old new r (lines_of_client show number y)
 lines_reported show number x y old new r e w = subst (λ (z : ShownSide). Wrote old new r (lines_of_client show number z)) e w

@@ -1,5 +1,9 @@
 -- What a step of the node does to the clients' addresses and ports, and to its own address: nothing.
-use Rattle.link_replay.proofs.Prelude.{◌≡◌, ℕ, zero, suc, ◌&&◌, Bool, List, [], ◌∷◌, map, refl, Option, Some, None, slice_get, position, PlainSegment, has_rst, AppSpec, Sockets, Connection, serves, same_sockets, is_plain_syn, Event, IpRefused, IcmpRefused, TcpRefused, EchoAsked, Arrived, Overlong, Periodic, AbstractNode, NodeStep, step, happened, opens, opens_in, for_no_connection, arrives_at, slot_for_syn, Side, retires, retires_in, client_sockets, choose}
+use Rattle.link_replay.proofs.Prelude.{◌≡◌, ℕ, zero, suc, ◌&&◌, Bool, List, [], ◌∷◌, map, refl, Option, Some, None, slice_get, position}
+use Rattle.link_replay.proofs.Prelude.{PlainSegment, has_rst, AppSpec, Sockets, Connection, serves, same_sockets, is_plain_syn, Event}
+use Rattle.link_replay.proofs.Prelude.{IpRefused, IcmpRefused, TcpRefused, EchoAsked, Arrived, Overlong, Periodic, AbstractNode, NodeStep}
+use Rattle.link_replay.proofs.Prelude.{step, happened, opens, opens_in, for_no_connection, arrives_at, slot_for_syn, Side, retires}
+use Rattle.link_replay.proofs.Prelude.{retires_in, client_sockets, choose}
 use Rattle.link_replay.proofs.Places.{Sames, SamePlaces, same_places}
 
 abbrev Keeps : AbstractNode → NodeStep → Type 0

@@ -1,5 +1,6 @@
 -- How many texts are left to send, of pieces of some lengths, from an offset on.
-use Rattle.link_replay.proofs.Prelude.{div_ceil, ◌≡◌, ℕ, suc, ◌+◌, ◌-◌, ◌*◌, ◌<◌, ◌≤◌, if◌then◌else◌, ◌⊎◌, inl, inr, List, [], ◌∷◌, ap, arith, nat_lt, cases_lt, lt-ltb, le-ltb, div_ceil_times, lt_of_mul-lt-mul_right, suc-mul}
+use Rattle.link_replay.proofs.Prelude.{div_ceil, ◌≡◌, ℕ, suc, ◌+◌, ◌-◌, ◌*◌, ◌<◌, ◌≤◌, if◌then◌else◌, ◌⊎◌, inl, inr, List, [], ◌∷◌, ap}
+use Rattle.link_replay.proofs.Prelude.{arith, nat_lt, cases_lt, lt-ltb, le-ltb, div_ceil_times, lt_of_mul-lt-mul_right, suc-mul}
 
 module _ (mss : ℕ) (some : 0 < mss) where
   -- of more there are not fewer texts, and of a whole text more there is one more
@@ -79,5 +80,6 @@ module _ (mss : ℕ) (some : 0 < mss) where
               omega (arith, inside n (a + x) ns i, inside n a ns h, ceil_step (n - (a + x)), ap (λ k. div_ceil k mss) e)
           | inr i ↦ omega (arith, behind n (a + x) ns i, inside n a ns h, most_at_start ns (a + x - n), ceil_some (n - a) (omega (arith, h)))
         ]
-        | inr h ↦ (let e : a + x - n ≡ a - n + x = omega (arith, h) in omega (arith, behind n (a + x) ns (omega (arith, h)), ap (λ k. left_in ns k) e, behind n a ns h, rest h))
+        | inr h ↦ (let e : a + x - n ≡ a - n + x = omega (arith, h) in
+            omega (arith, behind n (a + x) ns (omega (arith, h)), ap (λ k. left_in ns k) e, behind n a ns h, rest h))
       ]

@@ -1,5 +1,12 @@
 -- The clients of a text that reads have the ranges of their types.
-use Rattle.link_replay.proofs.Prelude.{All, list_all, list_any, slice_split, option_map_or, IfSome, codes, bytes_eq, ◌≡◌, ℕ, ◌<◌, ◌&&◌, Bool, true, false, cond, List, [], ◌∷◌, ◌++◌, length, Option, Some, None, Result, Ok, Err, IfOk, refl, subst, arith, eqb, leb, ltb, and_parts, leb-true, ltb-true, All-append, All-cons, All-nil, quad_of, Addr, IsAddr, IsByte, decode_of, FromHexError, Plan, got, is_target, plan_of, plan_with, raw, request_of, side_of, event_of_words, Keeps, is_between, address, within, BadText, SchedulePlan, meets, nothing_yet, read_lines, read_text, with_plan, with_event, with_line, ClientSide, Why, Clients, Form, Long, Ports, kept_where_read, lines_keep, of_words, anything, behind, either, tested, within_range}
+use Rattle.link_replay.proofs.Prelude.{All, list_all, list_any, slice_split, option_map_or, IfSome, codes, bytes_eq, ◌≡◌, ℕ, ◌<◌, ◌&&◌}
+use Rattle.link_replay.proofs.Prelude.{Bool, true, false, cond, List, [], ◌∷◌, ◌++◌, length, Option, Some, None, Result, Ok, Err, IfOk}
+use Rattle.link_replay.proofs.Prelude.{refl, subst, arith, eqb, leb, ltb, and_parts, leb-true, ltb-true, All-append, All-cons, All-nil}
+use Rattle.link_replay.proofs.Prelude.{quad_of, Addr, IsAddr, IsByte, decode_of, FromHexError, Plan, got, is_target, plan_of, plan_with}
+use Rattle.link_replay.proofs.Prelude.{raw, request_of, side_of, event_of_words, Keeps, is_between, address, within, BadText, SchedulePlan}
+use Rattle.link_replay.proofs.Prelude.{meets, nothing_yet, read_lines, read_text, with_plan, with_event, with_line, ClientSide, Why}
+use Rattle.link_replay.proofs.Prelude.{Clients, Form, Long, Ports, kept_where_read, lines_keep, of_words, anything, behind, either, tested}
+use Rattle.link_replay.proofs.Prelude.{within_range}
 use Rattle.link_replay.proofs.HexBytes.{decoded_bytes}
 use Rattle.link_replay.proofs.Quads.{quad_is_addr}
 
@@ -12,7 +19,8 @@ pub record HasTypes (plan : Plan) : Type 0 where
 abbrev SideTyped : ClientSide → Type 0
 SideTyped side = IsAddr side.addr × (side.mss < 65536)
 
-addressed_typed : (o : Option (List ℕ)) → IfSome o (λ quad. IsAddr (record { 0 = quad })) → IfOk (option_map_or {T = List ℕ} {U = Result Addr Why} (λ quad. Ok (record { 0 = quad })) o (Err Form)) IsAddr
+addressed_typed : (o : Option (List ℕ)) → IfSome o (λ quad. IsAddr (record { 0 = quad }))
+    → IfOk (option_map_or {T = List ℕ} {U = Result Addr Why} (λ quad. Ok (record { 0 = quad })) o (Err Form)) IsAddr
 addressed_typed (Some quad) p = p
 addressed_typed None p = tt
 
@@ -42,7 +50,8 @@ got_typed target =
     tested (All IsByte) (is_target target) (Ok (codes "GET " ++ target ++ codes " HTTP/1.0\r\n\r\n")) (Err Form)
     (λ e. All-append IsByte (codes "GET " ++ target) (codes " HTTP/1.0\r\n\r\n")
     (All-append IsByte (codes "GET ") target (plain_bytes (codes "GET ") refl)
-    (all_tested (λ c. leb 33 c && leb c 126) seen_byte target (and_parts (is_between 1 4079 (length target)) (list_all (λ c. leb 33 c && leb c 126) target) e).1))
+    (all_tested (λ c. leb 33 c && leb c 126) seen_byte target (and_parts (is_between 1 4079 (length target))
+    (list_all (λ c. leb 33 c && leb c 126) target) e).1))
     (plain_bytes (codes " HTTP/1.0\r\n\r\n") refl)) tt
 
 raw_typed : (r : Result (List ℕ) FromHexError) → IfOk r (All IsByte) → IfOk (raw r) (All IsByte)

@@ -1,9 +1,12 @@
 -- A replay or a load that nothing outside disturbs ends as is due.
-use Rattle.link_replay.proofs.Prelude.{ℕ, List, Option, refl, inl, inr, arith, Files, LacksFile, site_read, EndsWith, IsLoadText, IsReplayText, LacksEither, WroteDue, LoadIsReported, ReplayIsReported, ReplayEnd, WorkView, WorkUnfailed}
+use Rattle.link_replay.proofs.Prelude.{ℕ, List, Option, refl, inl, inr, arith, Files, LacksFile, site_read, EndsWith, IsLoadText}
+use Rattle.link_replay.proofs.Prelude.{IsReplayText, LacksEither, WroteDue, LoadIsReported, ReplayIsReported, ReplayEnd, WorkView}
+use Rattle.link_replay.proofs.Prelude.{WorkUnfailed}
 use Rattle.link_replay.specs.declared.commands.replay_end.ReplayEnd.TheVariants as ends
 
 module _ (Is : Option Files → List ℕ → ReplayEnd → Type 0) (Missing : Option Files → Type 0) where
-  pub as_due : (old new : WorkView) (end : ReplayEnd) → EndsWith Is Missing old new end → WorkUnfailed old new → ¬ (Missing old.shelf.held) → WroteDue (Is old.shelf.held) old new end
+  pub as_due : (old new : WorkView) (end : ReplayEnd) → EndsWith Is Missing old new end → WorkUnfailed old new → ¬ (Missing old.shelf.held)
+      → WroteDue (Is old.shelf.held) old new end
   as_due old new ends.Done e calm there = inr (e.text, e.is, e.wrote.whole)
   as_due old new (ends.BadSite error) e calm there = inr (e.text, e.is, e.wrote.whole)
   as_due old new (ends.BadSchedule line why) e calm there = inr (e.text, e.is, e.wrote.whole)

@@ -1,5 +1,6 @@
 -- One more client of a schedule: each of its refusals, and what follows it.
-use Rattle.link_schedule.proofs.Prelude.{◌≡◌, ℕ, ◌<◌, ◌≤◌, Bool, true, false, cond, List, [], ◌∷◌, ◌++◌, length, Ok, Err, refl, ◌∙◌, arith, leb, list_any, le-leb, leb-true, Line, Clients, Ports, Plan, meets, with_plan, content_of}
+use Rattle.link_schedule.proofs.Prelude.{◌≡◌, ℕ, ◌<◌, ◌≤◌, Bool, true, false, cond, List, [], ◌∷◌, ◌++◌, length, Ok, Err, refl, ◌∙◌, arith}
+use Rattle.link_schedule.proofs.Prelude.{leb, list_any, le-leb, leb-true, Line, Clients, Ports, Plan, meets, with_plan, content_of}
 
 chosen : {A : Type 0} (b : Bool) (x y : A) → b ≡ true → cond b x y ≡ x
 chosen true x y e = refl

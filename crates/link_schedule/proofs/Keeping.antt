@@ -1,6 +1,13 @@
 -- Reading a text, each line preserves what holds for a schedule.
 -- [add: schedule-line] A text that has the line.
-use Rattle.link_schedule.proofs.Prelude.{◌≡◌, ℕ, ◌+◌, ◌≤◌, Bool, true, false, cond, not, ◌&&◌, ◌||◌, List, [], ◌∷◌, ◌++◌, length, Result, Ok, Err, IfOk, refl, ap, ◌∙◌, subst, arith, eqb, leb, codes, list_all, list_any, slice_split, bytes_eq, and_parts, and_from, le-leb, leb-true, leb-false, not-true, or_parts, length-append, list_all-append, list_any-append, decode_of, FromHexError, Event, Opens, Again, Closes, Aborts, Window, Line, ClientSide, Why, Form, Clients, Ports, ◌>>=◌, address, within, event_of_words, got, is_target, Plan, plan_of, plan_with, raw, request_of, side_of, BadText, SchedulePlan, reads_on, is_passed_over, meets, nothing_yet, read_line, read_lines, read_words, with_plan, with_event, with_line, are_apart, client_in_range, event_in_range, is_between, Keeps}
+use Rattle.link_schedule.proofs.Prelude.{◌≡◌, ℕ, ◌+◌, ◌≤◌, Bool, true, false, cond, not, ◌&&◌, ◌||◌, List, [], ◌∷◌, ◌++◌, length, Result}
+use Rattle.link_schedule.proofs.Prelude.{Ok, Err, IfOk, refl, ap, ◌∙◌, subst, arith, eqb, leb, codes, list_all, list_any, slice_split}
+use Rattle.link_schedule.proofs.Prelude.{bytes_eq, and_parts, and_from, le-leb, leb-true, leb-false, not-true, or_parts, length-append}
+use Rattle.link_schedule.proofs.Prelude.{list_all-append, list_any-append, decode_of, FromHexError, Event, Opens, Again, Closes, Aborts}
+use Rattle.link_schedule.proofs.Prelude.{Window, Line, ClientSide, Why, Form, Clients, Ports, ◌>>=◌, address, within, event_of_words, got}
+use Rattle.link_schedule.proofs.Prelude.{is_target, Plan, plan_of, plan_with, raw, request_of, side_of, BadText, SchedulePlan, reads_on}
+use Rattle.link_schedule.proofs.Prelude.{is_passed_over, meets, nothing_yet, read_line, read_lines, read_words, with_plan, with_event}
+use Rattle.link_schedule.proofs.Prelude.{with_line, are_apart, client_in_range, event_in_range, is_between, Keeps}
 use Rattle.link_schedule.proofs.Kept.{anything, behind, either, event_fine, tested, within_range}
 
 abbrev SideFine : ClientSide → Type 0
@@ -56,13 +63,16 @@ PlanFine plan = client_in_range plan ≡ true
 with_fine : (addr port mss seg how what : List ℕ) → IfOk (plan_with addr port mss seg how what) PlanFine
 with_fine addr port mss seg how what =
     behind SideFine PlanFine (side_of addr port mss seg)
-    (λ side. request_of how what >>= λ request. Ok (record { addr = side.addr; port = side.port; mss = side.mss; seg = side.seg; request = request })) (side_fine addr port mss seg)
-    (λ side fine. behind RequestFine PlanFine (request_of how what) (λ request. Ok (record { addr = side.addr; port = side.port; mss = side.mss; seg = side.seg; request = request })) (request_fine how what)
+    (λ side. request_of how what >>= λ request. Ok
+    (record { addr = side.addr; port = side.port; mss = side.mss; seg = side.seg; request = request })) (side_fine addr port mss seg)
+    (λ side fine. behind RequestFine PlanFine (request_of how what)
+    (λ request. Ok (record { addr = side.addr; port = side.port; mss = side.mss; seg = side.seg; request = request })) (request_fine how what)
     (λ request good. and_from (is_between 1 65535 side.port.0 && is_between 1 1460 side.seg) (is_between 1 4096 (length request))
     (and_from (is_between 1 65535 side.port.0) (is_between 1 1460 side.seg) fine.0 fine.1) good))
 
 -- what six words keep, the words of every client's line keep
-pub of_words : (P : Plan → Type 0) → ((addr port mss seg how what : List ℕ) → IfOk (plan_with addr port mss seg how what) P) → (words : List (List ℕ)) → IfOk (plan_of words) P
+pub of_words : (P : Plan → Type 0) → ((addr port mss seg how what : List ℕ) → IfOk (plan_with addr port mss seg how what) P)
+    → (words : List (List ℕ)) → IfOk (plan_of words) P
 of_words P six [] = tt
 of_words P six (a ∷ []) = tt
 of_words P six (a ∷ b ∷ []) = tt

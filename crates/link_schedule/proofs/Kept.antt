@@ -1,5 +1,8 @@
 -- What holds for each schedule, line by line.
-use Rattle.link_schedule.proofs.Prelude.{◌≡◌, ℕ, Bool, true, false, cond, List, [], ◌∷◌, Option, None, Some, Result, Ok, Err, IfOk, refl, codes, bytes_eq, Event, Opens, Again, Closes, Aborts, Window, Ping, Give, Damage, Tick, Why, Form, NoClient, is_numeral, numeral, ◌>>=◌, address, in_range, named, within, bare, bare_forms, by_verb, event_of_words, forms_with_one, with_one, window, damage, event_in_range, is_between}
+use Rattle.link_schedule.proofs.Prelude.{◌≡◌, ℕ, Bool, true, false, cond, List, [], ◌∷◌, Option, None, Some, Result, Ok, Err, IfOk, refl}
+use Rattle.link_schedule.proofs.Prelude.{codes, bytes_eq, Event, Opens, Again, Closes, Aborts, Window, Ping, Give, Damage, Tick, Why, Form}
+use Rattle.link_schedule.proofs.Prelude.{NoClient, is_numeral, numeral, ◌>>=◌, address, in_range, named, within, bare, bare_forms, by_verb}
+use Rattle.link_schedule.proofs.Prelude.{event_of_words, forms_with_one, with_one, window, damage, event_in_range, is_between}
 
 -- either answer of a choice
 pub either : {A : Type 0} (P : A → Type 0) (b : Bool) (x y : Result A Why) → IfOk x P → IfOk y P → IfOk (cond b x y) P

@@ -1,5 +1,7 @@
 -- The lines of a text in turn.
-use Rattle.link_schedule.proofs.Prelude.{◌≡◌, ℕ, ◌+◌, ◌<◌, ◌≤◌, Bool, true, false, cond, List, [], ◌∷◌, length, drop, get_or, map, Ok, Err, ap, ◌∙◌, arith, onto_first, slice_split, drop_more, Why, SchedulePlan, reads_on, read_line, read_lines}
+use Rattle.link_schedule.proofs.Prelude.{◌≡◌, ℕ, ◌+◌, ◌<◌, ◌≤◌, Bool, true, false, cond, List, [], ◌∷◌, length, drop, get_or, map, Ok, Err}
+use Rattle.link_schedule.proofs.Prelude.{ap, ◌∙◌, arith, onto_first, slice_split, drop_more, Why, SchedulePlan, reads_on, read_line}
+use Rattle.link_schedule.proofs.Prelude.{read_lines}
 
 pub bad_line : {A : Type 0} (f : A → List ℕ) (lines : List A) (i : ℕ) (d : A) (above : SchedulePlan) (why : Why) → i < length lines
     → read_line (i + 1) above (f (get_or lines i d)) ≡ Err why

@@ -1,6 +1,15 @@
 -- Lines that are refused only for a lack of numbers, and what they leave.
 -- [add: schedule-line] When the line is refused.
-use Rattle.link_world.proofs.Prelude.{All, range_with_len, ◌≡◌, ℕ, zero, suc, ◌+◌, ◌-◌, ◌<◌, ◌≤◌, ◌%◌, Bool, true, false, List, [], ◌∷◌, ◌++◌, length, map, set, filter, replicate, reverse, Option, Some, None, Result, Ok, Err, slice_get, refl, sym, ap, subst, ◌∙◌, arith, inl, inr, eqb, option_map_or, option_or, ◌>>=◌, if◌then◌else◌, flat_map, nat_lt, option_map, ⊤, slice_get-map, Addr, flat_map-cons, cases_lt, All-filter, All-head, All-tail, All-permutation, IsPermutation-reverse, AppSpec, Opens, Again, Tick, Round, Twice, Reverse, Half, Lose, PlainSegment, AbstractClient, ClientStep, client_opens, opens_by, Planned, fresh_side, initial_world, does, is_idle, named_fault, needs, runs, state_at, BadLine, acts_of, mark_after, past_mark, plays_from, plays_line, Sent, Side, World, client_stepped, posts_of_client, with_client, with_side, Act, StepFault, AlreadyOpen, Full, NoDatagram, NotOpen, choose, all_cons, all_nil, get_set_other, get_set_same}
+use Rattle.link_world.proofs.Prelude.{All, range_with_len, ◌≡◌, ℕ, zero, suc, ◌+◌, ◌-◌, ◌<◌, ◌≤◌, ◌%◌, Bool, true, false, List, [], ◌∷◌}
+use Rattle.link_world.proofs.Prelude.{◌++◌, length, map, set, filter, replicate, reverse, Option, Some, None, Result, Ok, Err, slice_get}
+use Rattle.link_world.proofs.Prelude.{refl, sym, ap, subst, ◌∙◌, arith, inl, inr, eqb, option_map_or, option_or, ◌>>=◌, if◌then◌else◌}
+use Rattle.link_world.proofs.Prelude.{flat_map, nat_lt, option_map, ⊤, slice_get-map, Addr, flat_map-cons, cases_lt, All-filter, All-head}
+use Rattle.link_world.proofs.Prelude.{All-tail, All-permutation, IsPermutation-reverse, AppSpec, Opens, Again, Tick, Round, Twice, Reverse}
+use Rattle.link_world.proofs.Prelude.{Half, Lose, PlainSegment, AbstractClient, ClientStep, client_opens, opens_by, Planned, fresh_side}
+use Rattle.link_world.proofs.Prelude.{initial_world, does, is_idle, named_fault, needs, runs, state_at, BadLine, acts_of, mark_after}
+use Rattle.link_world.proofs.Prelude.{past_mark, plays_from, plays_line, Sent, Side, World, client_stepped, posts_of_client, with_client}
+use Rattle.link_world.proofs.Prelude.{with_side, Act, StepFault, AlreadyOpen, Full, NoDatagram, NotOpen, choose, all_cons, all_nil}
+use Rattle.link_world.proofs.Prelude.{get_set_other, get_set_same}
 use Rattle.link_schedule.specs.declared.event.Event.{Event}
 use Rattle.link_client.specs.declared.client_state.ClientState.TheVariants as Is
 use Rattle.link_world.proofs.Doing.{goes_on_with, with_mark}
@@ -23,7 +32,8 @@ fine_mark : (P : World → Type 0) (mark : ℕ) (r : Result World StepFault) →
 fine_mark P mark (Ok v) p = p
 fine_mark P mark (Err fault) p = p
 
-pub goes_on_fine : (P : World → Type 0) (place : ℕ) (next : World → Result World BadLine) (r : Result World StepFault) → Fine P r → ((v : World) → P v → FineLines (next v))
+pub goes_on_fine : (P : World → Type 0) (place : ℕ) (next : World → Result World BadLine) (r : Result World StepFault) → Fine P r
+    → ((v : World) → P v → FineLines (next v))
     → FineLines (goes_on_with place next r)
 goes_on_fine P place next (Ok v) p f = f v p
 goes_on_fine P place next (Err fault) p f = p
@@ -40,8 +50,11 @@ module _ (m : AppSpec) (served : ℕ → Bool) where
   runs_fine : (all : List Act) (w v : World) → Grows w v → AreFree w all → Fine (Grows w) (runs m served all v)
   runs_fine [] w v g free = g
   runs_fine (act ∷ more) w v g free =
-      subst (λ (o : Option StepFault). Fine (Grows w) (option_map_or Err (option_or o (if nat_lt 65535 (length v.sent + needs act) then Some Full else None)) (Ok (does m served v act)) >>= runs m served more)) (sym (free.0 v g))
-      (choose (λ (o : Option StepFault). Fine (Grows w) (option_map_or Err o (Ok (does m served v act)) >>= runs m served more)) (nat_lt 65535 (length v.sent + needs act)) (Some Full) None
+      subst (λ (o : Option StepFault). Fine (Grows w)
+      (option_map_or Err (option_or o (if nat_lt 65535 (length v.sent + needs act) then Some Full else None)) (Ok (does m served v act)) >>=
+      runs m served more)) (sym (free.0 v g))
+      (choose (λ (o : Option StepFault). Fine (Grows w) (option_map_or Err o (Ok (does m served v act)) >>= runs m served more))
+      (nat_lt 65535 (length v.sent + needs act)) (Some Full) None
       (λ e. refl)
       (λ e. runs_fine more w (does m served v act) (grows_on w v (does m served v act) g (does_grows m served v act)) free.1))
 
@@ -82,7 +95,8 @@ twice_free : (w : World) (ks : List ℕ) → All (IsWithin (length w.sent)) ks �
 twice_free w [] all = tt
 twice_free w (k ∷ ks) all =
     let one = give_free w k (All-head (IsWithin (length w.sent)) k ks all) in
-    subst (AreFree w) (sym (flat_map-cons (λ j. Act.Give j ∷ Act.Give j ∷ []) k ks)) (one, (one, twice_free w ks (All-tail (IsWithin (length w.sent)) k ks all)))
+    subst (AreFree w) (sym (flat_map-cons (λ j. Act.Give j ∷ Act.Give j ∷ []) k ks))
+    (one, (one, twice_free w ks (All-tail (IsWithin (length w.sent)) k ks all)))
 
 again_free : (w : World) (k : ℕ) → Spoken w.sides k → IsFree w (Act.Again (suc k))
 again_free w k spoken = λ v g. choose (λ (o : Option StepFault). o ≡ None) (is_idle (state_at (slice_get v.sides k))) (Some NotOpen) None
@@ -93,7 +107,8 @@ again_free w k spoken = λ v g. choose (λ (o : Option StepFault). o ≡ None) (
 numbers_within : (n start count : ℕ) → 1 ≤ start → count ≤ n + 1 - start → All (IsWithin n) (range_with_len start count)
 numbers_within n start zero least most = all_nil (IsWithin n)
 numbers_within n start (suc count) least most =
-    all_cons (IsWithin n) start (range_with_len (start + 1) count) (least, omega (arith, most)) (numbers_within n (start + 1) count (omega arith) (omega (arith, most)))
+    all_cons (IsWithin n) start (range_with_len (start + 1) count) (least, omega (arith, most))
+    (numbers_within n (start + 1) count (omega arith) (omega (arith, most)))
 
 past_within : (w : World) → All (IsWithin (length w.sent)) (past_mark w)
 past_within w = numbers_within (length w.sent) (w.mark + 1) (length w.sent - w.mark) (omega arith) (omega arith)
@@ -122,7 +137,8 @@ module _ (m : AppSpec) (served : ℕ → Bool) (n : ℕ) where
 
   pub keeps_reverse : IsKept Reverse
   keeps_reverse = kept_by Reverse (λ w spoken.
-      gives_free w (reverse (past_mark w)) (All-permutation (IsWithin (length w.sent)) (past_mark w) (reverse (past_mark w)) (IsPermutation-reverse (past_mark w)) (past_within w)))
+      gives_free w (reverse (past_mark w)) (All-permutation (IsWithin (length w.sent)) (past_mark w) (reverse (past_mark w))
+      (IsPermutation-reverse (past_mark w)) (past_within w)))
 
   pub keeps_half : IsKept Half
   keeps_half = kept_by Half (λ w spoken.
@@ -149,7 +165,8 @@ module _ (m : AppSpec) (served : ℕ → Bool) (n : ℕ) where
   pub kept_fine : (events : List Event) (place : ℕ) (w : World) → AreKept events → AllSpoken n w → FineLines (plays_from m served place events w)
   kept_fine [] place w kept spoken = tt
   kept_fine (event ∷ more) place w kept spoken =
-      goes_on_fine (AllSpoken n) place (plays_from m served (place + 1) more) (plays_line m served w event) (kept.0 w spoken) (λ v s. kept_fine more (place + 1) v kept.1 s)
+      goes_on_fine (AllSpoken n) place (plays_from m served (place + 1) more) (plays_line m served w event) (kept.0 w spoken)
+      (λ v s. kept_fine more (place + 1) v kept.1 s)
 
 -- ---- the clients open in turn
 
@@ -172,8 +189,12 @@ opened_one : (n j : ℕ) (w : World) (side : Side) (took : ClientStep) → slice
 opened_one n j w side took at state is v sides = record {
   spoken = λ k lt. subst (λ (l : List Side). Spoken l k) (sym sides) (by_place k lt);
   idle = λ k ge lt.
-      let was = is.idle k (omega (arith, ge)) lt in
-      (was.0, ap (λ (l : List Side). slice_get l k) sides ∙ get_set_other w.sides j (with_client side took.client) k (λ e. omega (arith, e, ge)) ∙ was.1, was.2);
+      let was = is.idle k (omega (arith, ge)) lt in (
+        was.0,
+        ap (λ (l : List Side). slice_get l k) sides ∙ get_set_other w.sides j (with_client side took.client) k
+            (λ e. omega (arith, e, ge)) ∙ was.1,
+        was.2,
+      );
 }
   where
     by_place : (k : ℕ) → k < j + 1 → Spoken (set w.sides j (with_client side took.client)) k
@@ -202,20 +223,26 @@ module _ (m : AppSpec) (served : ℕ → Bool) (n : ℕ) where
       let side = was.0 in
       let took : ClientStep = client_opens side.client in
       let free : named_fault w (Act.Opens (suc j)) ≡ None =
-      ap (λ (o : Option Side). if is_idle (state_at o) then None else Some AlreadyOpen) was.1 ∙ ap (λ st. if is_idle st then None else Some AlreadyOpen) was.2 in
+      ap (λ (o : Option Side). if is_idle (state_at o) then None else Some AlreadyOpen) was.1
+      ∙ ap (λ st. if is_idle st then None else Some AlreadyOpen) was.2 in
       let sides : (does m served w (Act.Opens (suc j))).sides ≡ set w.sides j (with_client side took.client) =
-      ap (λ (o : Option Side). (option_map_or (λ s. client_stepped w (suc j) s (client_opens s.client)) o w).sides) was.1 ∙ same_sides (with_side w (suc j) (with_client side took.client)) (suc j) took.sent in
+      ap (λ (o : Option Side). (option_map_or (λ s. client_stepped w (suc j) s (client_opens s.client)) o w).sides) was.1
+      ∙ same_sides (with_side w (suc j) (with_client side took.client)) (suc j) took.sent in
       fine_mark P w.mark (runs m served (Act.Opens (suc j) ∷ []) w)
-      (subst (λ (o : Option StepFault). Fine (λ v. P (record v { mark = w.mark })) (option_map_or Err (option_or o (if nat_lt 65535 (length w.sent + 1) then Some Full else None)) (Ok (does m served w (Act.Opens (suc j)))) >>= runs m served []))
+      (subst (λ (o : Option StepFault). Fine (λ v. P (record v { mark = w.mark }))
+      (option_map_or Err (option_or o (if nat_lt 65535 (length w.sent + 1) then Some Full else None))
+      (Ok (does m served w (Act.Opens (suc j)))) >>= runs m served []))
       (sym free)
-      (choose (λ (o : Option StepFault). Fine (λ v. P (record v { mark = w.mark })) (option_map_or Err o (Ok (does m served w (Act.Opens (suc j)))) >>= runs m served []))
+      (choose (λ (o : Option StepFault). Fine (λ v. P (record v { mark = w.mark }))
+      (option_map_or Err o (Ok (does m served w (Act.Opens (suc j)))) >>= runs m served []))
       (nat_lt 65535 (length w.sent + 1)) (Some Full) None
       (λ e. refl)
       (λ e. opened_one n j w side took was.1 (opens_spoken side.client was.2) is (record (does m served w (Act.Opens (suc j))) { mark = w.mark }) sides)))
 
   -- the clients open in turn, and more lines follow
   pub opens_fine : (count j place : ℕ) (w : World) (more : List Event) → j + count ≡ n → IsOpening n j w
-      → ((at : ℕ) (v : World) → AllSpoken n v → FineLines (plays_from m served at more v)) → FineLines (plays_from m served place (map (λ k. Opens k) (range_with_len (j + 1) count) ++ more) w)
+      → ((at : ℕ) (v : World) → AllSpoken n v → FineLines (plays_from m served at more v))
+      → FineLines (plays_from m served place (map (λ k. Opens k) (range_with_len (j + 1) count) ++ more) w)
   opens_fine zero j place w more e is next = next place w (λ k lt. is.spoken k (omega (arith, e, lt)))
   opens_fine (suc count) j place w more e is next =
       let rest = map (λ k. Opens k) (range_with_len (j + 1 + 1) count) ++ more in

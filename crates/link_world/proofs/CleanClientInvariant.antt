@@ -1,6 +1,11 @@
 -- What holds of one client and of the connection that serves it, as long as the client is clean.
 -- [add: state] A case of each invariant, here and in some fifteen files of this folder; docs/LINK_THEOREM.md names them.
-use Rattle.link_world.proofs.Prelude.{◌≡◌, ℕ, suc, ◌+◌, ◌<◌, ◌≤◌, Bool, true, false, List, [], ◌++◌, length, Option, Some, None, slice_get, refl, if◌then◌else◌, wrap, PlainSegment, has_syn, has_fin, has_rst, has_ack, Snapshot, AppSpec, IsPrefixOf, State, Closed, SynRcvd, Established, CloseWait, FinWait1, FinWait2, Closing, TimeWait, LastAck, Connection, is_live, segment_of, Outcome, AbstractClient, ClientStep, is_receiving, has_closed, own_first, ClientState, Sent, Content, PastConnection, becomes_opened, OfSegment, OfPing, OfEcho, Who, FromClient, FromNode, era, IsPart}
+use Rattle.link_world.proofs.Prelude.{◌≡◌, ℕ, suc, ◌+◌, ◌<◌, ◌≤◌, Bool, true, false, List, [], ◌++◌, length, Option, Some, None, slice_get}
+use Rattle.link_world.proofs.Prelude.{refl, if◌then◌else◌, wrap, PlainSegment, has_syn, has_fin, has_rst, has_ack, Snapshot, AppSpec}
+use Rattle.link_world.proofs.Prelude.{IsPrefixOf, State, Closed, SynRcvd, Established, CloseWait, FinWait1, FinWait2, Closing, TimeWait}
+use Rattle.link_world.proofs.Prelude.{LastAck, Connection, is_live, segment_of, Outcome, AbstractClient, ClientStep, is_receiving}
+use Rattle.link_world.proofs.Prelude.{has_closed, own_first, ClientState, Sent, Content, PastConnection, becomes_opened, OfSegment, OfPing}
+use Rattle.link_world.proofs.Prelude.{OfEcho, Who, FromClient, FromNode, era, IsPart}
 use Rattle.link_client.specs.declared.client_state.ClientState.TheVariants as Is
 use Rattle.link_world.proofs.Speaking.{Speaker}
 
@@ -87,7 +92,8 @@ pub record ConnGood (speaker : Speaker) (opened : Option ℕ) (client : Abstract
   pub state : StateGood speaker opened client c c.state
 
 -- before its client opened, a connection that lives is in SYN-RECEIVED
-pub unopened : (speaker : Speaker) (client : AbstractClient) (c : Connection) (st : State) → is_live st ≡ true → StateGood speaker None client c st → (st ≡ SynRcvd) × AtSyn speaker c
+pub unopened : (speaker : Speaker) (client : AbstractClient) (c : Connection) (st : State) → is_live st ≡ true
+    → StateGood speaker None client c st → (st ≡ SynRcvd) × AtSyn speaker c
 unopened speaker client c Closed l g = absurd (cc)
 unopened speaker client c SynRcvd l g = (refl, g)
 unopened speaker client c Established l g = absurd (let z : false ≡ true = g.text.opened_is in cc)
@@ -207,7 +213,8 @@ pub record Steady (client : AbstractClient) : Type 0 where
   pub out_fits : client.acked + client.out ≤ length client.request
 
 -- what is known of one clean client
-pub record Good (speaker : Speaker) (number : ℕ) (client : AbstractClient) (opened : Option ℕ) (history : List PastConnection) (c : Connection) (sent : List Sent) : Type 0 where
+pub record Good (speaker : Speaker) (number : ℕ) (client : AbstractClient) (opened : Option ℕ) (history : List PastConnection)
+    (c : Connection) (sent : List Sent) : Type 0 where
   pub steady : Steady client
   pub opened_good : OpenedGood speaker client history c opened
   pub connection : is_live c.state ≡ true → ConnGood speaker opened client c
@@ -215,7 +222,8 @@ pub record Good (speaker : Speaker) (number : ℕ) (client : AbstractClient) (op
   pub of_node : (k : ℕ) (e : Sent) → slice_get sent k ≡ Some e → e.who ≡ to number → ToGood speaker client opened history c e
 
 -- One step of a client.
-pub record TookGood (speaker : Speaker) (client : AbstractClient) (history : List PastConnection) (c : Connection) (opened next : Option ℕ) (took : ClientStep) : Type 0 where
+pub record TookGood (speaker : Speaker) (client : AbstractClient) (history : List PastConnection) (c : Connection) (opened next : Option ℕ)
+    (took : ClientStep) : Type 0 where
   pub next_is : next ≡ (if becomes_opened client.state took.client.state then Some (length history) else opened)
   pub request : took.client.request ≡ client.request
   pub setup : own_first took.client ≡ own_first client

@@ -1,10 +1,19 @@
 -- One step of a client preserves what holds of it.
-use Rattle.link_world.proofs.Prelude.{All, ◌≡◌, ℕ, ◌+◌, ◌-◌, ◌≤◌, min, Bool, true, false, not, ◌&&◌, ◌⊎◌, inl, inr, List, [], ◌++◌, length, refl, sym, ap, ◌∙◌, subst, arith, Option, Some, None, length-append, eqb, ltb, if◌then◌else◌, wrap, PlainSegment, has_syn, has_fin, has_rst, has_ack, Snapshot, AppSpec, IsSnapshot, Connection, is_live, occupies_sequence_space, AbstractClient, ClientStep, sends_next, has_outstanding, is_receiving, may_finish, has_closed, own_request, ack_of, syn_of, own_fin, own_reset, keeps, steps_with, receives_ack, fin_sent, fin_out, takes_in_order, takes_text, takes_by, client_takes, is_reset_by, opened_by, opens_by, again_by, closes_by, aborts_by, after_fin, one_if, next_own, own_first, ClientState, FinAt, Sent, PastConnection, becomes_opened, era, IsPart, part_joins, part_none, choose, and_true, same_place, eqb-eq, append_nothing, cut_part, only_some, not-false, nothing_placed}
+use Rattle.link_world.proofs.Prelude.{All, ◌≡◌, ℕ, ◌+◌, ◌-◌, ◌≤◌, min, Bool, true, false, not, ◌&&◌, ◌⊎◌, inl, inr, List, [], ◌++◌, length}
+use Rattle.link_world.proofs.Prelude.{refl, sym, ap, ◌∙◌, subst, arith, Option, Some, None, length-append, eqb, ltb, if◌then◌else◌, wrap}
+use Rattle.link_world.proofs.Prelude.{PlainSegment, has_syn, has_fin, has_rst, has_ack, Snapshot, AppSpec, IsSnapshot, Connection, is_live}
+use Rattle.link_world.proofs.Prelude.{occupies_sequence_space, AbstractClient, ClientStep, sends_next, has_outstanding, is_receiving}
+use Rattle.link_world.proofs.Prelude.{may_finish, has_closed, own_request, ack_of, syn_of, own_fin, own_reset, keeps, steps_with}
+use Rattle.link_world.proofs.Prelude.{receives_ack, fin_sent, fin_out, takes_in_order, takes_text, takes_by, client_takes, is_reset_by}
+use Rattle.link_world.proofs.Prelude.{opened_by, opens_by, again_by, closes_by, aborts_by, after_fin, one_if, next_own, own_first}
+use Rattle.link_world.proofs.Prelude.{ClientState, FinAt, Sent, PastConnection, becomes_opened, era, IsPart, part_joins, part_none, choose}
+use Rattle.link_world.proofs.Prelude.{and_true, same_place, eqb-eq, append_nothing, cut_part, only_some, not-false, nothing_placed}
 use Rattle.link_client.specs.declared.client_state.ClientState.TheVariants as Is
 use Rattle.link_world.proofs.Speaking.{Speaker, HasOutputModel}
 use Rattle.link_world.proofs.Counts.{reset_becomes, same_becomes}
 use Rattle.link_world.proofs.Later.{node_later}
-use Rattle.link_world.proofs.CleanClientInvariant.{is_some, seg, NodeSent, IsText, IsFin, ClientSent, IsData, Steady, NotOpened, HasOpened, OpenedGood, ToGood, TookGood, is_unasked, is_early}
+use Rattle.link_world.proofs.CleanClientInvariant.{is_some, seg, NodeSent, IsText, IsFin, ClientSent, IsData, Steady, NotOpened, HasOpened}
+use Rattle.link_world.proofs.CleanClientInvariant.{OpenedGood, ToGood, TookGood, is_unasked, is_early}
 use Rattle.link_world.proofs.CleanClientInvariant.ClientSent.{sent_reset, sent_syn, sent_data}
 use Rattle.link_world.proofs.CleanClientInvariant.NodeSent.{node_reset, node_syn, node_ack, node_text, node_fin}
 
@@ -55,14 +64,17 @@ sends_next_good owed c fits =
     (λ g. good_with c c.acked c.out c.fin (ack_of c) fits (λ opened i. ack_data c c opened i))
     (λ g. record { acked = c.acked; out = c.out; fin = c.fin; client = refl; fits = fits; output = λ opened s i p. absurd (cc) })))
 
-pub not_opening : (history : List PastConnection) (st x : ClientState) (o : ℕ) → is_unasked st ≡ false → Some o ≡ (if becomes_opened st x then Some (length history) else Some o)
+pub not_opening : (history : List PastConnection) (st x : ClientState) (o : ℕ) → is_unasked st ≡ false
+    → Some o ≡ (if becomes_opened st x then Some (length history) else Some o)
 not_opening history Is.Idle x o h = absurd (cc)
 not_opening history Is.Opening x o h = absurd (cc)
 not_opening history _ x o h = refl
 
-module _ (m : AppSpec) (speaker : Speaker) (laws : HasOutputModel m speaker) (history : List PastConnection) (conn : Connection) (fit : (o : ℕ) → All IsSnapshot (era history conn o).snapshots) where
+module _ (m : AppSpec) (speaker : Speaker) (laws : HasOutputModel m speaker) (history : List PastConnection) (conn : Connection)
+    (fit : (o : ℕ) → All IsSnapshot (era history conn o).snapshots) where
   -- its own counts and its window do not matter to what it received
-  recounts : (c : AbstractClient) (o : ℕ) (a u : ℕ) (f : FinAt) (w : ℕ) → HasOpened speaker c history conn o → HasOpened speaker (record c { acked = a; out = u; fin = f; window = w }) history conn o
+  recounts : (c : AbstractClient) (o : ℕ) (a u : ℕ) (f : FinAt) (w : ℕ) → HasOpened speaker c history conn o
+      → HasOpened speaker (record c { acked = a; out = u; fin = f; window = w }) history conn o
   recounts c o a u f w h = record {
     time = h.time;
     then_live = h.then_live;
@@ -115,7 +127,11 @@ module _ (m : AppSpec) (speaker : Speaker) (laws : HasOutputModel m speaker) (hi
 
   -- the client after text and maybe a FIN
   abbrev took : AbstractClient → Bool → List ℕ → AbstractClient
-  took c fin text = record c { received = c.received ++ text; expected = wrap (c.expected + length text + one_if fin); state = (if fin then after_fin c.state else c.state) }
+  took c fin text = record c {
+    received = c.received ++ text;
+    expected = wrap (c.expected + length text + one_if fin);
+    state = (if fin then after_fin c.state else c.state);
+  }
 
   not_closed : (st : ClientState) → is_receiving st ≡ true → has_closed st ≡ true → ⊥
   not_closed Is.Idle h e = cc
@@ -132,17 +148,20 @@ module _ (m : AppSpec) (speaker : Speaker) (laws : HasOutputModel m speaker) (hi
   after_deaf Is.Idle h e = cc
   after_deaf _ h e = cc
 
-  next_place : (c : AbstractClient) (o at : ℕ) (s : PlainSegment) → length c.request ≤ 4096 → HasOpened speaker c history conn o → is_receiving c.state ≡ true → s.seq ≡ c.expected →
+  next_place : (c : AbstractClient) (o at : ℕ) (s : PlainSegment) → length c.request ≤ 4096 → HasOpened speaker c history conn o
+      → is_receiving c.state ≡ true → s.seq ≡ c.expected →
       s.seq ≡ wrap ((era history conn o).iss + 1 + at) → at ≤ length (speaker.text c.request (era history conn o).snapshots) → at ≡ length c.received
   next_place c o at s low h i e q l =
       let short = laws.short c.request (era history conn o).snapshots low (fit o) in
       same_place ((era history conn o).iss + 1) at (length c.received) (omega (arith, short, l)) (omega (arith, short, h.part.fits)) (sym q ∙ e ∙ h.expected i)
 
-  text_taken : (c : AbstractClient) (o : ℕ) (s : PlainSegment) → length c.request ≤ 4096 → HasOpened speaker c history conn o → is_receiving c.state ≡ true → s.seq ≡ c.expected →
+  text_taken : (c : AbstractClient) (o : ℕ) (s : PlainSegment) → length c.request ≤ 4096 → HasOpened speaker c history conn o
+      → is_receiving c.state ≡ true → s.seq ≡ c.expected →
       IsText speaker c (era history conn o).iss (era history conn o).snapshots s → HasOpened speaker (takes_text c s) history conn o
   text_taken c o s low h i e n =
       let here : n.at ≡ length c.received = next_place c o n.at s low h i e n.seq (omega (arith, n.part.fits)) in
-      let p : IsPart (speaker.text c.request (era history conn o).snapshots) s.text (length c.received) = subst (λ x. IsPart (speaker.text c.request (era history conn o).snapshots) s.text x) here n.part in
+      let p : IsPart (speaker.text c.request (era history conn o).snapshots) s.text (length c.received) = subst
+      (λ x. IsPart (speaker.text c.request (era history conn o).snapshots) s.text x) here n.part in
       let moved : wrap (c.expected + length s.text + 0) ≡ wrap ((era history conn o).iss + 1 + length (c.received ++ s.text)) =
       ap (λ x. wrap (x + length s.text + 0)) (h.expected i) ∙ omega (arith, length-append c.received s.text) in
       let x : HasOpened speaker (took c false s.text) history conn o = record {
@@ -156,7 +175,8 @@ module _ (m : AppSpec) (speaker : Speaker) (laws : HasOutputModel m speaker) (hi
       } in
       subst (λ b. HasOpened speaker (took c b s.text) history conn o) (sym n.no_fin) x
 
-  fin_taken : (c : AbstractClient) (o : ℕ) (s : PlainSegment) → length c.request ≤ 4096 → HasOpened speaker c history conn o → is_receiving c.state ≡ true → s.seq ≡ c.expected → has_fin s.flags ≡ true →
+  fin_taken : (c : AbstractClient) (o : ℕ) (s : PlainSegment) → length c.request ≤ 4096 → HasOpened speaker c history conn o
+      → is_receiving c.state ≡ true → s.seq ≡ c.expected → has_fin s.flags ≡ true →
       IsFin speaker c (era history conn o).iss (era history conn o).snapshots s → HasOpened speaker (takes_text c s) history conn o
   fin_taken c o s low h i e f n =
       let k : List Snapshot = (era history conn o).snapshots in
@@ -175,8 +195,10 @@ module _ (m : AppSpec) (speaker : Speaker) (laws : HasOutputModel m speaker) (hi
       subst (λ b. HasOpened speaker (took c b s.text) history conn o) (sym f) (subst (λ t. HasOpened speaker (took c true t) history conn o) (sym n.no_text) x)
 
   -- text or FIN at the expected number of a client that asked
-  placed : (c : AbstractClient) (P : Type 0) (o : ℕ) (s : PlainSegment) → length c.request ≤ 4096 → HasOpened speaker c history conn o → has_rst s.flags ≡ false → has_syn s.flags ≡ false → occupies_sequence_space s ≡ true →
-      is_receiving c.state ≡ true → s.seq ≡ c.expected → NodeSent speaker c P (era history conn o).iss (era history conn o).snapshots s → HasOpened speaker (takes_text c s) history conn o
+  placed : (c : AbstractClient) (P : Type 0) (o : ℕ) (s : PlainSegment) → length c.request ≤ 4096 → HasOpened speaker c history conn o
+      → has_rst s.flags ≡ false → has_syn s.flags ≡ false → occupies_sequence_space s ≡ true →
+      is_receiving c.state ≡ true → s.seq ≡ c.expected → NodeSent speaker c P (era history conn o).iss (era history conn o).snapshots s
+      → HasOpened speaker (takes_text c s) history conn o
   placed c P o s low h nr ns pl i e (node_reset r) = absurd (cc)
   placed c P o s low h nr ns pl i e (node_syn r n) = absurd (let z : has_syn s.flags ≡ true = n.syn in cc)
   placed c P o s low h nr ns pl i e (node_ack r n) = absurd (nothing_placed s n.no_syn n.no_fin n.no_text pl)
@@ -186,7 +208,8 @@ module _ (m : AppSpec) (speaker : Speaker) (laws : HasOutputModel m speaker) (hi
   in_order_good : (client c : AbstractClient) (P : Type 0) (o : ℕ) (s : PlainSegment) → is_unasked client.state ≡ false →
       c.request ≡ client.request → own_first c ≡ own_first client →
       Steady c → HasOpened speaker c history conn o → has_rst s.flags ≡ false →
-      NodeSent speaker c P (era history conn o).iss (era history conn o).snapshots s → TookGood speaker client history conn (Some o) (Some o) (takes_in_order c s)
+      NodeSent speaker c P (era history conn o).iss (era history conn o).snapshots s → TookGood speaker client history conn (Some o)
+      (Some o) (takes_in_order c s)
   unfolding takes_in_order
   in_order_good client c P o s un r f steady h nr output =
       let on : (owed : Bool) → TookGood speaker client history conn (Some o) (Some o) (sends_next owed c) =
@@ -197,23 +220,29 @@ module _ (m : AppSpec) (speaker : Speaker) (laws : HasOutputModel m speaker) (hi
       (λ i. on false)
       (λ i. choose (λ x. TookGood speaker client history conn (Some o) (Some o) x) (eqb s.seq c.expected && is_receiving c.state) _ _
       (λ j. let a = and_true _ _ j in
-      let t : HasOpened speaker (takes_text c s) history conn o = placed c P o s steady.short h nr e (not-false (occupies_sequence_space s) i) a.1 (eqb-eq s.seq c.expected a.0) output in
-      goes_on client (takes_text c s) o true (Some o) (not_opening history client.state (takes_text c s).state o un) r f record { short = steady.short; low = steady.low; out_fits = steady.out_fits } t)
+      let t : HasOpened speaker (takes_text c s) history conn o = placed c P o s steady.short h nr e
+      (not-false (occupies_sequence_space s) i) a.1 (eqb-eq s.seq c.expected a.0) output in
+      goes_on client (takes_text c s) o true (Some o) (not_opening history client.state (takes_text c s).state o un) r f
+      record { short = steady.short; low = steady.low; out_fits = steady.out_fits } t)
       (λ j. on true)))
 
   -- a segment at a client that has opened
-  asked_good : (client : AbstractClient) (P : Type 0) (o : ℕ) (s : PlainSegment) → Steady client → HasOpened speaker client history conn o → has_rst s.flags ≡ false →
-      NodeSent speaker client P (era history conn o).iss (era history conn o).snapshots s → TookGood speaker client history conn (Some o) (Some o) (takes_in_order (receives_ack client s) s)
+  asked_good : (client : AbstractClient) (P : Type 0) (o : ℕ) (s : PlainSegment) → Steady client → HasOpened speaker client history conn o
+      → has_rst s.flags ≡ false →
+      NodeSent speaker client P (era history conn o).iss (era history conn o).snapshots s → TookGood speaker client history conn (Some o)
+      (Some o) (takes_in_order (receives_ack client s) s)
   asked_good client P o s steady h nr output =
       let g : Reception client (receives_ack client s) = receives_ack_is client s steady.out_fits in
       let c : AbstractClient = recounted client g.acked g.out g.fin in
       subst (λ x. TookGood speaker client history conn (Some o) (Some o) (takes_in_order x s)) (sym g.is)
       (in_order_good client c P o s h.asked refl refl record { short = steady.short; low = steady.low; out_fits = g.fits }
       (recounts client o g.acked g.out g.fin client.window h) nr
-      (node_later m speaker laws client c P P (era history conn o).iss (era history conn o).iss (era history conn o).snapshots (era history conn o).snapshots [] s refl (λ x. x) refl (sym (append_nothing (era history conn o).snapshots)) output))
+      (node_later m speaker laws client c P P (era history conn o).iss (era history conn o).iss (era history conn o).snapshots
+      (era history conn o).snapshots [] s refl (λ x. x) refl (sym (append_nothing (era history conn o).snapshots)) output))
 
   -- a step that sends the given segment, or nothing
-  represented : (client d : AbstractClient) (opened : Option ℕ) → becomes_opened client.state d.state ≡ false → d.request ≡ client.request → own_first d ≡ own_first client → Steady d → OpenedGood speaker d history conn opened →
+  represented : (client d : AbstractClient) (opened : Option ℕ) → becomes_opened client.state d.state ≡ false → d.request ≡ client.request
+      → own_first d ≡ own_first client → Steady d → OpenedGood speaker d history conn opened →
       TookGood speaker client history conn opened opened (keeps d)
   represented client d opened b r f steady h = record {
     next_is = ap (λ x. if x then Some (length history) else opened) (sym b);
@@ -224,7 +253,8 @@ module _ (m : AppSpec) (speaker : Speaker) (laws : HasOutputModel m speaker) (hi
     output = λ s p. absurd (cc);
   }
 
-  speaks : (client d : AbstractClient) (opened : Option ℕ) (s : PlainSegment) → becomes_opened client.state d.state ≡ false → d.request ≡ client.request → own_first d ≡ own_first client → Steady d → OpenedGood speaker d history conn opened →
+  speaks : (client d : AbstractClient) (opened : Option ℕ) (s : PlainSegment) → becomes_opened client.state d.state ≡ false
+      → d.request ≡ client.request → own_first d ≡ own_first client → Steady d → OpenedGood speaker d history conn opened →
       ClientSent d opened (length history) s → TookGood speaker client history conn opened opened (steps_with d s)
   speaks client d opened s b r f steady h output = record {
     next_is = ap (λ x. if x then Some (length history) else opened) (sym b);
@@ -235,11 +265,13 @@ module _ (m : AppSpec) (speaker : Speaker) (laws : HasOutputModel m speaker) (hi
     output = λ x p. only_some (λ y. ClientSent d opened (length history) y) s x p output;
   }
 
-  stays : (client : AbstractClient) (opened : Option ℕ) → Steady client → OpenedGood speaker client history conn opened → TookGood speaker client history conn opened opened (keeps client)
+  stays : (client : AbstractClient) (opened : Option ℕ) → Steady client → OpenedGood speaker client history conn opened
+      → TookGood speaker client history conn opened opened (keeps client)
   stays client opened steady h = represented client client opened (same_becomes client.state) refl refl steady h
 
   -- a client that becomes Reset
-  reset_opened : (client : AbstractClient) (opened : Option ℕ) → OpenedGood speaker client history conn opened → OpenedGood speaker (record client { state = Is.Reset }) history conn opened
+  reset_opened : (client : AbstractClient) (opened : Option ℕ) → OpenedGood speaker client history conn opened
+      → OpenedGood speaker (record client { state = Is.Reset }) history conn opened
   reset_opened client None h = record { early = refl; nothing = h.nothing }
   reset_opened client (Some o) h = record {
     time = h.time;
@@ -252,8 +284,10 @@ module _ (m : AppSpec) (speaker : Speaker) (laws : HasOutputModel m speaker) (hi
   }
 
   -- a client that opens
-  opens_good : (client : AbstractClient) (P : Type 0) (s : PlainSegment) → client.state ≡ Is.Opening → Steady client → NotOpened client → is_live conn.state ≡ true →
-      has_rst s.flags ≡ false → has_syn s.flags ≡ true → NodeSent speaker client P (era history conn (length history)).iss (era history conn (length history)).snapshots s →
+  opens_good : (client : AbstractClient) (P : Type 0) (s : PlainSegment) → client.state ≡ Is.Opening → Steady client → NotOpened client
+      → is_live conn.state ≡ true →
+      has_rst s.flags ≡ false → has_syn s.flags ≡ true → NodeSent speaker client P (era history conn (length history)).iss
+      (era history conn (length history)).snapshots s →
       TookGood speaker client history conn None (Some (length history)) (sends_next true (opened_by client s))
   opens_good client P s st steady h lv nr sy (node_reset r) = absurd (cc)
   opens_good client P s st steady h lv nr sy (node_ack r n) = absurd (let z : has_syn s.flags ≡ false = n.no_syn in cc)
@@ -281,13 +315,16 @@ module _ (m : AppSpec) (speaker : Speaker) (laws : HasOutputModel m speaker) (hi
     pub good : TookGood speaker client history conn opened next took
 
   is_asked : (client : AbstractClient) (st : ClientState) (o : ℕ) → client.state ≡ st → is_unasked st ≡ true → HasOpened speaker client history conn o → ⊥
-  is_asked client st o e n h = let z : is_unasked client.state ≡ is_unasked st = ap is_unasked e in let y : is_unasked client.state ≡ false = h.asked in absurd (cc)
+  is_asked client st o e n h = let z : is_unasked client.state ≡ is_unasked st = ap is_unasked e in let y : is_unasked client.state
+      ≡ false = h.asked in absurd (cc)
 
   not_early : (client : AbstractClient) (st : ClientState) → client.state ≡ st → is_early st ≡ false → NotOpened client → ⊥
   not_early client st e n h = let z : is_early client.state ≡ is_early st = ap is_early e in let y : is_early client.state ≡ true = h.early in absurd (cc)
 
-  by_good : (st : ClientState) (client : AbstractClient) (P : Type 0) (opened : Option ℕ) (s : PlainSegment) → client.state ≡ st → Steady client → OpenedGood speaker client history conn opened → has_rst s.flags ≡ false →
-      is_live conn.state ≡ true → NodeSent speaker client P (era history conn (length history)).iss (era history conn (length history)).snapshots s → Took_it client opened (takes_by st client s)
+  by_good : (st : ClientState) (client : AbstractClient) (P : Type 0) (opened : Option ℕ) (s : PlainSegment) → client.state ≡ st
+      → Steady client → OpenedGood speaker client history conn opened → has_rst s.flags ≡ false →
+      is_live conn.state ≡ true → NodeSent speaker client P (era history conn (length history)).iss
+      (era history conn (length history)).snapshots s → Took_it client opened (takes_by st client s)
   unfolding takes_by
   by_good Is.Idle client P opened s st steady h nr lv output = record { next = opened; good = stays client opened steady h }
   by_good Is.Reset client P opened s st steady h nr lv output = record { next = opened; good = stays client opened steady h }
@@ -300,13 +337,34 @@ module _ (m : AppSpec) (speaker : Speaker) (laws : HasOutputModel m speaker) (hi
   by_good Is.Closing client P None s st steady h nr lv output = absurd (not_early client _ st refl h)
   by_good Is.Closed client P None s st steady h nr lv output = absurd (not_early client _ st refl h)
   by_good Is.Ended client P None s st steady h nr lv output = absurd (not_early client _ st refl h)
-  by_good Is.Opened client P (Some o) s st steady h nr lv output = record { next = Some o; good = asked_good client P o s steady h nr (subst (λ n. NodeSent speaker client P (era history conn n).iss (era history conn n).snapshots s) (sym (h.live_then lv)) output) }
-  by_good Is.Closing client P (Some o) s st steady h nr lv output = record { next = Some o; good = asked_good client P o s steady h nr (subst (λ n. NodeSent speaker client P (era history conn n).iss (era history conn n).snapshots s) (sym (h.live_then lv)) output) }
-  by_good Is.Closed client P (Some o) s st steady h nr lv output = record { next = Some o; good = asked_good client P o s steady h nr (subst (λ n. NodeSent speaker client P (era history conn n).iss (era history conn n).snapshots s) (sym (h.live_then lv)) output) }
-  by_good Is.Ended client P (Some o) s st steady h nr lv output = record { next = Some o; good = asked_good client P o s steady h nr (subst (λ n. NodeSent speaker client P (era history conn n).iss (era history conn n).snapshots s) (sym (h.live_then lv)) output) }
+  by_good Is.Opened client P (Some o) s st steady h nr lv output =
+      record {
+        next = Some o;
+        good = asked_good client P o s steady h nr
+            (subst (λ n. NodeSent speaker client P (era history conn n).iss (era history conn n).snapshots s) (sym (h.live_then lv)) output);
+      }
+  by_good Is.Closing client P (Some o) s st steady h nr lv output =
+      record {
+        next = Some o;
+        good = asked_good client P o s steady h nr
+            (subst (λ n. NodeSent speaker client P (era history conn n).iss (era history conn n).snapshots s) (sym (h.live_then lv)) output);
+      }
+  by_good Is.Closed client P (Some o) s st steady h nr lv output =
+      record {
+        next = Some o;
+        good = asked_good client P o s steady h nr
+            (subst (λ n. NodeSent speaker client P (era history conn n).iss (era history conn n).snapshots s) (sym (h.live_then lv)) output);
+      }
+  by_good Is.Ended client P (Some o) s st steady h nr lv output =
+      record {
+        next = Some o;
+        good = asked_good client P o s steady h nr
+            (subst (λ n. NodeSent speaker client P (era history conn n).iss (era history conn n).snapshots s) (sym (h.live_then lv)) output);
+      }
 
   -- any datagram of the node that is not stale
-  pub client_takes_good : (client : AbstractClient) (opened : Option ℕ) (e : Sent) → Steady client → OpenedGood speaker client history conn opened → e.epoch ≡ length history →
+  pub client_takes_good : (client : AbstractClient) (opened : Option ℕ) (e : Sent) → Steady client → OpenedGood speaker client history conn
+      opened → e.epoch ≡ length history →
       ToGood speaker client opened history conn e → Took_it client opened (client_takes client (seg e))
   unfolding client_takes
   client_takes_good client opened e steady h fresh g =
@@ -325,7 +383,8 @@ module _ (m : AppSpec) (speaker : Speaker) (laws : HasOutputModel m speaker) (hi
   sends_syn : (client d : AbstractClient) → own_first d ≡ own_first client → ClientSent client None (length history) (syn_of d)
   sends_syn client d f = sent_syn record { syn = refl; no_ack = refl; no_text = refl; seq = f; before = λ o x. absurd (cc) }
 
-  pub opens_by_good : (st : ClientState) (client : AbstractClient) (opened : Option ℕ) → client.state ≡ st → Steady client → OpenedGood speaker client history conn opened → Took_it client opened (opens_by st client)
+  pub opens_by_good : (st : ClientState) (client : AbstractClient) (opened : Option ℕ) → client.state ≡ st → Steady client
+      → OpenedGood speaker client history conn opened → Took_it client opened (opens_by st client)
   unfolding opens_by
   opens_by_good Is.Idle client (Some o) st steady h = absurd (is_asked client Is.Idle o st refl h)
   opens_by_good Is.Idle client None st steady h =
@@ -339,11 +398,17 @@ module _ (m : AppSpec) (speaker : Speaker) (laws : HasOutputModel m speaker) (hi
   opens_by_good Is.Opening client opened st steady h = record { next = opened; good = stays client opened steady h }
   opens_by_good _ client opened st steady h = record { next = opened; good = stays client opened steady h }
 
-  speaks_again : (client : AbstractClient) (o : ℕ) (s : PlainSegment) → Steady client → HasOpened speaker client history conn o → IsData client (Some o) s → Took_it client (Some o) (steps_with client s)
-  speaks_again client o s steady h d = record { next = Some o; good = speaks client client (Some o) s (same_becomes client.state) refl refl steady h (sent_data d) }
+  speaks_again : (client : AbstractClient) (o : ℕ) (s : PlainSegment) → Steady client → HasOpened speaker client history conn o
+      → IsData client (Some o) s → Took_it client (Some o) (steps_with client s)
+  speaks_again client o s steady h d = record {
+    next = Some o;
+    good = speaks client client (Some o) s (same_becomes client.state) refl refl
+        steady h (sent_data d);
+  }
 
   repeats_data : (client : AbstractClient) (o : ℕ) → Steady client → HasOpened speaker client history conn o →
-      Took_it client (Some o) (if ltb 0 client.out then steps_with client (own_request client) else if fin_out client.fin then steps_with client (own_fin client) else steps_with client (ack_of client))
+      Took_it client (Some o) (if ltb 0 client.out then steps_with client (own_request client) else if fin_out client.fin then steps_with
+      client (own_fin client) else steps_with client (ack_of client))
   repeats_data client o steady h =
       choose (λ x. Took_it client (Some o) x) (ltb 0 client.out) _ _
       (λ e. speaks_again client o (own_request client) steady h (request_data client (Some o) refl steady.out_fits))
@@ -351,11 +416,13 @@ module _ (m : AppSpec) (speaker : Speaker) (laws : HasOutputModel m speaker) (hi
       (λ f. speaks_again client o (own_fin client) steady h (fin_data client client (Some o) refl))
       (λ f. speaks_again client o (ack_of client) steady h (ack_data client client (Some o) refl)))
 
-  pub again_by_good : (st : ClientState) (client : AbstractClient) (opened : Option ℕ) → client.state ≡ st → Steady client → OpenedGood speaker client history conn opened → Took_it client opened (again_by st client)
+  pub again_by_good : (st : ClientState) (client : AbstractClient) (opened : Option ℕ) → client.state ≡ st → Steady client
+      → OpenedGood speaker client history conn opened → Took_it client opened (again_by st client)
   unfolding again_by
   again_by_good Is.Idle client opened st steady h = record { next = opened; good = stays client opened steady h }
   again_by_good Is.Reset client opened st steady h = record { next = opened; good = stays client opened steady h }
-  again_by_good Is.Opening client None st steady h = record { next = None; good = speaks client client None (syn_of client) (same_becomes client.state) refl refl steady h (sends_syn client client refl) }
+  again_by_good Is.Opening client None st steady h =
+      record { next = None; good = speaks client client None (syn_of client) (same_becomes client.state) refl refl steady h (sends_syn client client refl) }
   again_by_good Is.Opening client (Some o) st steady h = absurd (is_asked client Is.Opening o st refl h)
   again_by_good Is.Opened client (Some o) st steady h = repeats_data client o steady h
   again_by_good Is.Closing client (Some o) st steady h = repeats_data client o steady h
@@ -366,7 +433,8 @@ module _ (m : AppSpec) (speaker : Speaker) (laws : HasOutputModel m speaker) (hi
   again_by_good Is.Closed client None st steady h = absurd (not_early client _ st refl h)
   again_by_good Is.Ended client None st steady h = absurd (not_early client _ st refl h)
 
-  pub closes_by_good : (st : ClientState) (client : AbstractClient) (opened : Option ℕ) → client.state ≡ st → Steady client → OpenedGood speaker client history conn opened → Took_it client opened (closes_by st client)
+  pub closes_by_good : (st : ClientState) (client : AbstractClient) (opened : Option ℕ) → client.state ≡ st → Steady client
+      → OpenedGood speaker client history conn opened → Took_it client opened (closes_by st client)
   unfolding closes_by
   closes_by_good Is.Opened client None st steady h = absurd (not_early client _ st refl h)
   closes_by_good Is.Opened client (Some o) st steady h =
@@ -382,12 +450,14 @@ module _ (m : AppSpec) (speaker : Speaker) (laws : HasOutputModel m speaker) (hi
       } in
       record {
         next = Some o;
-        good = goes_on client c o false (Some o) (not_opening history client.state c.state o h.asked) refl refl record { short = steady.short; low = steady.low; out_fits = steady.out_fits } g;
+        good = goes_on client c o false (Some o) (not_opening history client.state c.state o h.asked) refl refl
+            record { short = steady.short; low = steady.low; out_fits = steady.out_fits } g;
       }
   closes_by_good Is.Idle client opened st steady h = record { next = opened; good = stays client opened steady h }
   closes_by_good _ client opened st steady h = record { next = opened; good = stays client opened steady h }
 
-  goes_reset : (client : AbstractClient) (opened : Option ℕ) → Steady client → OpenedGood speaker client history conn opened → Took_it client opened (steps_with (record client { state = Is.Reset }) (own_reset client))
+  goes_reset : (client : AbstractClient) (opened : Option ℕ) → Steady client → OpenedGood speaker client history conn opened
+      → Took_it client opened (steps_with (record client { state = Is.Reset }) (own_reset client))
   goes_reset client opened steady h =
       record {
         next = opened;
@@ -395,18 +465,21 @@ module _ (m : AppSpec) (speaker : Speaker) (laws : HasOutputModel m speaker) (hi
             record { short = steady.short; low = steady.low; out_fits = steady.out_fits } (reset_opened client opened h) (sent_reset refl);
       }
 
-  pub aborts_by_good : (st : ClientState) (client : AbstractClient) (opened : Option ℕ) → client.state ≡ st → Steady client → OpenedGood speaker client history conn opened → Took_it client opened (aborts_by st client)
+  pub aborts_by_good : (st : ClientState) (client : AbstractClient) (opened : Option ℕ) → client.state ≡ st → Steady client
+      → OpenedGood speaker client history conn opened → Took_it client opened (aborts_by st client)
   unfolding aborts_by
   aborts_by_good Is.Opening client opened st steady h = goes_reset client opened steady h
   aborts_by_good Is.Opened client opened st steady h = goes_reset client opened steady h
   aborts_by_good Is.Closing client opened st steady h = goes_reset client opened steady h
   aborts_by_good _ client opened st steady h = record { next = opened; good = stays client opened steady h }
 
-  window_opened : (client : AbstractClient) (w : ℕ) (opened : Option ℕ) → OpenedGood speaker client history conn opened → OpenedGood speaker (record client { window = w }) history conn opened
+  window_opened : (client : AbstractClient) (w : ℕ) (opened : Option ℕ) → OpenedGood speaker client history conn opened
+      → OpenedGood speaker (record client { window = w }) history conn opened
   window_opened client w None h = record { early = h.early; nothing = h.nothing }
   window_opened client w (Some o) h = recounts client o client.acked client.out client.fin w h
 
-  pub window_good : (client : AbstractClient) (w : ℕ) (opened : Option ℕ) → Steady client → OpenedGood speaker client history conn opened → Took_it client opened (keeps (record client { window = w }))
+  pub window_good : (client : AbstractClient) (w : ℕ) (opened : Option ℕ) → Steady client → OpenedGood speaker client history conn opened
+      → Took_it client opened (keeps (record client { window = w }))
   window_good client w opened steady h =
       record {
         next = opened;

@@ -1,6 +1,13 @@
 -- One changed byte: a datagram that passed every check is refused at every address.
 -- [add: fate] A datagram with one changed byte and the further check.
-use Rattle.link_world.proofs.Prelude.{All, IcmpRefused, EchoAsked, option_map_or, ◌≡◌, ◌≢◌, ℕ, zero, suc, ◌+◌, ◌-◌, ◌*◌, ◌%◌, ◌<◌, ◌≤◌, Bool, true, false, not, ◌||◌, ◌⊎◌, inl, inr, List, [], ◌∷◌, ◌++◌, length, take, drop, set, refl, sym, ap, ◌∙◌, subst, arith, Option, Some, None, Result, Ok, Err, slice_index, length-append, length-drop, eqb, ltb, bytes_eq, bit_xor, append_assoc, if◌then◌else◌, eqb-true, ne_eqb, bytes_eq-Decides, xor_of_8, xor_assoc, xor_self, xor_zero_l, address_at, checksum_of, word_at, Addr, one_byte, head_or_fate, head_by, proto_of, IsHeadOf, payload_of, IpHead, IpFate, Proto, Icmp, head_facts, echo_fate, segment_in, segment_or_fate, header_len, pseudo_header, Segment, IsByte, event_of, by_head, by_proto, by_segment, changed, PassesBy, IsWholeDatagram, is_refused, both_ways, choose}
+use Rattle.link_world.proofs.Prelude.{All, IcmpRefused, EchoAsked, option_map_or, ◌≡◌, ◌≢◌, ℕ, zero, suc, ◌+◌, ◌-◌, ◌*◌, ◌%◌, ◌<◌, ◌≤◌}
+use Rattle.link_world.proofs.Prelude.{Bool, true, false, not, ◌||◌, ◌⊎◌, inl, inr, List, [], ◌∷◌, ◌++◌, length, take, drop, set, refl, sym}
+use Rattle.link_world.proofs.Prelude.{ap, ◌∙◌, subst, arith, Option, Some, None, Result, Ok, Err, slice_index, length-append, length-drop}
+use Rattle.link_world.proofs.Prelude.{eqb, ltb, bytes_eq, bit_xor, append_assoc, if◌then◌else◌, eqb-true, ne_eqb, bytes_eq-Decides}
+use Rattle.link_world.proofs.Prelude.{xor_of_8, xor_assoc, xor_self, xor_zero_l, address_at, checksum_of, word_at, Addr, one_byte}
+use Rattle.link_world.proofs.Prelude.{head_or_fate, head_by, proto_of, IsHeadOf, payload_of, IpHead, IpFate, Proto, Icmp, head_facts}
+use Rattle.link_world.proofs.Prelude.{echo_fate, segment_in, segment_or_fate, header_len, pseudo_header, Segment, IsByte, event_of, by_head}
+use Rattle.link_world.proofs.Prelude.{by_proto, by_segment, changed, PassesBy, IsWholeDatagram, is_refused, both_ways, choose}
 use Rattle.uip_ipv4.specs.declared.fate.IpFate.TheVariants as Ip
 use Rattle.uip_ipv4.specs.declared.proto.Proto.TheVariants.{Tcp}
 use Rattle.icmp_echo.specs.declared.fate.IcmpFate.TheVariants as IcmpFate
@@ -21,7 +28,15 @@ around [] at other l = absurd (omega arith)
 around (x ∷ xs) zero other l = record { prefix = []; one = x; back = xs; place = refl; is = refl; index = refl; written = refl }
 around (x ∷ xs) (suc at) other l =
     let r = around xs at other (omega arith) in
-    record { prefix = x ∷ r.prefix; one = r.one; back = r.back; place = ap suc r.place; is = ap (λ t. x ∷ t) r.is; index = r.index; written = ap (λ t. x ∷ t) r.written }
+    record {
+      prefix = x ∷ r.prefix;
+      one = r.one;
+      back = r.back;
+      place = ap suc r.place;
+      is = ap (λ t. x ∷ t) r.is;
+      index = r.index;
+      written = ap (λ t. x ∷ t) r.written;
+    }
 
 take_around : (prefix back : List ℕ) (v n : ℕ) → length prefix < n → take n (prefix ++ v ∷ back) ≡ prefix ++ v ∷ take (n - length prefix - 1) back
 take_around [] back v zero l = absurd (omega arith)
@@ -80,7 +95,8 @@ head_sum head bytes is =
     let p5 = passed (not (eqb (checksum_of (take 20 bytes)) 0)) Ip.Checksum _ head p4.1 in
     is_zero (checksum_of (take 20 bytes)) p5.0
 
-segment_sum : (source target payload : List ℕ) (s : Segment) → segment_in source target payload ≡ Ok s → checksum_of (pseudo_header source target (length payload) ++ payload) ≡ 0
+segment_sum : (source target payload : List ℕ) (s : Segment) → segment_in source target payload ≡ Ok s
+    → checksum_of (pseudo_header source target (length payload) ++ payload) ≡ 0
 unfolding segment_in
 segment_sum source target payload s is =
     let p1 = passed (ltb (length payload) 20) TcpFate.Short _ s is in
@@ -102,7 +118,8 @@ head_refused bytes own n =
     choose (λ r. is_refused (by_head bytes r) ≡ true) (not (eqb (slice_index bytes 0) 69)) _ _ (λ e. refl) (λ e.
     choose (λ r. is_refused (by_head bytes r) ≡ true) (ltb (word_at bytes 2) 20 || ltb (length bytes) (word_at bytes 2)) _ _ (λ e. refl) (λ e.
     choose (λ r. is_refused (by_head bytes r) ≡ true) (not (eqb (word_at bytes 6 % 16384) 0)) _ _ (λ e. refl) (λ e.
-    choose (λ r. is_refused (by_head bytes r) ≡ true) (not (eqb (checksum_of (take 20 bytes)) 0)) _ _ (λ e. refl) (λ e. absurd (n (is_zero (checksum_of (take 20 bytes)) e)))))))
+    choose (λ r. is_refused (by_head bytes r) ≡ true) (not (eqb (checksum_of (take 20 bytes)) 0)) _ _ (λ e. refl)
+    (λ e. absurd (n (is_zero (checksum_of (take 20 bytes)) e)))))))
 
 -- what the checks of the header look at
 abbrev decided : ℕ → ℕ → ℕ → ℕ → ℕ → List ℕ → List ℕ → Result IpHead IpFate → Result IpHead IpFate
@@ -116,13 +133,15 @@ decided len iss total fragment sum target own last =
     else last
 
 -- only the first 20 bytes and the length matter to the header
-same_head : (prefix back : List ℕ) (one other : ℕ) (own : List ℕ) → 20 ≤ length prefix → head_or_fate (prefix ++ other ∷ back) own ≡ head_or_fate (prefix ++ one ∷ back) own
+same_head : (prefix back : List ℕ) (one other : ℕ) (own : List ℕ) → 20 ≤ length prefix → head_or_fate (prefix ++ other ∷ back) own
+    ≡ head_or_fate (prefix ++ one ∷ back) own
 unfolding head_or_fate
 same_head prefix back one other own l =
     let a : List ℕ = prefix ++ other ∷ back in
     let b : List ℕ = prefix ++ one ∷ back in
     let i : (n : ℕ) → n < length prefix → slice_index a n ≡ slice_index b n = λ n h. index_prefix prefix (other ∷ back) (one ∷ back) n h in
-    let w : (n : ℕ) → n + 1 < length prefix → word_at a n ≡ word_at b n = λ n h. ap (λ x. 256 * x + slice_index a (n + 1)) (i n (omega (arith, h))) ∙ ap (λ x. 256 * slice_index b n + x) (i (n + 1) h) in
+    let w : (n : ℕ) → n + 1 < length prefix → word_at a n ≡ word_at b n = λ n h. ap (λ x. 256 * x + slice_index a (n + 1))
+    (i n (omega (arith, h))) ∙ ap (λ x. 256 * slice_index b n + x) (i (n + 1) h) in
     let len : length a ≡ length b = omega (arith, length-append prefix (other ∷ back), length-append prefix (one ∷ back)) in
     let t : take 20 a ≡ take 20 b = take_prefix prefix (other ∷ back) (one ∷ back) 20 l in
     let addr : (n : ℕ) → n + 3 < length prefix → address_at a n ≡ address_at b n = λ n h.
@@ -130,17 +149,27 @@ same_head prefix back one other own l =
     ∙ ap (λ x. slice_index b n ∷ x ∷ slice_index a (n + 2) ∷ slice_index a (n + 3) ∷ []) (i (n + 1) (omega (arith, h)))
     ∙ ap (λ x. slice_index b n ∷ slice_index b (n + 1) ∷ x ∷ slice_index a (n + 3) ∷ []) (i (n + 2) (omega (arith, h)))
     ∙ ap (λ x. slice_index b n ∷ slice_index b (n + 1) ∷ slice_index b (n + 2) ∷ x ∷ []) (i (n + 3) h) in
-    let last : (p : Option Proto) → head_by p a ≡ head_by p b = λ p. same_by p a b (w 2 (omega (arith, l))) (addr 12 (omega (arith, l))) (addr 16 (omega (arith, l))) in
-    ap (λ x. decided x (slice_index a 0) (word_at a 2) (word_at a 6) (checksum_of (take 20 a)) (address_at a 16) own (head_by (proto_of (slice_index a 9)) a)) len
-    ∙ ap (λ x. decided (length b) x (word_at a 2) (word_at a 6) (checksum_of (take 20 a)) (address_at a 16) own (head_by (proto_of (slice_index a 9)) a)) (i 0 (omega (arith, l)))
-    ∙ ap (λ x. decided (length b) (slice_index b 0) x (word_at a 6) (checksum_of (take 20 a)) (address_at a 16) own (head_by (proto_of (slice_index a 9)) a)) (w 2 (omega (arith, l)))
-    ∙ ap (λ x. decided (length b) (slice_index b 0) (word_at b 2) x (checksum_of (take 20 a)) (address_at a 16) own (head_by (proto_of (slice_index a 9)) a)) (w 6 (omega (arith, l)))
-    ∙ ap (λ x. decided (length b) (slice_index b 0) (word_at b 2) (word_at b 6) (checksum_of x) (address_at a 16) own (head_by (proto_of (slice_index a 9)) a)) t
-    ∙ ap (λ x. decided (length b) (slice_index b 0) (word_at b 2) (word_at b 6) (checksum_of (take 20 b)) x own (head_by (proto_of (slice_index a 9)) a)) (addr 16 (omega (arith, l)))
-    ∙ ap (λ x. decided (length b) (slice_index b 0) (word_at b 2) (word_at b 6) (checksum_of (take 20 b)) (address_at b 16) own (head_by (proto_of x) a)) (i 9 (omega (arith, l)))
-    ∙ ap (λ x. decided (length b) (slice_index b 0) (word_at b 2) (word_at b 6) (checksum_of (take 20 b)) (address_at b 16) own x) (last (proto_of (slice_index b 9)))
+    let last : (p : Option Proto) → head_by p a ≡ head_by p b = λ p. same_by p a b (w 2 (omega (arith, l))) (addr 12 (omega (arith, l)))
+    (addr 16 (omega (arith, l))) in
+    ap (λ x. decided x (slice_index a 0) (word_at a 2) (word_at a 6) (checksum_of (take 20 a)) (address_at a 16) own
+    (head_by (proto_of (slice_index a 9)) a)) len
+    ∙ ap (λ x. decided (length b) x (word_at a 2) (word_at a 6) (checksum_of (take 20 a)) (address_at a 16) own
+    (head_by (proto_of (slice_index a 9)) a)) (i 0 (omega (arith, l)))
+    ∙ ap (λ x. decided (length b) (slice_index b 0) x (word_at a 6) (checksum_of (take 20 a)) (address_at a 16) own
+    (head_by (proto_of (slice_index a 9)) a)) (w 2 (omega (arith, l)))
+    ∙ ap (λ x. decided (length b) (slice_index b 0) (word_at b 2) x (checksum_of (take 20 a)) (address_at a 16) own
+    (head_by (proto_of (slice_index a 9)) a)) (w 6 (omega (arith, l)))
+    ∙ ap (λ x. decided (length b) (slice_index b 0) (word_at b 2) (word_at b 6) (checksum_of x) (address_at a 16) own
+    (head_by (proto_of (slice_index a 9)) a)) t
+    ∙ ap (λ x. decided (length b) (slice_index b 0) (word_at b 2) (word_at b 6) (checksum_of (take 20 b)) x own
+    (head_by (proto_of (slice_index a 9)) a)) (addr 16 (omega (arith, l)))
+    ∙ ap (λ x. decided (length b) (slice_index b 0) (word_at b 2) (word_at b 6) (checksum_of (take 20 b)) (address_at b 16) own
+    (head_by (proto_of x) a)) (i 9 (omega (arith, l)))
+    ∙ ap (λ x. decided (length b) (slice_index b 0) (word_at b 2) (word_at b 6) (checksum_of (take 20 b)) (address_at b 16) own x)
+    (last (proto_of (slice_index b 9)))
   where
-    same_by : (p : Option Proto) (a b : List ℕ) → word_at a 2 ≡ word_at b 2 → address_at a 12 ≡ address_at b 12 → address_at a 16 ≡ address_at b 16 → head_by p a ≡ head_by p b
+    same_by : (p : Option Proto) (a b : List ℕ) → word_at a 2 ≡ word_at b 2 → address_at a 12 ≡ address_at b 12
+        → address_at a 16 ≡ address_at b 16 → head_by p a ≡ head_by p b
     same_by None a b t s d = refl
     same_by (Some proto) a b t s d =
         ap (λ x. Ok (record { total = x; proto = proto; source = record { 0 = address_at a 12 }; target = record { 0 = address_at a 16 } })) t
@@ -155,54 +184,79 @@ elsewhere bytes own e =
     choose (λ r. (fate : IpFate) × (r ≡ Err fate)) (ltb (word_at bytes 2) 20 || ltb (length bytes) (word_at bytes 2)) _ _ (λ z. (Ip.Length, refl)) (λ z.
     choose (λ r. (fate : IpFate) × (r ≡ Err fate)) (not (eqb (word_at bytes 6 % 16384) 0)) _ _ (λ z. (Ip.Fragment, refl)) (λ z.
     choose (λ r. (fate : IpFate) × (r ≡ Err fate)) (not (eqb (checksum_of (take 20 bytes)) 0)) _ _ (λ z. (Ip.Checksum, refl)) (λ z.
-    choose (λ r. (fate : IpFate) × (r ≡ Err fate)) (not (bytes_eq (address_at bytes 16) own)) _ _ (λ z. (Ip.NotOurs, refl)) (λ z. absurd (let y : bytes_eq (address_at bytes 16) own ≡ true = Rattle.uip_node.proofs.Basics.not-false (bytes_eq (address_at bytes 16) own) z in cc)))))))
+    choose (λ r. (fate : IpFate) × (r ≡ Err fate)) (not (bytes_eq (address_at bytes 16) own)) _ _ (λ z. (Ip.NotOurs, refl))
+    (λ z. absurd (let y : bytes_eq (address_at bytes 16) own ≡ true = Rattle.uip_node.proofs.Basics.not-false
+    (bytes_eq (address_at bytes 16) own) z in cc)))))))
 
 -- at another address than its own it is refused, at its own it has this header
-head_or_refused : (head : IpHead) (bytes : List ℕ) (own : List ℕ) → IsHeadOf head bytes → ((fate : IpFate) × (head_or_fate bytes own ≡ Err fate)) ⊎ (head_or_fate bytes own ≡ Ok head)
+head_or_refused : (head : IpHead) (bytes : List ℕ) (own : List ℕ) → IsHeadOf head bytes
+    → ((fate : IpFate) × (head_or_fate bytes own ≡ Err fate)) ⊎ (head_or_fate bytes own ≡ Ok head)
 head_or_refused head bytes own is =
     both_ways (bytes_eq (address_at bytes 16) own)
-    (λ e. let f = head_facts head bytes is in inr (subst (λ x. head_or_fate bytes x ≡ Ok head) (f.target ∙ (bytes_eq-Decides (address_at bytes 16) own).0 e) is))
+    (λ e. let f = head_facts head bytes is in
+    inr (subst (λ x. head_or_fate bytes x ≡ Ok head) (f.target ∙ (bytes_eq-Decides (address_at bytes 16) own).0 e) is))
     (λ e. inl (elsewhere bytes own e))
 
 -- a wrong segment, and a wrong message, are refused
-segment_refused : (head : IpHead) (bytes payload : List ℕ) → payload_of head bytes ≡ payload → checksum_of (pseudo_header head.source.0 head.target.0 (length payload) ++ payload) ≢ 0 → is_refused (by_segment head bytes (segment_or_fate head bytes)) ≡ true
+segment_refused : (head : IpHead) (bytes payload : List ℕ) → payload_of head bytes ≡ payload
+    → checksum_of (pseudo_header head.source.0 head.target.0 (length payload) ++ payload) ≢ 0
+    → is_refused (by_segment head bytes (segment_or_fate head bytes)) ≡ true
 unfolding segment_in
 segment_refused head bytes payload e n =
     subst (λ x. is_refused (by_segment head bytes (segment_in head.source.0 head.target.0 x)) ≡ true) (sym e)
     (choose (λ r. is_refused (by_segment head bytes r) ≡ true) (ltb (length payload) 20) _ _ (λ z. refl) (λ z.
     choose (λ r. is_refused (by_segment head bytes r) ≡ true) (ltb (header_len payload) 20 || ltb (length payload) (header_len payload)) _ _ (λ z. refl) (λ z.
-    choose (λ r. is_refused (by_segment head bytes r) ≡ true) (not (eqb (checksum_of (pseudo_header head.source.0 head.target.0 (length payload) ++ payload)) 0)) _ _ (λ z. refl)
+    choose (λ r. is_refused (by_segment head bytes r) ≡ true)
+    (not (eqb (checksum_of (pseudo_header head.source.0 head.target.0 (length payload) ++ payload)) 0)) _ _ (λ z. refl)
     (λ z. absurd (n (is_zero (checksum_of (pseudo_header head.source.0 head.target.0 (length payload) ++ payload)) z))))))
 
-echo_refused : (head : IpHead) (bytes message : List ℕ) → checksum_of message ≢ 0 → is_refused (option_map_or IcmpRefused (echo_fate message) (EchoAsked (take head.total bytes))) ≡ true
+echo_refused : (head : IpHead) (bytes message : List ℕ) → checksum_of message ≢ 0
+    → is_refused (option_map_or IcmpRefused (echo_fate message) (EchoAsked (take head.total bytes))) ≡ true
 echo_refused head bytes message n =
     choose (λ r. is_refused (option_map_or IcmpRefused r (EchoAsked (take head.total bytes))) ≡ true) (ltb (length message) 8) _ _ (λ z. refl) (λ z.
-    choose (λ r. is_refused (option_map_or IcmpRefused r (EchoAsked (take head.total bytes))) ≡ true) (not (eqb (checksum_of message) 0)) _ _ (λ z. refl) (λ z. absurd (n (is_zero (checksum_of message) z))))
+    choose (λ r. is_refused (option_map_or IcmpRefused r (EchoAsked (take head.total bytes))) ≡ true) (not (eqb (checksum_of message) 0)) _
+    _ (λ z. refl) (λ z. absurd (n (is_zero (checksum_of message) z))))
 
-payload_is : (head : IpHead) (prefix back : List ℕ) (v : ℕ) → head.total ≡ length (prefix ++ v ∷ back) → 20 ≤ length prefix → payload_of head (prefix ++ v ∷ back) ≡ drop 20 prefix ++ v ∷ back
+payload_is : (head : IpHead) (prefix back : List ℕ) (v : ℕ) → head.total ≡ length (prefix ++ v ∷ back) → 20 ≤ length prefix
+    → payload_of head (prefix ++ v ∷ back) ≡ drop 20 prefix ++ v ∷ back
 payload_is head prefix back v t l =
     let d : drop 20 (prefix ++ v ∷ back) ≡ drop 20 prefix ++ v ∷ back = drop_around prefix (v ∷ back) 20 l in
     ap (take (head.total - 20)) d ∙ take_all (drop 20 prefix ++ v ∷ back) (head.total - 20)
     (omega (arith, t, length-append prefix (v ∷ back), length-append (drop 20 prefix) (v ∷ back), length-drop 20 prefix))
 
-late_refused : (proto : Proto) (head : IpHead) (prefix back : List ℕ) (one other : ℕ) → one < 256 → other < 256 → one ≢ other → 20 ≤ length prefix → head.total ≡ length (prefix ++ one ∷ back) → PassesBy proto head (prefix ++ one ∷ back) →
+late_refused : (proto : Proto) (head : IpHead) (prefix back : List ℕ) (one other : ℕ) → one < 256 → other < 256 → one ≢ other
+    → 20 ≤ length prefix → head.total ≡ length (prefix ++ one ∷ back) → PassesBy proto head (prefix ++ one ∷ back) →
     is_refused (by_proto proto head (prefix ++ other ∷ back)) ≡ true
 late_refused Tcp head prefix back one other a b n l t p =
     let tail : List ℕ = drop 20 prefix in
-    let len : length (prefix ++ one ∷ back) ≡ length (prefix ++ other ∷ back) = omega (arith, length-append prefix (other ∷ back), length-append prefix (one ∷ back)) in
+    let len : length (prefix ++ one ∷ back) ≡ length (prefix ++ other ∷ back) = omega (
+      arith,
+      length-append prefix (other ∷ back),
+      length-append prefix (one ∷ back),
+    ) in
     let was : payload_of head (prefix ++ one ∷ back) ≡ tail ++ one ∷ back = payload_is head prefix back one t l in
     let now : payload_of head (prefix ++ other ∷ back) ≡ tail ++ other ∷ back = payload_is head prefix back other (t ∙ len) l in
     let pseudo : ℕ → List ℕ = λ k. pseudo_header head.source.0 head.target.0 k in
     let ok : segment_in head.source.0 head.target.0 (tail ++ one ∷ back) ≡ Ok p.0 = subst (λ x. segment_in head.source.0 head.target.0 x ≡ Ok p.0) was p.1 in
-    let zero_was : checksum_of (pseudo (length (tail ++ one ∷ back)) ++ (tail ++ one ∷ back)) ≡ 0 = segment_sum head.source.0 head.target.0 (tail ++ one ∷ back) p.0 ok in
-    let size : length (tail ++ one ∷ back) ≡ length (tail ++ other ∷ back) = omega (arith, length-append tail (one ∷ back), length-append tail (other ∷ back)) in
+    let zero_was : checksum_of (pseudo (length (tail ++ one ∷ back)) ++ (tail ++ one ∷ back)) ≡ 0 = segment_sum head.source.0 head.target.0
+    (tail ++ one ∷ back) p.0 ok in
+    let size : length (tail ++ one ∷ back) ≡ length (tail ++ other ∷ back) = omega (
+      arith,
+      length-append tail (one ∷ back),
+      length-append tail (other ∷ back),
+    ) in
     let k : ℕ = length (tail ++ other ∷ back) in
     let tells = one_byte (pseudo k ++ tail) back one other a b n in
     segment_refused head (prefix ++ other ∷ back) (tail ++ other ∷ back) now
-    (λ z. tells (ap checksum_of (append_assoc (pseudo k) tail (one ∷ back)) ∙ ap (λ x. checksum_of (pseudo x ++ (tail ++ one ∷ back))) (sym size) ∙ zero_was ∙ sym z ∙ ap checksum_of (sym (append_assoc (pseudo k) tail (other ∷ back)))))
+    (λ z. tells (ap checksum_of (append_assoc (pseudo k) tail (one ∷ back)) ∙ ap (λ x. checksum_of (pseudo x ++ (tail ++ one ∷ back)))
+    (sym size) ∙ zero_was ∙ sym z ∙ ap checksum_of (sym (append_assoc (pseudo k) tail (other ∷ back)))))
 late_refused Icmp head prefix back one other a b n l t p =
     let tail : List ℕ = drop 20 prefix in
-    let len : length (prefix ++ one ∷ back) ≡ length (prefix ++ other ∷ back) = omega (arith, length-append prefix (other ∷ back), length-append prefix (one ∷ back)) in
+    let len : length (prefix ++ one ∷ back) ≡ length (prefix ++ other ∷ back) = omega (
+      arith,
+      length-append prefix (other ∷ back),
+      length-append prefix (one ∷ back),
+    ) in
     let was : payload_of head (prefix ++ one ∷ back) ≡ tail ++ one ∷ back = payload_is head prefix back one t l in
     let now : payload_of head (prefix ++ other ∷ back) ≡ tail ++ other ∷ back = payload_is head prefix back other (t ∙ len) l in
     let zero_was : checksum_of (tail ++ one ∷ back) ≡ 0 = echo_sum (tail ++ one ∷ back) (ap echo_fate (sym was) ∙ p) in
@@ -215,7 +269,8 @@ byte_in [] back one h = h zero one (omega arith)
 byte_in (x ∷ prefix) back one h = byte_in prefix back one (λ k d l. h (suc k) d (omega (arith, l)))
 
 -- One changed byte: the datagram is refused at every address.
-pub damage_refused : (bytes : List ℕ) (at mask : ℕ) (own : Addr) → IsWholeDatagram bytes → at < length bytes → 1 ≤ mask → mask < 256 → is_refused (event_of own (changed bytes at mask)) ≡ true
+pub damage_refused : (bytes : List ℕ) (at mask : ℕ) (own : Addr) → IsWholeDatagram bytes → at < length bytes → 1 ≤ mask → mask < 256
+    → is_refused (event_of own (changed bytes at mask)) ≡ true
 damage_refused bytes at mask own w l m1 m2 =
     let r = around bytes at (bit_xor (slice_index bytes at) mask) l in
     let other : ℕ = bit_xor (slice_index bytes at) mask in
@@ -232,11 +287,13 @@ damage_refused bytes at mask own w l m1 m2 =
           let tells = one_byte r.prefix (take n r.back) r.one other one_low c.0 apart in
           head_refused new own (λ z. tells (ap checksum_of (sym was) ∙ head_sum w.head bytes w.is ∙ sym z ∙ ap checksum_of now)))
       | inr e ↦ (let f : 20 ≤ length r.prefix = omega (arith, e, r.place) in
-          let same : head_or_fate new own.0 ≡ head_or_fate bytes own.0 = same_head r.prefix r.back r.one other own.0 f ∙ ap (λ x. head_or_fate x own.0) (sym r.is) in
+          let same : head_or_fate new own.0 ≡ head_or_fate bytes own.0 = same_head r.prefix r.back r.one other own.0 f
+          ∙ ap (λ x. head_or_fate x own.0) (sym r.is) in
           elim (head_or_refused w.head bytes own.0 w.is) [
             | inl x ↦ subst (λ y. is_refused (by_head new y) ≡ true) (sym (same ∙ x.1)) refl
             | inr x ↦ subst (λ y. is_refused (by_head new y) ≡ true) (sym (same ∙ x))
-                (late_refused w.head.proto w.head r.prefix r.back r.one other one_low c.0 apart f (w.total ∙ ap length r.is) (subst (λ y. PassesBy w.head.proto w.head y) r.is w.passes))
+                (late_refused w.head.proto w.head r.prefix r.back r.one other one_low c.0 apart f (w.total ∙ ap length r.is)
+                (subst (λ y. PassesBy w.head.proto w.head y) r.is w.passes))
           ])
     ])
   where

@@ -1,5 +1,7 @@
 -- Damage in a world that is reached.
-use Rattle.link_world.proofs.Prelude.{◌≡◌, ℕ, zero, suc, ◌<◌, ◌≤◌, Bool, List, length, refl, sym, subst, Option, Some, AppSpec, World, Sent, numbered, sent_bytes, changed, does, hands_over, Act, Who, FromNode, IsLoss, CountsBy, DamageIsLossThere}
+use Rattle.link_world.proofs.Prelude.{◌≡◌, ℕ, zero, suc, ◌<◌, ◌≤◌, Bool, List, length, refl, sym, subst, Option, Some, AppSpec, World, Sent}
+use Rattle.link_world.proofs.Prelude.{numbered, sent_bytes, changed, does, hands_over, Act, Who, FromNode, IsLoss, CountsBy}
+use Rattle.link_world.proofs.Prelude.{DamageIsLossThere}
 use Rattle.link_world.proofs.Doing.{damaged}
 use Rattle.link_world.proofs.Loss.{same_world, damage_is_loss}
 use Rattle.link_world.proofs.Runs.{reached_sound}
@@ -15,7 +17,8 @@ by_nobody : (m : AppSpec) (served : ℕ → Bool) (w : World) (bytes : List ℕ)
 by_nobody m served w bytes who y =
     subst (λ x. IsLoss w (hands_over m served w bytes x) × CountsBy x w (hands_over m served w bytes x)) (sym y) (same_world w, refl)
 
-pub there : (m : AppSpec) (served : ℕ → Bool) (w : World) (k at mask : ℕ) (e : Sent) → numbered w.sent k ≡ Some e → at < length (sent_bytes w e) → 1 ≤ mask → mask < 256 → SoundWorld w
+pub there : (m : AppSpec) (served : ℕ → Bool) (w : World) (k at mask : ℕ) (e : Sent) → numbered w.sent k ≡ Some e
+    → at < length (sent_bytes w e) → 1 ≤ mask → mask < 256 → SoundWorld w
     → IsLoss w (does m served w (Act.Damage k at mask)) × CountsBy e.who w (does m served w (Act.Damage k at mask))
 there m served w zero at mask e x l a b h = absurd (cc)
 there m served w (suc j) at mask e x l a b h = elim (bytes_are w e.who e.content h (h.sent j e x)) [

@@ -1,8 +1,13 @@
 -- Steps that may fail, and what follows an act or a line.
-use Rattle.link_world.proofs.Prelude.{◌≡◌, ℕ, zero, suc, Bool, List, Option, Some, None, Result, Ok, slice_get, refl, option_map_or, result_map_both, ◌>>=◌, AppSpec, PlainSegment, Arrived, EchoAsked, client_takes, hands_over, changed, sent_bytes, World, Side, Sent, Content, OfSegment, OfPing, OfEcho, Who, FromClient, FromNode, Pinger, numbered, client_sockets, client_stepped, delivers, marked, node_handles, with_side, BadLine, StepFault}
+use Rattle.link_world.proofs.Prelude.{◌≡◌, ℕ, zero, suc, Bool, List, Option, Some, None, Result, Ok, slice_get, refl, option_map_or}
+use Rattle.link_world.proofs.Prelude.{result_map_both, ◌>>=◌, AppSpec, PlainSegment, Arrived, EchoAsked, client_takes, hands_over, changed}
+use Rattle.link_world.proofs.Prelude.{sent_bytes, World, Side, Sent, Content, OfSegment, OfPing, OfEcho, Who, FromClient, FromNode, Pinger}
+use Rattle.link_world.proofs.Prelude.{numbered, client_sockets, client_stepped, delivers, marked, node_handles, with_side, BadLine}
+use Rattle.link_world.proofs.Prelude.{StepFault}
 
 -- what holds if there is no value, and of the result if there is one
-pub where_there : {X Y : Type 0} (P : Y → Type 0) (act : X → Y) (o : Option X) (none : Y) → P none → ((x : X) → o ≡ Some x → P (act x)) → P (option_map_or act o none)
+pub where_there : {X Y : Type 0} (P : Y → Type 0) (act : X → Y) (o : Option X) (none : Y) → P none → ((x : X) → o ≡ Some x → P (act x))
+    → P (option_map_or act o none)
 where_there P act None none p f = p
 where_there P act (Some x) none p f = f x refl
 
@@ -14,12 +19,15 @@ at_number P act xs (suc n) none p f = where_there P (act (suc n)) (slice_get xs 
 
 -- What holds of the world after a delivery, by its receiver: the node, a client, the node for an echo request, or none.
 pub delivered_by : (m : AppSpec) (served : ℕ → Bool) (P : World → Type 0) (w : World) (k : ℕ) (e : Sent) (who : Who) (content : Content) → P w
-    → ((n : ℕ) (side : Side) → slice_get w.sides n ≡ Some side → (s : PlainSegment) → P (node_handles m served (with_side w (suc n) (marked side k e)) (Arrived (client_sockets side) s)))
-    → ((n : ℕ) (side : Side) → slice_get w.sides n ≡ Some side → (s : PlainSegment) → P (client_stepped w (suc n) (marked side k e) (client_takes side.client s)))
+    → ((n : ℕ) (side : Side) → slice_get w.sides n ≡ Some side → (s : PlainSegment)
+    → P (node_handles m served (with_side w (suc n) (marked side k e)) (Arrived (client_sockets side) s)))
+    → ((n : ℕ) (side : Side) → slice_get w.sides n ≡ Some side → (s : PlainSegment)
+    → P (client_stepped w (suc n) (marked side k e) (client_takes side.client s)))
     → ((datagram : List ℕ) → content ≡ OfPing datagram → P (node_handles m served w (EchoAsked datagram)))
     → P (delivers m served w k e who content)
 delivered_by m served P w k e (FromClient number) (OfSegment id s) none node client echo =
-    at_number P (λ i side. node_handles m served (with_side w i (marked side k e)) (Arrived (client_sockets side) s)) w.sides number w none (λ n side at. node n side at s)
+    at_number P (λ i side. node_handles m served (with_side w i (marked side k e)) (Arrived (client_sockets side) s)) w.sides number w none
+    (λ n side at. node n side at s)
 delivered_by m served P w k e (FromNode number) (OfSegment id s) none node client echo =
     at_number P (λ i side. client_stepped w i (marked side k e) (client_takes side.client s)) w.sides number w none (λ n side at. client n side at s)
 delivered_by m served P w k e Pinger (OfPing datagram) none node client echo = echo datagram refl

@@ -1,5 +1,13 @@
 -- The whole world: every connection and every past connection has captures of snapshots alone, and clients have addresses.
-use Rattle.link_world.proofs.Prelude.{All, ◌≡◌, ℕ, zero, suc, ◌<◌, Bool, false, List, [], ◌∷◌, ◌++◌, length, get_or, refl, sym, ap, ◌∙◌, subst, Option, Some, None, slice_get, position, ltb, PlainSegment, AppSpec, IsSteady, IsSnapshot, IsAddr, Sockets, Connection, closed, serves, same_sockets, on_tick, Reply, Arrived, Periodic, Echo, TcpReply, AbstractNode, NodeStep, snapshot, connection_in, step, ClientStep, World, Side, PastConnection, Content, client_sockets, retires, retires_in, addressed, posts, posts_reply, node_stepped, node_handles, with_client, with_side, posts_of_client, client_stepped, past_connection_of, Who, FromNode, era, choose, get_map, get_set, here, there, FitConn, all_nil, asked_fits, on_tick_fits, FitNode, FitStep, index_fits, node_snapshot, still_fits, happened_fits, arrives_fits}
+use Rattle.link_world.proofs.Prelude.{All, ◌≡◌, ℕ, zero, suc, ◌<◌, Bool, false, List, [], ◌∷◌, ◌++◌, length, get_or, refl, sym, ap, ◌∙◌}
+use Rattle.link_world.proofs.Prelude.{subst, Option, Some, None, slice_get, position, ltb, PlainSegment, AppSpec, IsSteady, IsSnapshot}
+use Rattle.link_world.proofs.Prelude.{IsAddr, Sockets, Connection, closed, serves, same_sockets, on_tick, Reply, Arrived, Periodic, Echo}
+use Rattle.link_world.proofs.Prelude.{TcpReply, AbstractNode, NodeStep, snapshot, connection_in, step, ClientStep, World, Side}
+use Rattle.link_world.proofs.Prelude.{PastConnection, Content, client_sockets, retires, retires_in, addressed, posts, posts_reply}
+use Rattle.link_world.proofs.Prelude.{node_stepped, node_handles, with_client, with_side, posts_of_client, client_stepped}
+use Rattle.link_world.proofs.Prelude.{past_connection_of, Who, FromNode, era, choose, get_map, get_set, here, there, FitConn, all_nil}
+use Rattle.link_world.proofs.Prelude.{asked_fits, on_tick_fits, FitNode, FitStep, index_fits, node_snapshot, still_fits, happened_fits}
+use Rattle.link_world.proofs.Prelude.{arrives_fits}
 
 abbrev pub FitPast : List PastConnection → Type 0
 FitPast history = (n : ℕ) → All IsSnapshot (get_or history n (past_connection_of closed)).snapshots
@@ -32,7 +40,11 @@ buries_fit (Some g) sides f h k side x =
     let s : FitSide m.from = h k m.from m.get in
     subst (λ (o : Side). FitSide o) m.is
     (choose (λ (o : Side). FitSide o) (same_sockets g.sockets (client_sockets m.from)) _ _
-    (λ e. record { eras = past_push m.from.history (record { iss = g.iss; snapshots = g.part.snapshots }) s.eras (f g refl).snapshots; addr = s.addr; port = s.port })
+    (λ e. record {
+      eras = past_push m.from.history (record { iss = g.iss; snapshots = g.part.snapshots }) s.eras (f g refl).snapshots;
+      addr = s.addr;
+      port = s.port;
+    })
     (λ e. s))
 
 posts_fit : (w : World) (who : Who) (again : Bool) (content : Content) → FitWorld w → FitWorld (posts w who again content)
@@ -44,24 +56,30 @@ reply_fit w (Some (Echo request)) f = posts_fit w (FromNode 0) false _ f
 reply_fit w (Some (TcpReply sockets id again s)) f = posts_fit w (FromNode (addressed 1 sockets w.sides)) again _ f
 
 stepped_fit : (w : World) (r : NodeStep) → FitWorld w → FitStep r → FitWorld (node_stepped w r)
-stepped_fit w r f h = reply_fit (record w { node = r.node; sides = retires r.gone w.sides }) r.sent record { node = h.node; sides = buries_fit r.gone w.sides h.gone f.sides }
+stepped_fit w r f h = reply_fit (record w { node = r.node; sides = retires r.gone w.sides }) r.sent
+    record { node = h.node; sides = buries_fit r.gone w.sides h.gone f.sides }
 
 module _ (m : AppSpec) (steady : IsSteady m) where
-  pub arrival_fits : (served : ℕ → Bool) (w : World) (sockets : Sockets) (s : PlainSegment) → IsAddr sockets.peer → sockets.peer_port.0 < 65536 → FitWorld w → FitWorld (node_handles m served w (Arrived sockets s))
-  arrival_fits served w sockets s a p f = stepped_fit w (step m served w.node (Arrived sockets s)) f (arrives_fits m steady served w.node sockets s (position (serves sockets) w.node.connections) a p f.node)
+  pub arrival_fits : (served : ℕ → Bool) (w : World) (sockets : Sockets) (s : PlainSegment) → IsAddr sockets.peer
+      → sockets.peer_port.0 < 65536 → FitWorld w → FitWorld (node_handles m served w (Arrived sockets s))
+  arrival_fits served w sockets s a p f = stepped_fit w (step m served w.node (Arrived sockets s)) f
+      (arrives_fits m steady served w.node sockets s (position (serves sockets) w.node.connections) a p f.node)
 
   pub periodic_fits : (served : ℕ → Bool) (w : World) (slot : ℕ) → FitWorld w → FitWorld (node_handles m served w (Periodic slot))
   periodic_fits served w slot f =
       stepped_fit w (step m served w.node (Periodic slot)) f
       (happened_fits m steady w.node (Periodic slot) slot (connection_in slot w.node) _ f.node
-      (asked_fits m steady (snapshot w.node (Periodic slot) slot) (node_snapshot m steady w.node (Periodic slot) slot f.node) (on_tick m (connection_in slot w.node) w.node.numbers)
+      (asked_fits m steady (snapshot w.node (Periodic slot) slot) (node_snapshot m steady w.node (Periodic slot) slot f.node)
+      (on_tick m (connection_in slot w.node) w.node.numbers)
       (on_tick_fits m steady (connection_in slot w.node) w.node.numbers (index_fits w.node.connections slot f.node.conns) f.node.numbers)))
 
-  pub still_world : (served : ℕ → Bool) (w : World) (d : AbstractNode) (sent : Option Reply) → d.connections ≡ w.node.connections → d.numbers ≡ w.node.numbers → FitWorld w → FitWorld (node_stepped w (record { node = d; sent = sent; gone = None }))
+  pub still_world : (served : ℕ → Bool) (w : World) (d : AbstractNode) (sent : Option Reply) → d.connections ≡ w.node.connections
+      → d.numbers ≡ w.node.numbers → FitWorld w → FitWorld (node_stepped w (record { node = d; sent = sent; gone = None }))
   still_world served w d sent ec en f = stepped_fit w (record { node = d; sent = sent; gone = None }) f (still_fits m steady w.node d sent ec en f.node)
 
 -- a side is put anew
-pub put_fits : (w : World) (n : ℕ) (side new : Side) → slice_get w.sides n ≡ Some side → new.history ≡ side.history → new.client.setup ≡ side.client.setup → FitWorld w → FitWorld (with_side w (suc n) new)
+pub put_fits : (w : World) (n : ℕ) (side new : Side) → slice_get w.sides n ≡ Some side → new.history ≡ side.history
+    → new.client.setup ≡ side.client.setup → FitWorld w → FitWorld (with_side w (suc n) new)
 put_fits w n side new at q s f = record {
   node = f.node;
   sides = λ k x y. elim (get_set w.sides n new k x y) [
@@ -74,9 +92,11 @@ put_fits w n side new at q s f = record {
   ];
 }
 
-pub client_fits : (w : World) (n : ℕ) (side base : Side) (took : ClientStep) → slice_get w.sides n ≡ Some side → base.history ≡ side.history → base.client.setup ≡ side.client.setup → took.client.setup ≡ base.client.setup → FitWorld w → FitWorld (client_stepped w (suc n) base took)
+pub client_fits : (w : World) (n : ℕ) (side base : Side) (took : ClientStep) → slice_get w.sides n ≡ Some side → base.history ≡ side.history
+    → base.client.setup ≡ side.client.setup → took.client.setup ≡ base.client.setup → FitWorld w → FitWorld (client_stepped w (suc n) base took)
 client_fits w n side base took at q s t f = go took.sent (put_fits w n side (with_client base took.client) at q (t ∙ s) f)
   where
-    go : (x : Option PlainSegment) → FitWorld (with_side w (suc n) (with_client base took.client)) → FitWorld (posts_of_client (with_side w (suc n) (with_client base took.client)) (suc n) x)
+    go : (x : Option PlainSegment) → FitWorld (with_side w (suc n) (with_client base took.client))
+        → FitWorld (posts_of_client (with_side w (suc n) (with_client base took.client)) (suc n) x)
     go None g = g
     go (Some x) g = record { node = g.node; sides = g.sides }

@@ -1,5 +1,7 @@
 -- What was sent stays true as captures are taken and the client continues.
-use Rattle.link_world.proofs.Prelude.{◌≡◌, ℕ, ◌+◌, ◌≤◌, true, ◌⊎◌, inl, inr, List, [], ◌++◌, length, sym, ap, ◌∙◌, subst, Option, Some, wrap, PlainSegment, Snapshot, AppSpec, IsPrefixOf, AbstractClient, own_first, IsPart, prefix_part, append_nothing}
+use Rattle.link_world.proofs.Prelude.{◌≡◌, ℕ, ◌+◌, ◌≤◌, true, ◌⊎◌, inl, inr, List, [], ◌++◌, length, sym, ap, ◌∙◌, subst, Option, Some}
+use Rattle.link_world.proofs.Prelude.{wrap, PlainSegment, Snapshot, AppSpec, IsPrefixOf, AbstractClient, own_first, IsPart, prefix_part}
+use Rattle.link_world.proofs.Prelude.{append_nothing}
 use Rattle.link_world.proofs.Speaking.{Speaker, HasOutputModel}
 use Rattle.link_world.proofs.CleanClientInvariant.{is_some, IsAll, NodeSent, ClientSent}
 use Rattle.link_world.proofs.CleanClientInvariant.ClientSent.{sent_reset, sent_syn, sent_data}
@@ -23,20 +25,28 @@ module _ (m : AppSpec) (speaker : Speaker) (laws : HasOutputModel m speaker) whe
   prefix_grows delivered r k h = subst (λ q. IsPrefixOf (speaker.text delivered k) (speaker.text q k)) h.joined (page_received delivered h.rest k)
 
   -- if the page of what was received is whole, it is the page of the whole request
-  pub prefix_all : (c : AbstractClient) (delivered : List ℕ) (k : List Snapshot) (at : ℕ) → IsPrefixOf delivered c.request → speaker.whole delivered k ≡ true → at ≡ length (speaker.text delivered k) → IsAll speaker c k at
+  pub prefix_all : (c : AbstractClient) (delivered : List ℕ) (k : List Snapshot) (at : ℕ) → IsPrefixOf delivered c.request
+      → speaker.whole delivered k ≡ true → at ≡ length (speaker.text delivered k) → IsAll speaker c k at
   prefix_all c delivered k at h w e =
-      let a : speaker.whole c.request k ≡ true = subst (λ q. speaker.whole q k ≡ true) h.joined (subst (λ l. speaker.whole (delivered ++ h.rest) l ≡ true) (append_nothing k) (laws.stays_complete delivered h.rest k [] w)) in
-      let b : speaker.text c.request k ≡ speaker.text delivered k = subst (λ q. speaker.text q k ≡ speaker.text delivered k) h.joined (subst (λ l. speaker.text (delivered ++ h.rest) l ≡ speaker.text delivered k) (append_nothing k) (laws.stays delivered h.rest k [] w)) in
+      let a : speaker.whole c.request k ≡ true = subst (λ q. speaker.whole q k ≡ true) h.joined
+      (subst (λ l. speaker.whole (delivered ++ h.rest) l ≡ true) (append_nothing k) (laws.stays_complete delivered h.rest k [] w)) in
+      let b : speaker.text c.request k ≡ speaker.text delivered k = subst (λ q. speaker.text q k ≡ speaker.text delivered k) h.joined
+      (subst (λ l. speaker.text (delivered ++ h.rest) l ≡ speaker.text delivered k) (append_nothing k) (laws.stays delivered h.rest k [] w)) in
       record { whole = a; end = e ∙ ap length (sym b) }
 
-  pub part_later : (r r' : List ℕ) (k k' more : List Snapshot) (text : List ℕ) (at : ℕ) → r' ≡ r → k' ≡ k ++ more → IsPart (speaker.text r k) text at → IsPart (speaker.text r' k') text at
+  pub part_later : (r r' : List ℕ) (k k' more : List Snapshot) (text : List ℕ) (at : ℕ) → r' ≡ r → k' ≡ k ++ more
+      → IsPart (speaker.text r k) text at → IsPart (speaker.text r' k') text at
   part_later r r' k k' more text at er ek h =
-      subst (λ x. IsPart (speaker.text x k') text at) (sym er) (subst (λ x. IsPart (speaker.text r x) text at) (sym ek) (prefix_part (speaker.text r k) (speaker.text r (k ++ more)) text at (page_more r k more) h))
+      subst (λ x. IsPart (speaker.text x k') text at) (sym er) (subst (λ x. IsPart (speaker.text r x) text at) (sym ek)
+      (prefix_part (speaker.text r k) (speaker.text r (k ++ more)) text at (page_more r k more) h))
 
-  pub all_later : (c d : AbstractClient) (k k' more : List Snapshot) (at : ℕ) → d.request ≡ c.request → k' ≡ k ++ more → IsAll speaker c k at → IsAll speaker d k' at
+  pub all_later : (c d : AbstractClient) (k k' more : List Snapshot) (at : ℕ) → d.request ≡ c.request → k' ≡ k ++ more
+      → IsAll speaker c k at → IsAll speaker d k' at
   all_later c d k k' more at er ek h =
-      let w : speaker.whole d.request k' ≡ true = subst (λ x. speaker.whole x k' ≡ true) (sym er) (subst (λ x. speaker.whole c.request x ≡ true) (sym ek) (whole_more c.request k more h.whole)) in
-      let p : speaker.text d.request k' ≡ speaker.text c.request k = ap (λ x. speaker.text x k') er ∙ ap (λ x. speaker.text c.request x) ek ∙ page_whole c.request k more h.whole in
+      let w : speaker.whole d.request k' ≡ true = subst (λ x. speaker.whole x k' ≡ true) (sym er)
+      (subst (λ x. speaker.whole c.request x ≡ true) (sym ek) (whole_more c.request k more h.whole)) in
+      let p : speaker.text d.request k' ≡ speaker.text c.request k = ap (λ x. speaker.text x k') er ∙ ap (λ x. speaker.text c.request x) ek
+      ∙ page_whole c.request k more h.whole in
       record { whole = w; end = h.end ∙ ap length (sym p) }
 
   pub node_later : (c d : AbstractClient) (P Q : Type 0) (f f' : ℕ) (k k' more : List Snapshot) (s : PlainSegment) → d.request ≡ c.request →

@@ -1,5 +1,9 @@
 -- The bytes of a sound datagram pass every check.
-use Rattle.link_world.proofs.Prelude.{All, ◌≡◌, ℕ, ◌+◌, List, [], ◌∷◌, length, take, refl, sym, ap, ◌∙◌, arith, None, length-append, drop_at, All-append, folded, Addr, head_bytes, payload_of, IsHeadOf, IpHead, Icmp, echo_fate, length-head_bytes, reads_back, IsReadBack, head_of, fields_sent, Datagram, datagram_bytes, IsByte, IsAddr, ping_from, IsWholeDatagram, IsSoundSegment, IsPlace, whole_length, datagram_back, bytes_low, head_bytes_low, Each, each_all}
+use Rattle.link_world.proofs.Prelude.{All, ◌≡◌, ℕ, ◌+◌, List, [], ◌∷◌, length, take, refl, sym, ap, ◌∙◌, arith, None, length-append}
+use Rattle.link_world.proofs.Prelude.{drop_at, All-append, folded, Addr, head_bytes, payload_of, IsHeadOf, IpHead, Icmp, echo_fate}
+use Rattle.link_world.proofs.Prelude.{length-head_bytes, reads_back, IsReadBack, head_of, fields_sent, Datagram, datagram_bytes, IsByte}
+use Rattle.link_world.proofs.Prelude.{IsAddr, ping_from, IsWholeDatagram, IsSoundSegment, IsPlace, whole_length, datagram_back, bytes_low}
+use Rattle.link_world.proofs.Prelude.{head_bytes_low, Each, each_all}
 
 pub datagram_whole : (d : Datagram) → IsPlace d → IsSoundSegment d.segment → IsWholeDatagram (datagram_bytes d)
 datagram_whole d p h =
@@ -43,7 +47,8 @@ ping_low : (source addr : Addr) → IsAddr source → IsAddr addr → All IsByte
 unfolding ping_from
 ping_low source addr s a =
     let low : Each IsByte ping = (omega arith, (omega arith, (omega arith, (omega arith, (omega arith, (omega arith, (omega arith, (omega arith, tt)))))))) in
-    All-append IsByte (head_bytes 28 1 Icmp source.0 addr.0) ping (head_bytes_low 28 1 Icmp source.0 addr.0 (omega arith) (omega arith) s.all_bytes a.all_bytes) (each_all IsByte ping low)
+    All-append IsByte (head_bytes 28 1 Icmp source.0 addr.0) ping (head_bytes_low 28 1 Icmp source.0 addr.0 (omega arith) (omega arith)
+    s.all_bytes a.all_bytes) (each_all IsByte ping low)
 
 pub ping_whole : (source addr : Addr) → IsAddr source → IsAddr addr → IsWholeDatagram (ping_from source addr)
 ping_whole source addr s a =

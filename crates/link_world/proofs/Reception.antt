@@ -1,13 +1,18 @@
 -- A client's code receives in a datagram what the world defines.
-use Rattle.link_world.proofs.Prelude.{ℕ, List, Option, Some, None, Result, Ok, Err, take, option_map_or, ◌≡◌, refl, head_or_fate, payload_of, IpFate, IpHead, Proto, Icmp, echo_fate, IcmpFate, segment_or_fate, TcpFate, Segment, EchoAsked, IcmpRefused, by_head, by_proto, by_segment, Setup, received_in, received_by_proto, received_by_head, client_receives}
+use Rattle.link_world.proofs.Prelude.{ℕ, List, Option, Some, None, Result, Ok, Err, take, option_map_or, ◌≡◌, refl, head_or_fate}
+use Rattle.link_world.proofs.Prelude.{payload_of, IpFate, IpHead, Proto, Icmp, echo_fate, IcmpFate, segment_or_fate, TcpFate, Segment}
+use Rattle.link_world.proofs.Prelude.{EchoAsked, IcmpRefused, by_head, by_proto, by_segment, Setup, received_in, received_by_proto}
+use Rattle.link_world.proofs.Prelude.{received_by_head, client_receives}
 use Rattle.uip_ipv4.specs.declared.proto.Proto.TheVariants.{Tcp}
 use Rattle.link_world.specs.Bytes.{received_by, receives_datagram as world_receives}
 
-of_segment : (setup : Setup) (head : IpHead) (bytes : List ℕ) (r : Result Segment TcpFate) → received_in setup head bytes r ≡ received_by setup (by_segment head bytes r)
+of_segment : (setup : Setup) (head : IpHead) (bytes : List ℕ) (r : Result Segment TcpFate) → received_in setup head bytes r ≡ received_by
+    setup (by_segment head bytes r)
 of_segment setup head bytes (Ok s) = refl
 of_segment setup head bytes (Err fate) = refl
 
-of_echo : (setup : Setup) (head : IpHead) (bytes : List ℕ) (o : Option IcmpFate) → received_by_proto Icmp setup head bytes ≡ received_by setup (option_map_or IcmpRefused o (EchoAsked (take head.total bytes)))
+of_echo : (setup : Setup) (head : IpHead) (bytes : List ℕ) (o : Option IcmpFate) → received_by_proto Icmp setup head bytes ≡ received_by
+    setup (option_map_or IcmpRefused o (EchoAsked (take head.total bytes)))
 of_echo setup head bytes None = refl
 of_echo setup head bytes (Some fate) = refl
 

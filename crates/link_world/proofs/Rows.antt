@@ -1,7 +1,14 @@
 -- Whole schedules, computed from the definitions alone.
 -- [add: counter] The lists of counters, and the length of a page that has them.
 -- [add: act] A worked schedule with the act.
-use Rattle.link_world.proofs.Prelude.{◌≡◌, ◌+◌, ◌==◌, ℕ, Bool, true, false, List, [], ◌∷◌, ◌++◌, map, length, replicate, flat_map, if◌then◌else◌, refl, Option, Some, None, Result, Ok, Err, FIN, SYN, RST, PSH, ACK, Row, Snapshot, idles, peer_closes, stays_established, in_established, fin_acked, fin_waits, on_segment, rests_on, ticks_established, ticks_of, happened, opens_in, for_no_connection, sends_next, takes_in_order, takes_by, client_takes, opens_by, again_by, closes_by, aborts_by, ClientState, World, Side, Sent, Content, numbered, OfSegment, OfPing, OfEcho, folded, head_or_fate, head_bytes, datagram_bytes, segment_in, NoDatagram, NoByte, AlreadyOpen, ping_from, plays, BadLine, Planned, initial_world, Opens, Again, Closes, Aborts, Window, Ping, Give, Damage, Tick, Round, Lose, Who, FromClient, FromNode}
+use Rattle.link_world.proofs.Prelude.{◌≡◌, ◌+◌, ◌==◌, ℕ, Bool, true, false, List, [], ◌∷◌, ◌++◌, map, length, replicate, flat_map}
+use Rattle.link_world.proofs.Prelude.{if◌then◌else◌, refl, Option, Some, None, Result, Ok, Err, FIN, SYN, RST, PSH, ACK, Row, Snapshot}
+use Rattle.link_world.proofs.Prelude.{idles, peer_closes, stays_established, in_established, fin_acked, fin_waits, on_segment, rests_on}
+use Rattle.link_world.proofs.Prelude.{ticks_established, ticks_of, happened, opens_in, for_no_connection, sends_next, takes_in_order}
+use Rattle.link_world.proofs.Prelude.{takes_by, client_takes, opens_by, again_by, closes_by, aborts_by, ClientState, World, Side, Sent}
+use Rattle.link_world.proofs.Prelude.{Content, numbered, OfSegment, OfPing, OfEcho, folded, head_or_fate, head_bytes, datagram_bytes}
+use Rattle.link_world.proofs.Prelude.{segment_in, NoDatagram, NoByte, AlreadyOpen, ping_from, plays, BadLine, Planned, initial_world, Opens}
+use Rattle.link_world.proofs.Prelude.{Again, Closes, Aborts, Window, Ping, Give, Damage, Tick, Round, Lose, Who, FromClient, FromNode}
 use Rattle.link_client.specs.declared.client_state.ClientState.TheVariants as Is
 use Rattle.link_schedule.specs.declared.event.Event.{Event}
 use Rattle.link_world.proofs.Sample.{Piece, sample}
@@ -99,7 +106,8 @@ client_sends flags seq len = record { tick = 0; who = FromClient 1; flags = flag
 a_page_shown : all_shown (played (text_of 86) usual (Opens 1 ∷ rounds 12))
     ≡ client_sends SYN 1000 0 ∷ node_sends 0 (SYN + ACK) 0 0 false ∷ client_sends (ACK + PSH) 1001 18 ∷ node_sends 0 (ACK + PSH) 1 86 false
     ∷ client_sends ACK 1019 0 ∷ node_sends 0 (FIN + ACK) 87 0 false ∷ client_sends (FIN + ACK) 1019 0 ∷ node_sends 0 ACK 88 0 false ∷ []
-unfolding idles peer_closes stays_established in_established fin_acked fin_waits on_segment rests_on ticks_established happened opens_in for_no_connection sends_next takes_in_order takes_by client_takes opens_by again_by closes_by aborts_by
+unfolding idles peer_closes stays_established in_established fin_acked fin_waits on_segment rests_on ticks_established happened opens_in
+    for_no_connection sends_next takes_in_order takes_by client_takes opens_by again_by closes_by aborts_by
 a_page_shown = refl
 
 abbrev lost_segment_run : Result World BadLine
@@ -134,10 +142,13 @@ late_syn_run = played (text_of 86) (client 1000 2 1025 0 get ∷ client 2000 3 1
 
 abbrev eleven : List Planned
 eleven =
-    client 1000 2 1025 0 get ∷ client 2000 2 1026 0 get ∷ client 3000 2 1027 0 get ∷ client 4000 2 1028 0 get ∷ client 5000 2 1029 0 get ∷ client 6000 2 1030 0 get ∷ client 7000 2 1031 0 get ∷ client 8000 2 1032 0 get ∷ client 9000 2 1033 0 get ∷ client 10000 2 1034 0 get ∷ client 11000 2 1035 0 get ∷ []
+    client 1000 2 1025 0 get ∷ client 2000 2 1026 0 get ∷ client 3000 2 1027 0 get ∷ client 4000 2 1028 0 get ∷ client 5000 2 1029 0 get
+    ∷ client 6000 2 1030 0 get ∷ client 7000 2 1031 0 get ∷ client 8000 2 1032 0 get ∷ client 9000 2 1033 0 get ∷ client 10000 2 1034 0 get
+    ∷ client 11000 2 1035 0 get ∷ []
 
 abbrev evicted_run : Result World BadLine
-evicted_run = played (text_of 86) eleven (Opens 1 ∷ Opens 2 ∷ Opens 3 ∷ Opens 4 ∷ Opens 5 ∷ Opens 6 ∷ Opens 7 ∷ Opens 8 ∷ Opens 9 ∷ Opens 10 ∷ rounds 8 ++ Opens 11 ∷ Round ∷ Give 41 ∷ rounds 7)
+evicted_run = played (text_of 86) eleven (Opens 1 ∷ Opens 2 ∷ Opens 3 ∷ Opens 4 ∷ Opens 5 ∷ Opens 6 ∷ Opens 7 ∷ Opens 8 ∷ Opens 9 ∷ Opens 10
+    ∷ rounds 8 ++ Opens 11 ∷ Round ∷ Give 41 ∷ rounds 7)
 
 abbrev row_text : Row → List ℕ
 row_text row = if row.waiting then replicate 90 (row.count) else replicate 93 row.slot
@@ -146,7 +157,8 @@ abbrev table_page : List Piece
 table_page = Plain (replicate 80 7) ∷ Made (λ m. flat_map row_text m.now.rows) ∷ []
 
 abbrev full_table_run : Result World BadLine
-full_table_run = played table_page eleven (Opens 1 ∷ Opens 2 ∷ Opens 3 ∷ Opens 4 ∷ Opens 5 ∷ Opens 6 ∷ Opens 7 ∷ Opens 8 ∷ Opens 9 ∷ Opens 10 ∷ Opens 11 ∷ rounds 2 ++ Give 22 ∷ Give 32 ∷ Give 33 ∷ Give 34 ∷ Give 35 ∷ Give 36 ∷ Give 37 ∷ Give 38 ∷ Give 39 ∷ Give 40 ∷ [])
+full_table_run = played table_page eleven (Opens 1 ∷ Opens 2 ∷ Opens 3 ∷ Opens 4 ∷ Opens 5 ∷ Opens 6 ∷ Opens 7 ∷ Opens 8 ∷ Opens 9
+    ∷ Opens 10 ∷ Opens 11 ∷ rounds 2 ++ Give 22 ∷ Give 32 ∷ Give 33 ∷ Give 34 ∷ Give 35 ∷ Give 36 ∷ Give 37 ∷ Give 38 ∷ Give 39 ∷ Give 40 ∷ [])
 
 abbrev counts_text : Snapshot → List ℕ
 counts_text m = flat_map (λ n. replicate 11 n) m.now.net
@@ -155,7 +167,8 @@ abbrev counts_page : List Piece
 counts_page = Plain (replicate 80 7) ∷ Made counts_text ∷ Made counts_text ∷ []
 
 abbrev generator_again_run : Result World BadLine
-generator_again_run = played counts_page usual (Opens 1 ∷ rounds 5 ++ Lose ∷ Ping (record { 0 = 10 ∷ 0 ∷ 0 ∷ 9 ∷ [] }) ∷ Ping (record { 0 = 10 ∷ 0 ∷ 0 ∷ 9 ∷ [] }) ∷ Round ∷ Tick 4 ∷ rounds 7)
+generator_again_run = played counts_page usual (Opens 1 ∷ rounds 5 ++ Lose ∷ Ping (record { 0 = 10 ∷ 0 ∷ 0 ∷ 9 ∷ [] })
+    ∷ Ping (record { 0 = 10 ∷ 0 ∷ 0 ∷ 9 ∷ [] }) ∷ Round ∷ Tick 4 ∷ rounds 7)
 
 abbrev content_text : Content → List ℕ
 content_text (OfSegment id s) = s.text
@@ -197,17 +210,42 @@ endings =
     -- an honest link
     ∷ (honest_run, Ok (record { clients = one Is.Closed 1080 None; ticks = 0; datagrams = 12 }))
     -- a late SYN makes a finished client stale
-    ∷ (late_syn_run, Ok (record { clients = record { state = Is.Closed; received = 86; first_stale = Some 1 } ∷ record { state = Is.Idle; received = 0; first_stale = None } ∷ []; ticks = 120; datagrams = 9 }))
+    ∷ (
+      late_syn_run,
+      Ok (record {
+        clients = record { state = Is.Closed; received = 86; first_stale = Some 1 }
+            ∷ record { state = Is.Idle; received = 0; first_stale = None } ∷ [];
+        ticks = 120;
+        datagrams = 9;
+      }),
+    )
     -- a SYN takes a slot from TIME-WAIT; a late ACK of the client that had it makes that client stale
-    ∷ (evicted_run, Ok (record { clients = record { state = Is.Closed; received = 86; first_stale = Some 41 } ∷ replicate 10 (record { state = Is.Closed; received = 86; first_stale = None }); ticks = 0; datagrams = 89 }))
+    ∷ (
+      evicted_run,
+      Ok (record {
+        clients = record { state = Is.Closed; received = 86; first_stale = Some 41 } ∷ replicate 10
+            (record { state = Is.Closed; received = 86; first_stale = None });
+        ticks = 0;
+        datagrams = 89;
+      }),
+    )
     -- a full table: the eleventh SYN is dropped, and a page shows ten connections as they are when it is asked for
-    ∷ (full_table_run, Ok (record { clients = record { state = Is.Closed; received = 983; first_stale = None } ∷ replicate 9 (record { state = Is.Opened; received = 0; first_stale = None }) ++ record { state = Is.Opening; received = 0; first_stale = None } ∷ []; ticks = 0; datagrams = 40 }))
+    ∷ (
+      full_table_run,
+      Ok (record {
+        clients = record { state = Is.Closed; received = 983; first_stale = None } ∷ replicate 9
+            (record { state = Is.Opened; received = 0; first_stale = None }) ++ record { state = Is.Opening; received = 0; first_stale = None } ∷ [];
+        ticks = 0;
+        datagrams = 40;
+      }),
+    )
     -- a generated text is sent again as it was captured
     ∷ (generator_again_run, Ok (record { clients = one Is.Closed 520 None; ticks = 4; datagrams = 17 }))
     ∷ []
 
 endings_hold : map (λ row. report_of row.0) endings ≡ map (λ row. row.1) endings
-unfolding idles peer_closes stays_established in_established fin_acked fin_waits on_segment rests_on ticks_established happened opens_in for_no_connection sends_next takes_in_order takes_by client_takes opens_by again_by closes_by aborts_by ping_from
+unfolding idles peer_closes stays_established in_established fin_acked fin_waits on_segment rests_on ticks_established happened opens_in
+    for_no_connection sends_next takes_in_order takes_by client_takes opens_by again_by closes_by aborts_by ping_from
 endings_hold = refl
 
 -- the numbers of datagrams in runs, and what is shown of each
@@ -228,7 +266,8 @@ datagrams =
     ∷ []
 
 datagrams_hold : map (λ row. shown row.0 row.1) datagrams ≡ map (λ row. Some row.2) datagrams
-unfolding idles peer_closes stays_established in_established fin_acked fin_waits on_segment rests_on ticks_established happened opens_in for_no_connection sends_next takes_in_order takes_by client_takes opens_by again_by closes_by aborts_by
+unfolding idles peer_closes stays_established in_established fin_acked fin_waits on_segment rests_on ticks_established happened opens_in
+    for_no_connection sends_next takes_in_order takes_by client_takes opens_by again_by closes_by aborts_by
 datagrams_hold = refl
 
 -- datagrams with a given text
@@ -242,7 +281,8 @@ texts =
     ∷ []
 
 texts_hold : map (λ row. sent_text_in row.0 row.1) texts ≡ map (λ row. row.2) texts
-unfolding idles peer_closes stays_established in_established fin_acked fin_waits on_segment rests_on ticks_established happened opens_in for_no_connection sends_next takes_in_order takes_by client_takes opens_by again_by closes_by aborts_by ping_from
+unfolding idles peer_closes stays_established in_established fin_acked fin_waits on_segment rests_on ticks_established happened opens_in
+    for_no_connection sends_next takes_in_order takes_by client_takes opens_by again_by closes_by aborts_by ping_from
 texts_hold = refl
 
 -- runs with damage, and acts that are refused
@@ -258,9 +298,13 @@ damages =
     ∷ []
 
 damages_hold : map (λ row. report_of row.0) damages ≡ map (λ row. row.1) damages
-unfolding idles peer_closes stays_established in_established fin_acked fin_waits on_segment rests_on ticks_established happened opens_in for_no_connection sends_next takes_in_order takes_by client_takes opens_by again_by closes_by aborts_by folded head_or_fate head_bytes datagram_bytes segment_in
+unfolding idles peer_closes stays_established in_established fin_acked fin_waits on_segment rests_on ticks_established happened opens_in
+    for_no_connection sends_next takes_in_order takes_by client_takes opens_by again_by closes_by aborts_by folded head_or_fate head_bytes
+    datagram_bytes segment_in
 damages_hold = refl
 
 damaged_again : shown 5 (damaged_run 45) ≡ Some (node_sends 4 (ACK + PSH) 1 86 true)
-unfolding idles peer_closes stays_established in_established fin_acked fin_waits on_segment rests_on ticks_established happened opens_in for_no_connection sends_next takes_in_order takes_by client_takes opens_by again_by closes_by aborts_by folded head_or_fate head_bytes datagram_bytes segment_in
+unfolding idles peer_closes stays_established in_established fin_acked fin_waits on_segment rests_on ticks_established happened opens_in
+    for_no_connection sends_next takes_in_order takes_by client_takes opens_by again_by closes_by aborts_by folded head_or_fate head_bytes
+    datagram_bytes segment_in
 damaged_again = refl

@@ -1,5 +1,6 @@
 -- A small application with a page of pieces, some of them made from a capture, for the computed rows.
-use Rattle.link_world.proofs.Prelude.{ℕ, ◌+◌, ◌-◌, ◌==◌, ◌&&◌, min, Bool, true, false, not, List, [], ◌∷◌, ◌++◌, length, nat_lt, if◌then◌else◌, AppState, Snapshot, AppSpec, Want, Nothing, Send, Close, Abort}
+use Rattle.link_world.proofs.Prelude.{ℕ, ◌+◌, ◌-◌, ◌==◌, ◌&&◌, min, Bool, true, false, not, List, [], ◌∷◌, ◌++◌, length, nat_lt}
+use Rattle.link_world.proofs.Prelude.{if◌then◌else◌, AppState, Snapshot, AppSpec, Want, Nothing, Send, Close, Abort}
 
 pub data Piece : Type 0 where
   Plain : (text : List ℕ) → Piece

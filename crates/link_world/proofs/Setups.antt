@@ -1,5 +1,8 @@
 -- What a step of a client preserves, whatever the node did: its setup and its request, and that it is not idle.
-use Rattle.link_world.proofs.Prelude.{◌≡◌, ◌&&◌, Bool, true, false, refl, ap, eqb, ◌∙◌, PlainSegment, has_ack, has_fin, AbstractClient, ClientStep, after_fin, client_aborts, client_again, client_closes, client_opens, client_takes, has_outstanding, receives_ack, next_own, opened_by, sends_next, takes_in_order, takes_text, ClientState, is_idle, Planned, choose}
+use Rattle.link_world.proofs.Prelude.{◌≡◌, ◌&&◌, Bool, true, false, refl, ap, eqb, ◌∙◌, PlainSegment, has_ack, has_fin, AbstractClient}
+use Rattle.link_world.proofs.Prelude.{ClientStep, after_fin, client_aborts, client_again, client_closes, client_opens, client_takes}
+use Rattle.link_world.proofs.Prelude.{has_outstanding, receives_ack, next_own, opened_by, sends_next, takes_in_order, takes_text}
+use Rattle.link_world.proofs.Prelude.{ClientState, is_idle, Planned, choose}
 use Rattle.link_client.specs.declared.client_state.ClientState.TheVariants as Is
 use Rattle.link_world.proofs.ClientCases.{of_aborts, of_again, of_closes, of_opens, of_order, of_sends, of_takes}
 
@@ -28,14 +31,19 @@ from_keeps c d owed g = follows_on c d (sends_next owed d).client g (sends_keeps
 
 ack_follows : (c : AbstractClient) (s : PlainSegment) → Follows c (receives_ack c s)
 ack_follows c s =
-    choose (λ x. Follows c x) (has_ack s.flags && (has_outstanding c && eqb s.ack (next_own c))) _ _ (λ e. record { stays = λ h. h; planned = refl }) (λ e. record { stays = λ h. h; planned = refl })
+    choose (λ x. Follows c x) (has_ack s.flags && (has_outstanding c && eqb s.ack (next_own c))) _ _
+    (λ e. record { stays = λ h. h; planned = refl }) (λ e. record { stays = λ h. h; planned = refl })
 
 fin_stays : (st : ClientState) → is_idle st ≡ false → is_idle (after_fin st) ≡ false
 fin_stays Is.Idle h = h
 fin_stays _ h = refl
 
 text_follows : (c : AbstractClient) (s : PlainSegment) → Follows c (takes_text c s)
-text_follows c s = record { stays = λ h. choose (λ x. is_idle x ≡ false) (has_fin s.flags) (after_fin c.state) c.state (λ e. fin_stays c.state h) (λ e. h); planned = refl }
+text_follows c s = record {
+  stays = λ h. choose (λ x. is_idle x ≡ false) (has_fin s.flags) (after_fin c.state) c.state
+      (λ e. fin_stays c.state h) (λ e. h);
+  planned = refl;
+}
 
 order_keeps : (c : AbstractClient) (s : PlainSegment) → Keeps c (takes_in_order c s)
 order_keeps c s = of_order (λ x. Keeps c x) c s (sends_keeps true c) (sends_keeps false c) (λ g. from_keeps c (takes_text c s) true (text_follows c s))
@@ -57,7 +65,8 @@ again_keeps c =
 
 pub closes_keeps : (c : AbstractClient) → Keeps c (client_closes c)
 closes_keeps c =
-    of_closes (λ x. Keeps c x) c record { stays = λ h. h; planned = refl } (λ e. from_keeps c (record c { state = Is.Closing }) false record { stays = λ h. refl; planned = refl })
+    of_closes (λ x. Keeps c x) c record { stays = λ h. h; planned = refl } (λ e. from_keeps c (record c { state = Is.Closing }) false
+    record { stays = λ h. refl; planned = refl })
 
 pub aborts_keeps : (c : AbstractClient) → Keeps c (client_aborts c)
 aborts_keeps c = of_aborts (λ x. Keeps c x) c record { stays = λ h. h; planned = refl } (λ e. record { stays = λ h. refl; planned = refl })

@@ -1,8 +1,17 @@
 -- Every datagram that was ever sent is sound.
-use Rattle.link_world.proofs.Prelude.{◌≡◌, ℕ, suc, ◌<◌, Bool, false, List, [], ◌∷◌, map, refl, sym, ap, ◌∙◌, subst, arith, Option, Some, None, slice_get, Addr, PlainSegment, AppSpec, IsAddr, Connection, same_sockets, Reply, Arrived, EchoAsked, Periodic, Echo, TcpReply, AbstractNode, NodeStep, step, AbstractClient, ClientStep, client_takes, client_opens, client_again, client_closes, client_aborts, advertises_window, World, Side, Sent, Content, client_sockets, retires, retires_in, addressed, posts, posts_reply, posts_of_client, node_stepped, node_handles, with_client, with_side, client_stepped, marked, delivers, OfSegment, OfPing, OfEcho, ping_from, client_acts, handles_all, does, Act, Who, FromClient, FromNode, Pinger, IsAct, IsLoss, IsSteady, choose, only_some, get_push, older, newest, get_map, get_set, here, there, IsSoundSegment}
+use Rattle.link_world.proofs.Prelude.{◌≡◌, ℕ, suc, ◌<◌, Bool, false, List, [], ◌∷◌, map, refl, sym, ap, ◌∙◌, subst, arith, Option, Some}
+use Rattle.link_world.proofs.Prelude.{None, slice_get, Addr, PlainSegment, AppSpec, IsAddr, Connection, same_sockets, Reply, Arrived}
+use Rattle.link_world.proofs.Prelude.{EchoAsked, Periodic, Echo, TcpReply, AbstractNode, NodeStep, step, AbstractClient, ClientStep}
+use Rattle.link_world.proofs.Prelude.{client_takes, client_opens, client_again, client_closes, client_aborts, advertises_window, World}
+use Rattle.link_world.proofs.Prelude.{Side, Sent, Content, client_sockets, retires, retires_in, addressed, posts, posts_reply}
+use Rattle.link_world.proofs.Prelude.{posts_of_client, node_stepped, node_handles, with_client, with_side, client_stepped, marked, delivers}
+use Rattle.link_world.proofs.Prelude.{OfSegment, OfPing, OfEcho, ping_from, client_acts, handles_all, does, Act, Who, FromClient, FromNode}
+use Rattle.link_world.proofs.Prelude.{Pinger, IsAct, IsLoss, IsSteady, choose, only_some, get_push, older, newest, get_map, get_set, here}
+use Rattle.link_world.proofs.Prelude.{there, IsSoundSegment}
 use Rattle.link_world.proofs.SentBytes.{SendsBytesWhere}
 use Rattle.link_world.proofs.FitWorlds.{FitWorld, put_fits, periodic_fits}
-use Rattle.link_world.proofs.Sound.{IsSoundClient, SoundStep, takes_sound, opens_sound, again_sound, closes_sound, aborts_sound, window_sound}
+use Rattle.link_world.proofs.Sound.{IsSoundClient, SoundStep, takes_sound, opens_sound, again_sound, closes_sound, aborts_sound}
+use Rattle.link_world.proofs.Sound.{window_sound}
 use Rattle.link_world.proofs.SoundNodes.{EachOf, LensAll, SoundReply, SoundNode, arrival_node, periodic_node}
 use Rattle.link_world.proofs.Doing.{at_number, where_there}
 use Rattle.link_world.proofs.Harmless.{Harmless}
@@ -25,7 +34,8 @@ pub record SoundWorld (w : World) : Type 0 where
 pub sound_marked : (w : World) (mark : ℕ) → SoundWorld (record w { mark = mark }) → SoundWorld w
 sound_marked w mark h = record { addr = h.addr; conns = h.conns; sides = h.sides; sent = h.sent }
 
-posts_sound : (w : World) (who : Who) (again : Bool) (content : Content) → SoundSent w.node.addr who content → SoundWorld w → SoundWorld (posts w who again content)
+posts_sound : (w : World) (who : Who) (again : Bool) (content : Content) → SoundSent w.node.addr who content → SoundWorld w
+    → SoundWorld (posts w who again content)
 posts_sound w who again content s h = record {
   addr = h.addr;
   conns = h.conns;
@@ -45,7 +55,8 @@ buried_sound None sides h k side x = h k side x
 buried_sound (Some g) sides h k side x =
     let p = get_map (retires_in g) sides k side x in
     let s : IsSoundClient p.from.client = h k p.from p.get in
-    subst (λ (o : Side). IsSoundClient o.client) p.is (choose (λ (o : Side). IsSoundClient o.client) (same_sockets g.sockets (client_sockets p.from)) _ _ (λ e. s) (λ e. s))
+    subst (λ (o : Side). IsSoundClient o.client) p.is (choose (λ (o : Side). IsSoundClient o.client)
+    (same_sockets g.sockets (client_sockets p.from)) _ _ (λ e. s) (λ e. s))
 
 stepped_sound : (H : Connection → Type 0) (w : World) (r : NodeStep) → SoundNode H w.node r → SoundWorld w → SoundWorld (node_stepped w r)
 stepped_sound H w r g h = reply_sound (record w { node = r.node; sides = retires r.gone w.sides }) r.sent g.output record {
@@ -110,7 +121,8 @@ module _ (H : Connection → Type 0) where
   stepped_known : (w : World) (r : NodeStep) → SoundNode H w.node r → SoundWorld w → KnownWorld H (node_stepped w r)
   stepped_known w r g h = record {
     sound = stepped_sound H w r g h;
-    known = same_known (node_stepped w r) (record w { node = r.node; sides = retires r.gone w.sides }) (reply_node (record w { node = r.node; sides = retires r.gone w.sides }) r.sent) g.known;
+    known = same_known (node_stepped w r) (record w { node = r.node; sides = retires r.gone w.sides })
+        (reply_node (record w { node = r.node; sides = retires r.gone w.sides }) r.sent) g.known;
   }
 
   client_known : (w : World) (n : ℕ) (base : Side) (took : ClientStep) → SoundStep took → KnownWorld H w → KnownWorld H (client_stepped w (suc n) base took)
@@ -120,18 +132,26 @@ module _ (H : Connection → Type 0) where
   }
 
 module _ (m : AppSpec) (steady : IsSteady m) (H : Connection → Type 0) (bytes : SendsBytesWhere m H) (served : ℕ → Bool) where
-  gives_node_sound : (w : World) (n k : ℕ) (e : Sent) (s : PlainSegment) (side : Side) → slice_get w.sides n ≡ Some side → IsSoundSegment s → FitWorld w → KnownWorld H w
+  gives_node_sound : (w : World) (n k : ℕ) (e : Sent) (s : PlainSegment) (side : Side) → slice_get w.sides n ≡ Some side → IsSoundSegment s
+      → FitWorld w → KnownWorld H w
       → KnownWorld H (node_handles m served (with_side w (suc n) (marked side k e)) (Arrived (client_sockets side) s))
   gives_node_sound w n k e s side at g f h =
       let v : World = with_side w (suc n) (marked side k e) in
       let vf : FitWorld v = put_fits w n side (marked side k e) at refl refl f in
       let vh : SoundWorld v = put_sound w n (marked side k e) (h.sound.sides n side at) h.sound in
-      stepped_known H v (step m served v.node (Arrived (client_sockets side) s)) (arrival_node m steady H bytes served v.node (client_sockets side) s (f.sides n side at).addr (f.sides n side at).port g vf.node vh.conns h.known) vh
+      stepped_known H v (step m served v.node (Arrived (client_sockets side) s))
+      (arrival_node m steady H bytes served v.node (client_sockets side) s (f.sides n side at).addr (f.sides n side at).port g vf.node vh.conns h.known) vh
 
   echo_sound : (w : World) (datagram : List ℕ) → KnownWorld H w → KnownWorld H (node_handles m served w (EchoAsked datagram))
-  echo_sound w datagram h = stepped_known H w (step m served w.node (EchoAsked datagram)) record { addr = refl; conns = h.sound.conns; known = h.known; output = λ x e. only_some (λ r. SoundReply r) (Echo datagram) x e tt } h.sound
+  echo_sound w datagram h = stepped_known H w (step m served w.node (EchoAsked datagram)) record {
+    addr = refl;
+    conns = h.sound.conns;
+    known = h.known;
+    output = λ x e. only_some (λ r. SoundReply r) (Echo datagram) x e tt;
+  } h.sound
 
-  delivers_sound : (w : World) (k : ℕ) (e : Sent) (who : Who) (content : Content) → SoundSent w.node.addr who content → FitWorld w → KnownWorld H w → KnownWorld H (delivers m served w k e who content)
+  delivers_sound : (w : World) (k : ℕ) (e : Sent) (who : Who) (content : Content) → SoundSent w.node.addr who content → FitWorld w
+      → KnownWorld H w → KnownWorld H (delivers m served w k e who content)
   delivers_sound w k e (FromClient number) (OfSegment id s) g f h =
       at_number (KnownWorld H) (λ i side. node_handles m served (with_side w i (marked side k e)) (Arrived (client_sockets side) s)) w.sides number w h
       (λ n side at. gives_node_sound w n k e s side at (segment_inside w.node.addr (FromClient number) id s g) f h)
@@ -146,7 +166,8 @@ module _ (m : AppSpec) (steady : IsSteady m) (H : Connection → Type 0) (bytes 
   delivers_sound w k e Pinger (OfSegment id s) g f h = h
   delivers_sound w k e Pinger (OfEcho request) g f h = h
 
-  act_sound : (w : World) (number : ℕ) (act : AbstractClient → ClientStep) → ((c : AbstractClient) → IsSoundClient c → SoundStep (act c)) → KnownWorld H w → KnownWorld H (client_acts w number act)
+  act_sound : (w : World) (number : ℕ) (act : AbstractClient → ClientStep) → ((c : AbstractClient) → IsSoundClient c → SoundStep (act c))
+      → KnownWorld H w → KnownWorld H (client_acts w number act)
   act_sound w number act s h =
       at_number (KnownWorld H) (λ i side. client_stepped w i side (act side.client)) w.sides number w h
       (λ n side at. client_known H w n side (act side.client) (s side.client (h.sound.sides n side at)) h)
@@ -163,9 +184,11 @@ module _ (m : AppSpec) (steady : IsSteady m) (H : Connection → Type 0) (bytes 
   does_sound w (Act.Closes n) is l f h = act_sound w n client_closes closes_sound h
   does_sound w (Act.Aborts n) is l f h = act_sound w n client_aborts aborts_sound h
   does_sound w (Act.Window n x) is l f h = act_sound w n (advertises_window x) (λ c s. window_sound x c is s) h
-  does_sound w (Act.Ping source) is l f h = record { sound = posts_sound w Pinger false (OfPing (ping_from source w.node.addr)) (of_ping source refl refl is) h.sound; known = h.known }
+  does_sound w (Act.Ping source) is l f h =
+      record { sound = posts_sound w Pinger false (OfPing (ping_from source w.node.addr)) (of_ping source refl refl is) h.sound; known = h.known }
   does_sound w (Act.Give k) is l f h =
-      at_number (KnownWorld H) (λ i e. delivers m served w i e e.who e.content) w.sent k w h (λ n e at. delivers_sound w (suc n) e e.who e.content (h.sound.sent n e at) f h)
+      at_number (KnownWorld H) (λ i e. delivers m served w i e e.who e.content) w.sent k w h
+      (λ n e at. delivers_sound w (suc n) e e.who e.content (h.sound.sent n e at) f h)
   does_sound w (Act.Damage k at mask) is l f h = record {
     sound = loss_sound w (does m served w (Act.Damage k at mask)) l h.sound;
     known = subst (EachOf H) (sym l.connections) h.known;

@@ -1,7 +1,10 @@
 -- The output model of an application for one client, as far as the walk of a clean client needs it: its output by what was
 -- received and captured, and what each call does to that. An application whose text is a page has it, and so has one that may
 -- give a connection up in the middle of a piece.
-use Rattle.link_world.proofs.Prelude.{All, ◌≡◌, ℕ, ◌+◌, ◌<◌, ◌≤◌, Bool, true, false, ◌⊎◌, inl, inr, List, [], ◌∷◌, ◌++◌, length, drop, refl, sym, ap, ◌∙◌, subst, arith, length-drop, AppState, Snapshot, AppSpec, IsPrefixOf, CanSend, Pages, IsPaged, IsSnapshot, MayWant, Now, Want, Nothing, Send, Close, Abort, delivers_text, IsSteady, steady_of, append_nothing}
+use Rattle.link_world.proofs.Prelude.{All, ◌≡◌, ℕ, ◌+◌, ◌<◌, ◌≤◌, Bool, true, false, ◌⊎◌, inl, inr, List, [], ◌∷◌, ◌++◌, length, drop, refl}
+use Rattle.link_world.proofs.Prelude.{sym, ap, ◌∙◌, subst, arith, length-drop, AppState, Snapshot, AppSpec, IsPrefixOf, CanSend, Pages}
+use Rattle.link_world.proofs.Prelude.{IsPaged, IsSnapshot, MayWant, Now, Want, Nothing, Send, Close, Abort, delivers_text, IsSteady}
+use Rattle.link_world.proofs.Prelude.{steady_of, append_nothing}
 
 -- The output at some ports: the text of what was received and captured, and whether nothing stopped it; which states are
 -- initial there, and which of these are lost: they receive nothing more.
@@ -46,7 +49,8 @@ pub record HasOutputModel (m : AppSpec) (speaker : Speaker) : Type 0 where
   pub acked : (numbers : List ℕ) (p : AppState) (n : ℕ) → speaker.here p ≡ true → KeepsReceived speaker p (m.acked numbers p n).part
   pub polled : (numbers : List ℕ) (p : AppState) → speaker.here p ≡ true → KeepsReceived speaker p (m.polled numbers p).part
   -- it closes at the end of a whole text alone
-  pub closes : (numbers : List ℕ) (p : AppState) → speaker.here p ≡ true → p.acked ≤ length (m.output p) → m.want numbers p ≡ Close → MayWant (page_by speaker) p Close
+  pub closes : (numbers : List ℕ) (p : AppState) → speaker.here p ≡ true → p.acked ≤ length (m.output p) → m.want numbers p ≡ Close
+      → MayWant (page_by speaker) p Close
 
 module _ (m : AppSpec) (speaker : Speaker) (laws : HasOutputModel m speaker) where
   -- what receiving text does to a state
@@ -77,18 +81,30 @@ module _ (m : AppSpec) (speaker : Speaker) (laws : HasOutputModel m speaker) whe
   pub prepare_is : (numbers : List ℕ) (p : AppState) (now : Now) → speaker.here p ≡ true → Prepared p (m.prepare numbers p now)
   prepare_is numbers p now h =
       elim (laws.steady.prepare_snapshots numbers p now) [
-        | inl e ↦ record { keeps = laws.prepare numbers p now h; more = []; snapshots = e ∙ sym (append_nothing p.snapshots); acked = (laws.steady.lawful.prepare_grows numbers p now tt).offset }
-        | inr e ↦ record { keeps = laws.prepare numbers p now h; more = record { numbers = numbers; now = now } ∷ []; snapshots = e; acked = (laws.steady.lawful.prepare_grows numbers p now tt).offset }
+        | inl e ↦ record {
+          keeps = laws.prepare numbers p now h;
+          more = [];
+          snapshots = e ∙ sym (append_nothing p.snapshots);
+          acked = (laws.steady.lawful.prepare_grows numbers p now tt).offset;
+        }
+        | inr e ↦ record {
+          keeps = laws.prepare numbers p now h;
+          more = record { numbers = numbers; now = now } ∷ [];
+          snapshots = e;
+          acked = (laws.steady.lawful.prepare_grows numbers p now tt).offset;
+        }
       ]
 
   -- an acknowledgement of this much of what is left
-  pub acked_is : (numbers : List ℕ) (p : AppState) (n : ℕ) → speaker.here p ≡ true → p.acked + n ≤ length (speaker.text p.input p.snapshots) → (m.acked numbers p n).part.acked ≡ p.acked + n
+  pub acked_is : (numbers : List ℕ) (p : AppState) (n : ℕ) → speaker.here p ≡ true → p.acked + n ≤ length (speaker.text p.input p.snapshots)
+      → (m.acked numbers p n).part.acked ≡ p.acked + n
   acked_is numbers p n h l =
       let size : length (m.output p) ≡ length (speaker.text p.input p.snapshots) = ap (λ (xs : List ℕ). length xs) (laws.output p h) in
       (laws.steady.lawful.acked_moves numbers p n tt (omega (arith, l, size, length-drop p.acked (m.output p)))).1
 
   -- what is requested, if no more is acknowledged than was sent
-  pub wants_is : (numbers : List ℕ) (p : AppState) → speaker.here p ≡ true → p.acked ≤ length (speaker.text p.input p.snapshots) → MayWant (page_by speaker) p (m.want numbers p)
+  pub wants_is : (numbers : List ℕ) (p : AppState) → speaker.here p ≡ true → p.acked ≤ length (speaker.text p.input p.snapshots)
+      → MayWant (page_by speaker) p (m.want numbers p)
   wants_is numbers p h l = go (m.want numbers p) refl
     where
       size : length (m.output p) ≡ length (speaker.text p.input p.snapshots)
@@ -98,7 +114,8 @@ module _ (m : AppSpec) (speaker : Speaker) (laws : HasOutputModel m speaker) whe
       go Nothing e = tt
       go Abort e = tt
       go Close e = laws.closes numbers p h (omega (arith, l, size)) e
-      go (Send n) e = (let s : CanSend (Send n) (length (drop p.acked (m.output p))) = subst (λ w. CanSend w (length (drop p.acked (m.output p)))) e (laws.steady.lawful.sends numbers p tt) in
+      go (Send n) e = (let s : CanSend (Send n) (length (drop p.acked (m.output p))) = subst
+          (λ w. CanSend w (length (drop p.acked (m.output p)))) e (laws.steady.lawful.sends numbers p tt) in
           (s.0, omega (arith, s.0, s.1, size, l, length-drop p.acked (m.output p))))
 
 -- ---- an application whose text is a page, at every port

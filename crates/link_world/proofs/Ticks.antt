@@ -1,5 +1,12 @@
 -- An expired timer sends in that tick.
-use Rattle.link_world.proofs.Prelude.{◌≡◌, ℕ, ◌+◌, ◌<◌, ◌≤◌, true, List, [], ◌∷◌, ◌++◌, length, cond, count_by, refl, sym, ap, ◌∙◌, subst, arith, Option, Some, nat_le, ltb, if◌then◌else◌, ◌⊎◌, inl, inr, option_map_or, option_map, ident_of, Spoke, Silent, TcpReply, list_all, is_count_by, common_steps, ages, give_up_age, tries_at, count_at, beat_at, Timer, repeats, PlainSegment, AppSpec, Now, State, SynRcvd, Established, CloseWait, FinWait1, Closing, LastAck, Connection, closed, tries_of, is_resting, segment_of, is_again, syn_ack, text_segment, fin_of, leaves, asked, limit_of, outstanding, grows_older, by_beat, waits_for_ack, ticks_established, tick_by, on_tick, Step, Event, Periodic, AbstractNode, snapshot, happened, may_wait, IsExpired, SendsAgain, and_true, ltb-yes, index_of}
+use Rattle.link_world.proofs.Prelude.{◌≡◌, ℕ, ◌+◌, ◌<◌, ◌≤◌, true, List, [], ◌∷◌, ◌++◌, length, cond, count_by, refl, sym, ap, ◌∙◌, subst}
+use Rattle.link_world.proofs.Prelude.{arith, Option, Some, nat_le, ltb, if◌then◌else◌, ◌⊎◌, inl, inr, option_map_or, option_map, ident_of}
+use Rattle.link_world.proofs.Prelude.{Spoke, Silent, TcpReply, list_all, is_count_by, common_steps, ages, give_up_age, tries_at, count_at}
+use Rattle.link_world.proofs.Prelude.{beat_at, Timer, repeats, PlainSegment, AppSpec, Now, State, SynRcvd, Established, CloseWait, FinWait1}
+use Rattle.link_world.proofs.Prelude.{Closing, LastAck, Connection, closed, tries_of, is_resting, segment_of, is_again, syn_ack}
+use Rattle.link_world.proofs.Prelude.{text_segment, fin_of, leaves, asked, limit_of, outstanding, grows_older, by_beat, waits_for_ack}
+use Rattle.link_world.proofs.Prelude.{ticks_established, tick_by, on_tick, Step, Event, Periodic, AbstractNode, snapshot, happened}
+use Rattle.link_world.proofs.Prelude.{may_wait, IsExpired, SendsAgain, and_true, ltb-yes, index_of}
 use Rattle.rexmit_timer.specs.declared.timer.Beat.TheVariants.{Again}
 use Rattle.link_world.specs.Headline.{Tick}
 
@@ -65,7 +72,8 @@ again_beat c x =
     sym (repeats (limit_of c.state) c.age timer (limit_low c.state) (early c.state c.age t) record { count = refl; tries = refl } count t).beat
 
 module _ (m : AppSpec) where
-  by_state : (st : State) (c : Connection) (numbers : List ℕ) → c.state ≡ st → may_wait st ≡ true → 0 < c.len → tick_by m st c numbers ≡ waits_for_ack m c numbers
+  by_state : (st : State) (c : Connection) (numbers : List ℕ) → c.state ≡ st → may_wait st ≡ true → 0 < c.len → tick_by m st c numbers
+      ≡ waits_for_ack m c numbers
   unfolding ticks_established
   by_state SynRcvd c numbers e w l = refl
   by_state Established c numbers e w l = ap (λ b. if b then waits_for_ack m c numbers else Rattle.tcp_machine.specs.OnTick.polls m c numbers) (ltb-yes c.len l)
@@ -92,24 +100,34 @@ module _ (m : AppSpec) where
   due LastAck d w = record { segment = fin_of d; is = refl; again = refl }
   due _ d w = absurd (cc)
 
-  not_asked : (st : State) (now : Connection → Now) (d : Connection) (numbers : List ℕ) → asked m now (leaves d numbers (outstanding true st)) ≡ leaves d numbers (outstanding true st)
+  not_asked : (st : State) (now : Connection → Now) (d : Connection) (numbers : List ℕ)
+      → asked m now (leaves d numbers (outstanding true st)) ≡ leaves d numbers (outstanding true st)
   not_asked SynRcvd now d numbers = refl
   not_asked _ now d numbers = refl
 
-  sends_it : (n : AbstractNode) (event : Event) (slot : ℕ) (c : Connection) (s : Step) (x : PlainSegment) → segment_of m (grows_older c) s ≡ Some x → is_again s ≡ true → segment_of m (grows_older c) (outstanding true c.state) ≡ Some x → SendsAgain m c (happened m n event slot c (leaves (grows_older c) n.numbers s)).sent
+  sends_it : (n : AbstractNode) (event : Event) (slot : ℕ) (c : Connection) (s : Step) (x : PlainSegment) → segment_of m (grows_older c) s
+      ≡ Some x → is_again s ≡ true → segment_of m (grows_older c) (outstanding true c.state) ≡ Some x
+      → SendsAgain m c (happened m n event slot c (leaves (grows_older c) n.numbers s)).sent
   unfolding happened
   sends_it n event slot c s x e a o = record {
     id = _;
     segment = x;
-    sends = ap (λ (z : Option PlainSegment). option_map (λ t. TcpReply c.sockets (ident_of (record { event = event; answer = option_map_or (λ t. Spoke (is_again s)) (segment_of m (grows_older c) s) Silent } ∷ n.history)) (is_again s) t) z) e
-        ∙ ap (λ b. Some (TcpReply c.sockets (ident_of (record { event = event; answer = option_map_or (λ t. Spoke (is_again s)) (segment_of m (grows_older c) s) Silent } ∷ n.history)) b x)) a;
+    sends = ap (λ (z : Option PlainSegment). option_map
+        (λ t. TcpReply c.sockets (ident_of (record {
+          event = event;
+          answer = option_map_or (λ t. Spoke (is_again s)) (segment_of m (grows_older c) s) Silent;
+        } ∷ n.history)) (is_again s) t) z) e
+        ∙ ap (λ b. Some (TcpReply c.sockets (ident_of
+        (record { event = event; answer = option_map_or (λ t. Spoke (is_again s)) (segment_of m (grows_older c) s) Silent } ∷ n.history)) b x)) a;
     is = o;
   }
 
 pub tick : Tick
 tick m served n slot c at x =
     let d = due m c.state (grows_older c) x.waits in
-    subst (λ z. SendsAgain m c (happened m n (Periodic slot) slot z (asked m (snapshot n (Periodic slot) slot) (on_tick m z n.numbers))).sent) (sym (index_of n.connections slot closed c at))
+    subst (λ z. SendsAgain m c (happened m n (Periodic slot) slot z
+    (asked m (snapshot n (Periodic slot) slot) (on_tick m z n.numbers))).sent) (sym (index_of n.connections slot closed c at))
     (subst (λ o. SendsAgain m c (happened m n (Periodic slot) slot c (asked m (snapshot n (Periodic slot) slot) o)).sent) (sym (tick_is m c n.numbers x))
-    (subst (λ o. SendsAgain m c (happened m n (Periodic slot) slot c o).sent) (sym (not_asked m c.state (snapshot n (Periodic slot) slot) (grows_older c) n.numbers))
+    (subst (λ o. SendsAgain m c (happened m n (Periodic slot) slot c o).sent)
+    (sym (not_asked m c.state (snapshot n (Periodic slot) slot) (grows_older c) n.numbers))
     (sends_it m n (Periodic slot) slot c (outstanding true c.state) d.segment d.is d.again d.is)))

@@ -1,7 +1,21 @@
 -- A cooperating peer of a node has its page, whatever other peers do and the link loses, repeats or reorders: the run.
-use Rattle.node_laws.proofs.Prelude.{All, All-cons, All-head, All-nil, option_map_or, ◌≡◌, ℕ, zero, suc, ◌+◌, ◌<◌, ◌≤◌, ◌==◌, Bool, true, false, not, ◌&&◌, ◌||◌, ◌⊎◌, inl, inr, List, [], ◌∷◌, ◌++◌, length, set, drop, refl, sym, ap, ◌∙◌, subst, arith, Option, Some, None, is_some, slice_get, eqb, ltb, length-append, if◌then◌else◌, eq-eqb, All-tail, wrap, Addr, SYN, PlainSegment, has_syn, has_fin, has_rst, has_ack, AppState, AppSpec, IsPrefixOf, Pages, SynRcvd, Now, Sockets, Connection, closed, is_live, same_sockets, rows_from, row_of, is_plain_syn, occupies_sequence_space, segment_of, bare_ack, fin_of, is_acked, reset_for_no_connection, reset_of, snd_una, syn_ack, text_segment, Outcome, leaves, Step, asked, accepted, first_mss, on_segment, on_tick, Event, Periodic, called_by, AbstractNode, NodeStep, snapshot, initial_node, step, serving, IsEvent, and_true, both_ways, choose, eqb-eq, ltb-zero, only_some, wrap_wrap, append_nothing, get_set_same, is_served, served, free, on_segment_fits, on_tick_fits, node_snapshot, Asker, Arrives, HasAcknowledged, IsWithoutReset, Moves, asked_moves, segment_moves, tick_moves, ReceivesStale, acknowledges_new, awaits_ack, expected_next, fresh, in_handshake, is_stale, retransmission_limit, retransmissions, sent_at, sent_next, with_fresh, text_received, bare_acks, receives_all, SendsSyn, SendsNext, calls_of, HasItsPage, Exchange, TraceEntry, exchange, exchanges_onto, exchanges_with}
+use Rattle.node_laws.proofs.Prelude.{All, All-cons, All-head, All-nil, option_map_or, ◌≡◌, ℕ, zero, suc, ◌+◌, ◌<◌, ◌≤◌, ◌==◌, Bool, true}
+use Rattle.node_laws.proofs.Prelude.{false, not, ◌&&◌, ◌||◌, ◌⊎◌, inl, inr, List, [], ◌∷◌, ◌++◌, length, set, drop, refl, sym, ap, ◌∙◌}
+use Rattle.node_laws.proofs.Prelude.{subst, arith, Option, Some, None, is_some, slice_get, eqb, ltb, length-append, if◌then◌else◌, eq-eqb}
+use Rattle.node_laws.proofs.Prelude.{All-tail, wrap, Addr, SYN, PlainSegment, has_syn, has_fin, has_rst, has_ack, AppState, AppSpec}
+use Rattle.node_laws.proofs.Prelude.{IsPrefixOf, Pages, SynRcvd, Now, Sockets, Connection, closed, is_live, same_sockets, rows_from, row_of}
+use Rattle.node_laws.proofs.Prelude.{is_plain_syn, occupies_sequence_space, segment_of, bare_ack, fin_of, is_acked, reset_for_no_connection}
+use Rattle.node_laws.proofs.Prelude.{reset_of, snd_una, syn_ack, text_segment, Outcome, leaves, Step, asked, accepted, first_mss}
+use Rattle.node_laws.proofs.Prelude.{on_segment, on_tick, Event, Periodic, called_by, AbstractNode, NodeStep, snapshot, initial_node, step}
+use Rattle.node_laws.proofs.Prelude.{serving, IsEvent, and_true, both_ways, choose, eqb-eq, ltb-zero, only_some, wrap_wrap, append_nothing}
+use Rattle.node_laws.proofs.Prelude.{get_set_same, is_served, served, free, on_segment_fits, on_tick_fits, node_snapshot, Asker, Arrives}
+use Rattle.node_laws.proofs.Prelude.{HasAcknowledged, IsWithoutReset, Moves, asked_moves, segment_moves, tick_moves, ReceivesStale}
+use Rattle.node_laws.proofs.Prelude.{acknowledges_new, awaits_ack, expected_next, fresh, in_handshake, is_stale, retransmission_limit}
+use Rattle.node_laws.proofs.Prelude.{retransmissions, sent_at, sent_next, with_fresh, text_received, bare_acks, receives_all, SendsSyn}
+use Rattle.node_laws.proofs.Prelude.{SendsNext, calls_of, HasItsPage, Exchange, TraceEntry, exchange, exchanges_onto, exchanges_with}
 use Rattle.node_laws.proofs.GoodNodes.{Good, good_on}
-use Rattle.node_laws.proofs.HonestConnections.{conn_at, Counts, AtSyn, Stage, Snapshots, both_no, stage_quiet, answered, called, stage_serves, stage_stays, runs_out, keeps_in_time, discards, stage_at, syn_out, syn_stays}
+use Rattle.node_laws.proofs.HonestConnections.{conn_at, Counts, AtSyn, Stage, Snapshots, both_no, stage_quiet, answered, called}
+use Rattle.node_laws.proofs.HonestConnections.{stage_serves, stage_stays, runs_out, keeps_in_time, discards, stage_at, syn_out, syn_stays}
 use Rattle.node_laws.proofs.HonestConnections.Stage.{at_syn}
 use Rattle.node_laws.proofs.HonestConnections.Next.{goes_on_so, ends_so}
 use Rattle.node_laws.proofs.HonestConnections.Discards.{with_ack, silently}
@@ -17,22 +31,28 @@ use Rattle.node_laws.proofs.Steps.{Changes, IsStep, LineStep, OfNode, changed, c
 use Rattle.node_laws.proofs.Waiting.{timed_syn}
 
 -- where one lives the table has a row
-rows_some : (k : ℕ) (cs : List Connection) (i : ℕ) (old z : Connection) → slice_get cs i ≡ Some old → is_live z.state ≡ true → 0 < length (rows_from k (set cs i z))
+rows_some : (k : ℕ) (cs : List Connection) (i : ℕ) (old z : Connection) → slice_get cs i ≡ Some old → is_live z.state ≡ true
+    → 0 < length (rows_from k (set cs i z))
 rows_some k [] i old z h l = absurd (cc)
-rows_some k (c ∷ cs) zero old z h l = choose (λ r. 0 < length r) (is_live z.state) (row_of k z ∷ rows_from (k + 1) cs) (rows_from (k + 1) cs) (λ e. omega arith) (λ e. absurd (cc))
-rows_some k (c ∷ cs) (suc i) old z h l = choose (λ r. 0 < length r) (is_live c.state) (row_of k c ∷ rows_from (k + 1) (set cs i z)) (rows_from (k + 1) (set cs i z)) (λ e. omega arith) (λ e. rows_some (k + 1) cs i old z h l)
+rows_some k (c ∷ cs) zero old z h l = choose (λ r. 0 < length r) (is_live z.state) (row_of k z ∷ rows_from (k + 1) cs)
+    (rows_from (k + 1) cs) (λ e. omega arith) (λ e. absurd (cc))
+rows_some k (c ∷ cs) (suc i) old z h l = choose (λ r. 0 < length r) (is_live c.state) (row_of k c ∷ rows_from (k + 1) (set cs i z))
+    (rows_from (k + 1) (set cs i z)) (λ e. omega arith) (λ e. rows_some (k + 1) cs i old z h l)
 
 calls_more : (slot : ℕ) (t : TraceEntry) (turns : List TraceEntry) → calls_of slot turns ≤ calls_of slot (t ∷ turns)
-calls_more slot t turns = choose (λ n. calls_of slot turns ≤ n) (option_map_or (λ place. place == slot) (called_by t.event) false) (calls_of slot turns + 1) (calls_of slot turns) (λ e. omega arith) (λ e. omega arith)
+calls_more slot t turns = choose (λ n. calls_of slot turns ≤ n) (option_map_or (λ place. place == slot) (called_by t.event) false)
+    (calls_of slot turns + 1) (calls_of slot turns) (λ e. omega arith) (λ e. omega arith)
 
 pub calls_one : (slot : ℕ) (t : TraceEntry) (turns : List TraceEntry) → t.event ≡ Periodic slot → calls_of slot (t ∷ turns) ≡ calls_of slot turns + 1
 calls_one slot t turns e =
-    ap (λ b. if b then calls_of slot turns + 1 else calls_of slot turns) (ap (λ z. option_map_or (λ place. place == slot) (called_by z) false) e ∙ eq-eqb slot slot refl)
+    ap (λ b. if b then calls_of slot turns + 1 else calls_of slot turns)
+    (ap (λ z. option_map_or (λ place. place == slot) (called_by z) false) e ∙ eq-eqb slot slot refl)
 
 -- nothing more is sent after the whole
 nothing_after : (xs text whole : List ℕ) → xs ≡ whole → IsPrefixOf (xs ++ text) whole → xs ++ text ≡ whole
 nothing_after xs text whole e h =
-    let none : text ≡ [] = nil_of text (let j = ap length h.joined in let k = length-append (xs ++ text) h.rest in let l = length-append xs text in let q = ap length e in omega (arith, j, k, l, q)) in
+    let none : text ≡ [] = nil_of text (let j = ap length h.joined in let k = length-append (xs ++ text) h.rest in
+    let l = length-append xs text in let q = ap length e in omega (arith, j, k, l, q)) in
     ap (λ t. xs ++ t) none ∙ append_nothing xs ∙ e
 
 -- ---- what the peer does, exchange by exchange
@@ -54,7 +74,8 @@ GoesOn a (x ∷ []) = SendsSyn a x
 GoesOn a (x ∷ y ∷ older) = Goes a x (fresh a (y ∷ older)) × GoesOn a (y ∷ older)
 
 -- the exchanges before went on so too
-pub goes_before : (a : Asker) (p : Sockets) (turns : List TraceEntry) (y : Exchange) (older : List Exchange) → GoesOn a (exchanges_onto p turns (y ∷ older)) → GoesOn a (y ∷ older)
+pub goes_before : (a : Asker) (p : Sockets) (turns : List TraceEntry) (y : Exchange) (older : List Exchange)
+    → GoesOn a (exchanges_onto p turns (y ∷ older)) → GoesOn a (y ∷ older)
 goes_before a p [] y older h = h
 goes_before a p (t ∷ turns) y older h = (goes_before a p turns _ (y ∷ older) h).1
 
@@ -101,13 +122,15 @@ still_confirmed x incarnation c h = elim h [ inl z ↦ inl z | inr k ↦ inr (on
 abbrev Acks : Exchange → Connection → Type 0
 Acks x c = (t : PlainSegment) × (x.received ≡ Some t) × (has_ack t.flags ≡ true) × (t.ack ≡ wrap (snd_una c + c.len))
 
-confirmed_on : (acked : Bool) (x : Exchange) (incarnation : List Exchange) (c d : Connection) → Moves acked c d → (acked ≡ true → Acks x c) → Confirmed incarnation c → Confirmed (x ∷ incarnation) d
+confirmed_on : (acked : Bool) (x : Exchange) (incarnation : List Exchange) (c d : Connection) → Moves acked c d → (acked ≡ true → Acks x c)
+    → Confirmed incarnation c → Confirmed (x ∷ incarnation) d
 confirmed_on acked x incarnation c d moves acks h =
     let iss : d.iss ≡ c.iss = moves.iss in
     elim moves.place [
       | inl e ↦ elim h [
         | inl z ↦ inl (e ∙ z)
-        | inr k ↦ inr (subst (λ n. HasAcknowledged (x ∷ incarnation) n) (ap wrap (let z : c.iss + c.acked ≡ d.iss + d.acked = omega (arith, iss, e) in z)) (one_later x incarnation (snd_una c) k))
+        | inr k ↦ inr (subst (λ n. HasAcknowledged (x ∷ incarnation) n)
+            (ap wrap (let z : c.iss + c.acked ≡ d.iss + d.acked = omega (arith, iss, e) in z)) (one_later x incarnation (snd_una c) k))
       ]
       | inr e ↦ inr (let by = acks e.0 in let more : d.acked ≡ c.acked + c.len = e.1 in
           record {
@@ -138,18 +161,23 @@ acks_by c s output e =
     (s, refl, b.0, eqb-eq s.ack (wrap (snd_una c + c.len)) d.1)
 
 -- when the FIN is sent, everything before it was acknowledged
-acked_before : (m : AppSpec) (pages : Pages) (a : Asker) (received : Option PlainSegment) (all kept : List Exchange) (o : Outcome) → (h : HasItsPage pages a (met received (segment_of m o.connection o.step) ∷ kept)) → h.ends.place ≡ 0 → 0 < o.connection.acked →
-    Confirmed (met received (segment_of m o.connection o.step) ∷ all) o.connection → HasAcknowledged (met received (segment_of m o.connection o.step) ∷ all) h.ends.segment.seq
+acked_before : (m : AppSpec) (pages : Pages) (a : Asker) (received : Option PlainSegment) (all kept : List Exchange) (o : Outcome)
+    → (h : HasItsPage pages a (met received (segment_of m o.connection o.step) ∷ kept)) → h.ends.place ≡ 0 → 0 < o.connection.acked →
+    Confirmed (met received (segment_of m o.connection o.step) ∷ all) o.connection
+    → HasAcknowledged (met received (segment_of m o.connection o.step) ∷ all) h.ends.segment.seq
 acked_before m pages a received all kept o h first some by = elim by [
   | inl z ↦ absurd (omega (arith, some, z))
   | inr k ↦ subst (λ n. HasAcknowledged (met received (segment_of m o.connection o.step) ∷ all) n)
-      (sym (sent_seq m o.connection o.step h.ends.segment (subst (λ j. sent_at (met received (segment_of m o.connection o.step) ∷ kept) j ≡ Some h.ends.segment) first h.ends.output))) k
+      (sym (sent_seq m o.connection o.step h.ends.segment (subst (λ j. sent_at (met received (segment_of m o.connection o.step) ∷ kept) j
+      ≡ Some h.ends.segment) first h.ends.output))) k
 ]
 
 -- ---- the page, seen in all exchanges
 
 -- what was sent among the fresh exchanges was sent among all
-in_all : (pages : Pages) (a : Asker) (x : Exchange) (all kept : List Exchange) → has_of a.iss all ≡ has_of a.iss kept → (h : HasItsPage pages a (x ∷ kept)) → h.ends.place ≡ 0 → HasAcknowledged (x ∷ all) h.ends.segment.seq → All IsWithoutReset (x ∷ all) → Arrives pages a (x ∷ all)
+in_all : (pages : Pages) (a : Asker) (x : Exchange) (all kept : List Exchange) → has_of a.iss all ≡ has_of a.iss kept
+    → (h : HasItsPage pages a (x ∷ kept)) → h.ends.place ≡ 0 → HasAcknowledged (x ∷ all) h.ends.segment.seq → All IsWithoutReset (x ∷ all)
+    → Arrives pages a (x ∷ all)
 in_all pages a x all kept same h first acked clean = record {
   page = record {
     snapshots = h.snapshots;
@@ -162,7 +190,8 @@ in_all pages a x all kept same h first acked clean = record {
       fin = h.ends.fin;
       seq = h.ends.seq;
     };
-    complete = has_on a.iss x all ∙ ap (λ got. option_map_or (λ s. Rattle.node_laws.specs.Receivers.takes_next a.iss got s) x.output got) same ∙ sym (has_on a.iss x kept)
+    complete = has_on a.iss x all ∙ ap (λ got. option_map_or (λ s. Rattle.node_laws.specs.Receivers.takes_next a.iss got s) x.output got)
+        same ∙ sym (has_on a.iss x kept)
         ∙ subst (λ k. receives_all a.iss (drop k (x ∷ kept)) ≡ pages.page a.request h.snapshots) first h.complete;
   };
   acknowledged = acked;
@@ -183,7 +212,9 @@ stays_sent pages a x incarnation h = record {
   unreset = h.unreset;
 }
 
-module _ (m : AppSpec) (pages : Pages) (here : AppState → Bool) (serves_port : ℕ → Bool) (p : Sockets) (lawful : Paging m pages p.own_port.0 here) (a : Asker) (room : 0 < a.mss) (fine : ℕ → AppState → Bool) (left : AppState → ℕ) (texts patience : ℕ) (answering : Answering m p.own_port.0 here a.request a.mss fine left texts patience) where
+module _ (m : AppSpec) (pages : Pages) (here : AppState → Bool) (serves_port : ℕ → Bool) (p : Sockets)
+    (lawful : Paging m pages p.own_port.0 here) (a : Asker) (room : 0 < a.mss) (fine : ℕ → AppState → Bool) (left : AppState → ℕ)
+    (texts patience : ℕ) (answering : Answering m p.own_port.0 here a.request a.mss fine left texts patience) where
   abbrev At : ℕ → List Exchange → Connection → Type 0
   At polls incarnation c = Stage m pages here p lawful a room fine left texts patience answering polls incarnation c
 
@@ -220,9 +251,21 @@ module _ (m : AppSpec) (pages : Pages) (here : AppState → Bool) (serves_port :
     arrived : Arrives pages a incarnation → Opening n incarnation
 
   -- then it asks
-  asking_from : (n : AbstractNode) (incarnation : List Exchange) (asking : List TraceEntry) → ((slot : ℕ) → calls_of slot asking ≤ patience) → Opening n incarnation → Representing n incarnation asking
+  asking_from : (n : AbstractNode) (incarnation : List Exchange) (asking : List TraceEntry) → ((slot : ℕ) → calls_of slot asking ≤ patience)
+      → Opening n incarnation → Representing n incarnation asking
   asking_from n incarnation asking prompt s = elim s [
-    | opened kept e v ↦ incarnations kept e record { i = v.i; c = v.c; there = v.there; polls = 0; few = omega arith; can_wait = inr (let z = prompt v.i in omega (arith, z)); stage = v.stage; same = v.same; clean = v.clean; confirmed = v.confirmed }
+    | opened kept e v ↦ incarnations kept e record {
+      i = v.i;
+      c = v.c;
+      there = v.there;
+      polls = 0;
+      few = omega arith;
+      can_wait = inr (let z = prompt v.i in omega (arith, z));
+      stage = v.stage;
+      same = v.same;
+      clean = v.clean;
+      confirmed = v.confirmed;
+    }
     | arrived reported ↦ over reported
   ]
 
@@ -242,29 +285,34 @@ module _ (m : AppSpec) (pages : Pages) (here : AppState → Bool) (serves_port :
     abbrev After : Exchange → Type 0
     After z = Representing r.node (z ∷ incarnation) rest
 
-    snapshots : (i : ℕ) (c : Connection) (o : Outcome) → slice_get n.connections i ≡ Some c → Rattle.uip_node.proofs.Fits.FitOut o → Snapshots m pages here p lawful a room fine left texts patience answering (snapshot n event i) o
+    snapshots : (i : ℕ) (c : Connection) (o : Outcome) → slice_get n.connections i ≡ Some c → Rattle.uip_node.proofs.Fits.FitOut o
+        → Snapshots m pages here p lawful a room fine left texts patience answering (snapshot n event i) o
     snapshots i c o there f = record {
       is = node_snapshot m lawful.steady n event i good.fit o.connection f.conn;
       rows = λ z l. rows_some 0 n.connections i c z there l;
       fit = f;
     }
 
-    stepped : (i : ℕ) (c d : Connection) → slice_get n.connections i ≡ Some c → r.node.connections ≡ set n.connections i d → slice_get r.node.connections i ≡ Some d
+    stepped : (i : ℕ) (c d : Connection) → slice_get n.connections i ≡ Some c → r.node.connections ≡ set n.connections i d
+        → slice_get r.node.connections i ≡ Some d
     stepped i c d there e = ap (λ l. slice_get l i) e ∙ get_set_same n.connections i c d there
 
     -- a connection that continues has sent no RST
     live_stage : (polls : ℕ) (kept : List Exchange) (c : Connection) → At polls kept c → is_live c.state ≡ true
-    live_stage polls kept c h = (and_true (is_live c.state) (same_sockets c.sockets p) (stage_serves m pages here p lawful a room fine left texts patience answering polls kept c h)).0
+    live_stage polls kept c h = (and_true (is_live c.state) (same_sockets c.sockets p) (stage_serves m pages here p lawful a room fine left
+        texts patience answering polls kept c h)).0
 
     one_more : (z : Exchange) → IsWithoutReset z → All IsWithoutReset incarnation → All IsWithoutReset (z ∷ incarnation)
     one_more z h all = All-cons IsWithoutReset z incarnation h all
 
     more_has : (z : Exchange) (kept : List Exchange) → has_of a.iss incarnation ≡ has_of a.iss kept → has_of a.iss (z ∷ incarnation) ≡ has_of a.iss (z ∷ kept)
-    more_has z kept e = has_on a.iss z incarnation ∙ ap (λ got. option_map_or (λ s. Rattle.node_laws.specs.Receivers.takes_next a.iss got s) z.output got) e ∙ sym (has_on a.iss z kept)
+    more_has z kept e = has_on a.iss z incarnation ∙ ap (λ got. option_map_or (λ s. Rattle.node_laws.specs.Receivers.takes_next a.iss got s)
+        z.output got) e ∙ sym (has_on a.iss z kept)
 
     module _ (kept : List Exchange) (is_kept : fresh a incarnation ≡ kept) where
       -- the slot is called
-      at_call : (v : Living n incarnation kept (turn ∷ rest)) → event ≡ Periodic v.i → Acted m serves_port n p v.i v.c event r None (asked m (snapshot n event v.i) (on_tick m v.c n.numbers)) → InTime x kept → Representing r.node (x ∷ incarnation) rest
+      at_call : (v : Living n incarnation kept (turn ∷ rest)) → event ≡ Periodic v.i → Acted m serves_port n p v.i v.c event r None
+          (asked m (snapshot n event v.i) (on_tick m v.c n.numbers)) → InTime x kept → Representing r.node (x ∷ incarnation) rest
       at_call v e g q =
           let at = snapshot n event v.i in
           let o : Outcome = asked m at (on_tick m v.c n.numbers) in
@@ -275,25 +323,35 @@ module _ (m : AppSpec) (pages : Pages) (here : AppState → Bool) (serves_port :
             | tries_left more ↦ keeps_in_time m pages here p lawful a room fine left texts patience answering v.polls at n.numbers kept v.c more some v.stage
           ] in
           let calls : calls_of v.i (turn ∷ rest) ≡ calls_of v.i rest + 1 = calls_one v.i turn rest e in
-          let may : (v.c.state ≡ SynRcvd → ⊥) → (text_received kept ≡ a.request → ⊥) → v.polls < patience = λ s z. elim v.can_wait [ inl w ↦ absurd (z w) | inr w ↦ omega (arith, w, calls) ] in
-          let h = called m pages here p lawful a room fine left texts patience answering v.polls v.few at n.numbers kept v.c may (good.fit.conns v.i v.c v.there).snapshots
-          (snapshots v.i v.c (on_tick m v.c n.numbers) v.there (on_tick_fits m lawful.steady v.c n.numbers (good.fit.conns v.i v.c v.there) good.fit.numbers)) keeps v.stage in
+          let may : (v.c.state ≡ SynRcvd → ⊥) → (text_received kept ≡ a.request → ⊥) → v.polls < patience = λ s z. elim v.can_wait [
+            | inl w ↦ absurd (z w)
+            | inr w ↦ omega (arith, w, calls)
+          ] in
+          let h = called m pages here p lawful a room fine left texts patience answering v.polls v.few at n.numbers kept v.c may
+          (good.fit.conns v.i v.c v.there).snapshots
+          (snapshots v.i v.c (on_tick m v.c n.numbers) v.there (on_tick_fits m lawful.steady v.c n.numbers (good.fit.conns v.i v.c v.there)
+          good.fit.numbers)) keeps v.stage in
           let clean : is_live o.connection.state ≡ true → All IsWithoutReset (sent ∷ incarnation) =
           λ l. one_more sent record {
             received = λ s z. absurd (cc);
             output = λ s z. both_ways (has_rst s.flags) (λ f. absurd (let w = tick_reset_ends m at v.c n.numbers s z f in cc)) (λ f. f);
           } v.clean in
-          let confirmed : Confirmed (sent ∷ incarnation) o.connection = confirmed_on false sent incarnation v.c o.connection (asked_moves m false v.c at (on_tick m v.c n.numbers) (tick_moves m v.c n.numbers)) (λ e. absurd (cc)) v.confirmed in
+          let confirmed : Confirmed (sent ∷ incarnation) o.connection = confirmed_on false sent incarnation v.c o.connection
+          (asked_moves m false v.c at (on_tick m v.c n.numbers) (tick_moves m v.c n.numbers)) (λ e. absurd (cc)) v.confirmed in
           let now_kept : fresh a (sent ∷ incarnation) ≡ sent ∷ kept = ap (λ k. with_fresh a sent k) is_kept in
           subst After (sym g.exchanged) (elim h.next [
-            | ends_so reported first live some ↦ over (in_all pages a sent incarnation kept v.same reported first (acked_before m pages a None incarnation kept o reported first some confirmed) (clean live))
+            | ends_so reported first live some ↦ over (in_all pages a sent incarnation kept v.same reported first
+                (acked_before m pages a None incarnation kept o reported first some confirmed) (clean live))
             | goes_on_so stage ↦ incarnations (sent ∷ kept) now_kept record {
               i = v.i;
               c = o.connection;
               there = stepped v.i v.c o.connection v.there g.table;
               polls = h.now;
               few = h.most;
-              can_wait = elim v.can_wait [ inl w ↦ inl (append_nothing (text_received kept) ∙ w) | inr w ↦ inr (let l = h.least in omega (arith, w, calls, l)) ];
+              can_wait = elim v.can_wait [
+                | inl w ↦ inl (append_nothing (text_received kept) ∙ w)
+                | inr w ↦ inr (let l = h.least in omega (arith, w, calls, l))
+              ];
               stage = stage;
               same = more_has sent kept v.same;
               clean = clean (live_stage h.now (sent ∷ kept) o.connection stage);
@@ -302,15 +360,40 @@ module _ (m : AppSpec) (pages : Pages) (here : AppState → Bool) (serves_port :
           ])
 
       -- the next segment of the peer comes
-      at_segment : (v : Living n incarnation kept (turn ∷ rest)) (s : PlainSegment) → Acted m serves_port n p v.i v.c event r (Some s) (asked m (snapshot n event v.i) (on_segment m v.c n.numbers s)) → SendsNext a x kept → Representing r.node (x ∷ incarnation) rest
+      at_segment : (v : Living n incarnation kept (turn ∷ rest)) (s : PlainSegment) → Acted m serves_port n p v.i v.c event r (Some s)
+          (asked m (snapshot n event v.i) (on_segment m v.c n.numbers s)) → SendsNext a x kept → Representing r.node (x ∷ incarnation) rest
       at_segment v s g h =
           let at = snapshot n event v.i in
           let o : Outcome = asked m at (on_segment m v.c n.numbers s) in
           let sent : Exchange = met (Some s) (segment_of m o.connection o.step) in
           let received : Some s ≡ Some h.segment = sym (ap (λ z. z.received) g.exchanged) ∙ h.received in
           let same : h.segment ≡ s = (let z : s ≡ h.segment = cc in sym z) in
-          let next : SendsNext a (met (Some s) None) kept = record { segment = h.segment; received = received; syn = h.syn; fin = h.fin; rst = h.rst; acks = h.acks; seq = h.seq; part = h.part; ack = h.ack; window = h.window; some = h.some } in
-          let sent_next : SendsNext a sent kept = record { segment = h.segment; received = received; syn = h.syn; fin = h.fin; rst = h.rst; acks = h.acks; seq = h.seq; part = h.part; ack = h.ack; window = h.window; some = h.some } in
+          let next : SendsNext a (met (Some s) None) kept = record {
+            segment = h.segment;
+            received = received;
+            syn = h.syn;
+            fin = h.fin;
+            rst = h.rst;
+            acks = h.acks;
+            seq = h.seq;
+            part = h.part;
+            ack = h.ack;
+            window = h.window;
+            some = h.some;
+          } in
+          let sent_next : SendsNext a sent kept = record {
+            segment = h.segment;
+            received = received;
+            syn = h.syn;
+            fin = h.fin;
+            rst = h.rst;
+            acks = h.acks;
+            seq = h.seq;
+            part = h.part;
+            ack = h.ack;
+            window = h.window;
+            some = h.some;
+          } in
           let unreset : has_rst s.flags ≡ false = ap (λ t. has_rst t.flags) (sym same) ∙ h.rst in
           let prefix : IsPrefixOf (text_received kept ++ s.text) a.request = subst (λ t. IsPrefixOf (text_received kept ++ t.text) a.request) same h.part in
           let more : calls_of v.i rest ≤ calls_of v.i (turn ∷ rest) = calls_more v.i turn rest in
@@ -320,10 +403,13 @@ module _ (m : AppSpec) (pages : Pages) (here : AppState → Bool) (serves_port :
             output = λ t z. both_ways (has_rst t.flags) (λ f. absurd (let w = reset_ends m at v.c n.numbers s t z f in cc)) (λ f. f);
           } v.clean in
           let acked : Bool = not (has_rst s.flags) && is_acked v.c s in
-          let confirmed : Confirmed (sent ∷ incarnation) o.connection = confirmed_on acked sent incarnation v.c o.connection (asked_moves m acked v.c at (on_segment m v.c n.numbers s) (segment_moves m v.c n.numbers s)) (acks_by v.c s (segment_of m o.connection o.step)) v.confirmed in
+          let confirmed : Confirmed (sent ∷ incarnation) o.connection = confirmed_on acked sent incarnation v.c o.connection
+          (asked_moves m acked v.c at (on_segment m v.c n.numbers s) (segment_moves m v.c n.numbers s))
+          (acks_by v.c s (segment_of m o.connection o.step)) v.confirmed in
           let now_kept : fresh a (sent ∷ incarnation) ≡ sent ∷ kept = ap (λ k. with_fresh a sent k) is_kept ∙ keeps_fresh a sent kept sent_next in
           let k = answered m pages here p lawful a room fine left texts patience answering v.polls v.few at n.numbers s kept v.c next same
-          (snapshots v.i v.c (on_segment m v.c n.numbers s) v.there (on_segment_fits m lawful.steady v.c n.numbers s (good.fit.conns v.i v.c v.there) good.fit.numbers)) v.stage in
+          (snapshots v.i v.c (on_segment m v.c n.numbers s) v.there (on_segment_fits m lawful.steady v.c n.numbers s
+          (good.fit.conns v.i v.c v.there) good.fit.numbers)) v.stage in
           subst After (sym g.exchanged) (elim k [
             | goes_on_so stage ↦ incarnations (sent ∷ kept) now_kept record {
               i = v.i;
@@ -337,11 +423,14 @@ module _ (m : AppSpec) (pages : Pages) (here : AppState → Bool) (serves_port :
               clean = clean (live_stage v.polls (sent ∷ kept) o.connection stage);
               confirmed = confirmed;
             }
-            | ends_so reported first live some ↦ over (in_all pages a sent incarnation kept v.same reported first (acked_before m pages a (Some s) incarnation kept o reported first some confirmed) (clean live))
+            | ends_so reported first live some ↦ over (in_all pages a sent incarnation kept v.same reported first
+                (acked_before m pages a (Some s) incarnation kept o reported first some confirmed) (clean live))
           ])
 
       -- a stale one comes: the connection stays, and at most a bare ACK is sent
-      stays : (v : Living n incarnation kept (turn ∷ rest)) (s : PlainSegment) (output : Option PlainSegment) → has_rst s.flags ≡ false → ((t : PlainSegment) → output ≡ Some t → t ≡ bare_ack v.c) → is_stale a kept s ≡ true → slice_get r.node.connections v.i ≡ Some v.c → Representing r.node (met (Some s) output ∷ incarnation) rest
+      stays : (v : Living n incarnation kept (turn ∷ rest)) (s : PlainSegment) (output : Option PlainSegment) → has_rst s.flags ≡ false
+          → ((t : PlainSegment) → output ≡ Some t → t ≡ bare_ack v.c) → is_stale a kept s ≡ true → slice_get r.node.connections v.i
+          ≡ Some v.c → Representing r.node (met (Some s) output ∷ incarnation) rest
       stays v s output unreset bare stale there =
           let sent : Exchange = met (Some s) output in
           let more : calls_of v.i rest ≤ calls_of v.i (turn ∷ rest) = calls_more v.i turn rest in
@@ -361,27 +450,36 @@ module _ (m : AppSpec) (pages : Pages) (here : AppState → Bool) (serves_port :
             confirmed = still_confirmed sent incarnation v.c v.confirmed;
           }
         where
-          adds_none : (output : Option PlainSegment) → ((t : PlainSegment) → output ≡ Some t → t ≡ bare_ack v.c) → option_map_or (λ s. Rattle.node_laws.specs.Receivers.takes_next a.iss (has_of a.iss incarnation) s) output (has_of a.iss incarnation) ≡ has_of a.iss incarnation
+          adds_none : (output : Option PlainSegment) → ((t : PlainSegment) → output ≡ Some t → t ≡ bare_ack v.c)
+              → option_map_or (λ s. Rattle.node_laws.specs.Receivers.takes_next a.iss (has_of a.iss incarnation) s) output
+              (has_of a.iss incarnation) ≡ has_of a.iss incarnation
           adds_none None b = refl
           adds_none (Some t) b = nothing_more a.iss (has_of a.iss incarnation) t (ap (λ (u : PlainSegment). u.text) (b t refl))
 
-      at_stale : (v : Living n incarnation kept (turn ∷ rest)) (s : PlainSegment) → Acted m serves_port n p v.i v.c event r (Some s) (asked m (snapshot n event v.i) (on_segment m v.c n.numbers s)) → ReceivesStale a x kept → Representing r.node (x ∷ incarnation) rest
+      at_stale : (v : Living n incarnation kept (turn ∷ rest)) (s : PlainSegment) → Acted m serves_port n p v.i v.c event r (Some s)
+          (asked m (snapshot n event v.i) (on_segment m v.c n.numbers s)) → ReceivesStale a x kept → Representing r.node (x ∷ incarnation) rest
       at_stale v s g h =
           let at = snapshot n event v.i in
           let received : Some s ≡ Some h.segment = sym (ap (λ z. z.received) g.exchanged) ∙ h.received in
           let same : h.segment ≡ s = (let z : s ≡ h.segment = cc in sym z) in
           let unreset : has_rst s.flags ≡ false = subst (λ (t : PlainSegment). has_rst t.flags ≡ false) same h.rst in
           let stale : is_stale a kept s ≡ true = subst (λ (t : PlainSegment). is_stale a kept t ≡ true) same h.stale in
-          let window : occupies_sequence_space s ≡ false → a.mss ≤ s.window = subst (λ (t : PlainSegment). occupies_sequence_space t ≡ false → a.mss ≤ t.window) same h.window in
-          let P : Outcome → Type 0 = λ o. r.node.connections ≡ set n.connections v.i (asked m at o).connection → Representing r.node (met (Some s) (segment_of m (asked m at o).connection (asked m at o).step) ∷ incarnation) rest in
-          let done : P (on_segment m v.c n.numbers s) = elim (discards m pages here p lawful a room fine left texts patience answering v.polls n.numbers s kept v.c unreset stale window v.stage) [
-            | with_ack e ↦ subst P (sym e) (λ table. stays v s (Some (bare_ack v.c)) unreset (λ t z. (let w : bare_ack v.c ≡ t = only_some (λ (u : PlainSegment). bare_ack v.c ≡ u) (bare_ack v.c) t z refl in sym w)) stale (stepped v.i v.c v.c v.there table))
+          let window : occupies_sequence_space s ≡ false → a.mss ≤ s.window = subst (λ (t : PlainSegment). occupies_sequence_space t ≡ false
+          → a.mss ≤ t.window) same h.window in
+          let P : Outcome → Type 0 = λ o. r.node.connections ≡ set n.connections v.i (asked m at o).connection
+          → Representing r.node (met (Some s) (segment_of m (asked m at o).connection (asked m at o).step) ∷ incarnation) rest in
+          let done : P (on_segment m v.c n.numbers s) = elim (discards m pages here p lawful a room fine left texts patience answering
+          v.polls n.numbers s kept v.c unreset stale window v.stage) [
+            | with_ack e ↦ subst P (sym e) (λ table. stays v s (Some (bare_ack v.c)) unreset
+                (λ t z. (let w : bare_ack v.c ≡ t = only_some (λ (u : PlainSegment). bare_ack v.c ≡ u) (bare_ack v.c) t z refl in sym w))
+                stale (stepped v.i v.c v.c v.there table))
             | silently e ↦ subst P (sym e) (λ table. stays v s None unreset (λ t z. absurd (cc)) stale (stepped v.i v.c v.c v.there table))
           ] in
           subst After (sym g.exchanged) (done g.table)
 
       -- the event is another's
-      at_other : (v : Living n incarnation kept (turn ∷ rest)) → slice_get r.node.connections v.i ≡ Some v.c → x ≡ quiet → Representing r.node (x ∷ incarnation) rest
+      at_other : (v : Living n incarnation kept (turn ∷ rest)) → slice_get r.node.connections v.i ≡ Some v.c → x ≡ quiet
+          → Representing r.node (x ∷ incarnation) rest
       at_other v there e =
           let more : calls_of v.i rest ≤ calls_of v.i (turn ∷ rest) = calls_more v.i turn rest in
           subst After (sym e) (incarnations (quiet ∷ kept) (ap (λ k. with_fresh a quiet k) is_kept) record {
@@ -399,7 +497,8 @@ module _ (m : AppSpec) (pages : Pages) (here : AppState → Bool) (serves_port :
 
       at_living : (v : Living n incarnation kept (turn ∷ rest)) → Goes a x kept → Representing r.node (x ∷ incarnation) rest
       at_living v h =
-          elim (acts m serves_port n p v.i v.c good.single v.there (stage_serves m pages here p lawful a room fine left texts patience answering v.polls kept v.c v.stage) event) [
+          elim (acts m serves_port n p v.i v.c good.single v.there (stage_serves m pages here p lawful a room fine left texts patience
+          answering v.polls kept v.c v.stage) event) [
             | is_called e g ↦ elim h [
               | waits_for none q ↦ at_call v e g q
               | brings_next s ↦ absurd (let z : None ≡ Some s.segment = sym (ap (λ z. z.received) g.exchanged) ∙ s.received in cc)
@@ -411,7 +510,8 @@ module _ (m : AppSpec) (pages : Pages) (here : AppState → Bool) (serves_port :
               | brings_stale k ↦ at_stale v s g k
             ]
             | is_apart far e there ↦ at_other v there e
-            | makes_room e rested none ↦ absurd (let z = stage_stays m pages here p lawful a room fine left texts patience answering v.polls kept v.c v.stage in cc)
+            | makes_room e rested none ↦ absurd (let z = stage_stays m pages here p lawful a room fine left texts patience answering v.polls
+                kept v.c v.stage in cc)
           ]
 
     abbrev AfterOpening : Exchange → Type 0
@@ -419,7 +519,8 @@ module _ (m : AppSpec) (pages : Pages) (here : AppState → Bool) (serves_port :
 
     module _ (kept : List Exchange) (is_kept : fresh a incarnation ≡ kept) where
       -- the same while the SYN-ACK awaits its acknowledgement: the slot is called
-      open_call : (v : Opened n incarnation kept) → event ≡ Periodic v.i → Acted m serves_port n p v.i v.c event r None (asked m (snapshot n event v.i) (on_tick m v.c n.numbers)) → InTime x kept → Opening r.node (x ∷ incarnation)
+      open_call : (v : Opened n incarnation kept) → event ≡ Periodic v.i → Acted m serves_port n p v.i v.c event r None
+          (asked m (snapshot n event v.i) (on_tick m v.c n.numbers)) → InTime x kept → Opening r.node (x ∷ incarnation)
       open_call v e g q =
           let at = snapshot n event v.i in
           let o : Outcome = asked m at (on_tick m v.c n.numbers) in
@@ -431,18 +532,23 @@ module _ (m : AppSpec) (pages : Pages) (here : AppState → Bool) (serves_port :
           ] in
           let may : (v.c.state ≡ SynRcvd → ⊥) → (text_received kept ≡ a.request → ⊥) → 0 < patience = λ s z. absurd (s v.is_syn) in
           let out = syn_out m pages here p lawful a room fine left texts patience answering 0 kept v.c v.is_syn v.stage in
-          let still : o.connection.state ≡ SynRcvd = syn_stays m pages here p lawful a room fine left texts patience answering 0 at n.numbers kept v.c v.is_syn (keeps out.0) v.stage in
-          let h = called m pages here p lawful a room fine left texts patience answering 0 (omega arith) at n.numbers kept v.c may (good.fit.conns v.i v.c v.there).snapshots
-          (snapshots v.i v.c (on_tick m v.c n.numbers) v.there (on_tick_fits m lawful.steady v.c n.numbers (good.fit.conns v.i v.c v.there) good.fit.numbers)) keeps v.stage in
+          let still : o.connection.state ≡ SynRcvd = syn_stays m pages here p lawful a room fine left texts patience answering 0 at
+          n.numbers kept v.c v.is_syn (keeps out.0) v.stage in
+          let h = called m pages here p lawful a room fine left texts patience answering 0 (omega arith) at n.numbers kept v.c may
+          (good.fit.conns v.i v.c v.there).snapshots
+          (snapshots v.i v.c (on_tick m v.c n.numbers) v.there (on_tick_fits m lawful.steady v.c n.numbers (good.fit.conns v.i v.c v.there)
+          good.fit.numbers)) keeps v.stage in
           let clean : is_live o.connection.state ≡ true → All IsWithoutReset (sent ∷ incarnation) =
           λ l. one_more sent record {
             received = λ s z. absurd (cc);
             output = λ s z. both_ways (has_rst s.flags) (λ f. absurd (let w = tick_reset_ends m at v.c n.numbers s z f in cc)) (λ f. f);
           } v.clean in
-          let confirmed : Confirmed (sent ∷ incarnation) o.connection = confirmed_on false sent incarnation v.c o.connection (asked_moves m false v.c at (on_tick m v.c n.numbers) (tick_moves m v.c n.numbers)) (λ e. absurd (cc)) v.confirmed in
+          let confirmed : Confirmed (sent ∷ incarnation) o.connection = confirmed_on false sent incarnation v.c o.connection
+          (asked_moves m false v.c at (on_tick m v.c n.numbers) (tick_moves m v.c n.numbers)) (λ e. absurd (cc)) v.confirmed in
           let now_kept : fresh a (sent ∷ incarnation) ≡ sent ∷ kept = ap (λ k. with_fresh a sent k) is_kept in
           subst AfterOpening (sym g.exchanged) (elim h.next [
-            | ends_so reported first live some ↦ arrived (in_all pages a sent incarnation kept v.same reported first (acked_before m pages a None incarnation kept o reported first some confirmed) (clean live))
+            | ends_so reported first live some ↦ arrived (in_all pages a sent incarnation kept v.same reported first
+                (acked_before m pages a None incarnation kept o reported first some confirmed) (clean live))
             | goes_on_so stage ↦ opened (sent ∷ kept) now_kept record {
               i = v.i;
               c = o.connection;
@@ -456,7 +562,9 @@ module _ (m : AppSpec) (pages : Pages) (here : AppState → Bool) (serves_port :
           ])
 
       -- a stale one comes
-      open_still : (v : Opened n incarnation kept) (s : PlainSegment) (output : Option PlainSegment) → has_rst s.flags ≡ false → ((t : PlainSegment) → output ≡ Some t → t ≡ bare_ack v.c) → is_stale a kept s ≡ true → slice_get r.node.connections v.i ≡ Some v.c → Opening r.node (met (Some s) output ∷ incarnation)
+      open_still : (v : Opened n incarnation kept) (s : PlainSegment) (output : Option PlainSegment) → has_rst s.flags ≡ false
+          → ((t : PlainSegment) → output ≡ Some t → t ≡ bare_ack v.c) → is_stale a kept s ≡ true → slice_get r.node.connections v.i
+          ≡ Some v.c → Opening r.node (met (Some s) output ∷ incarnation)
       open_still v s output unreset bare stale there =
           let sent : Exchange = met (Some s) output in
           opened kept (ap (λ k. with_fresh a sent k) is_kept ∙ ap (λ b. if b then kept else sent ∷ kept) stale) record {
@@ -473,21 +581,29 @@ module _ (m : AppSpec) (pages : Pages) (here : AppState → Bool) (serves_port :
             confirmed = still_confirmed sent incarnation v.c v.confirmed;
           }
         where
-          adds_none : (output : Option PlainSegment) → ((t : PlainSegment) → output ≡ Some t → t ≡ bare_ack v.c) → option_map_or (λ s. Rattle.node_laws.specs.Receivers.takes_next a.iss (has_of a.iss incarnation) s) output (has_of a.iss incarnation) ≡ has_of a.iss incarnation
+          adds_none : (output : Option PlainSegment) → ((t : PlainSegment) → output ≡ Some t → t ≡ bare_ack v.c)
+              → option_map_or (λ s. Rattle.node_laws.specs.Receivers.takes_next a.iss (has_of a.iss incarnation) s) output
+              (has_of a.iss incarnation) ≡ has_of a.iss incarnation
           adds_none None b = refl
           adds_none (Some t) b = nothing_more a.iss (has_of a.iss incarnation) t (ap (λ (u : PlainSegment). u.text) (b t refl))
 
-      open_stale : (v : Opened n incarnation kept) (s : PlainSegment) → Acted m serves_port n p v.i v.c event r (Some s) (asked m (snapshot n event v.i) (on_segment m v.c n.numbers s)) → ReceivesStale a x kept → Opening r.node (x ∷ incarnation)
+      open_stale : (v : Opened n incarnation kept) (s : PlainSegment) → Acted m serves_port n p v.i v.c event r (Some s)
+          (asked m (snapshot n event v.i) (on_segment m v.c n.numbers s)) → ReceivesStale a x kept → Opening r.node (x ∷ incarnation)
       open_stale v s g h =
           let at = snapshot n event v.i in
           let received : Some s ≡ Some h.segment = sym (ap (λ z. z.received) g.exchanged) ∙ h.received in
           let same : h.segment ≡ s = (let z : s ≡ h.segment = cc in sym z) in
           let unreset : has_rst s.flags ≡ false = subst (λ (t : PlainSegment). has_rst t.flags ≡ false) same h.rst in
           let stale : is_stale a kept s ≡ true = subst (λ (t : PlainSegment). is_stale a kept t ≡ true) same h.stale in
-          let window : occupies_sequence_space s ≡ false → a.mss ≤ s.window = subst (λ (t : PlainSegment). occupies_sequence_space t ≡ false → a.mss ≤ t.window) same h.window in
-          let P : Outcome → Type 0 = λ o. r.node.connections ≡ set n.connections v.i (asked m at o).connection → Opening r.node (met (Some s) (segment_of m (asked m at o).connection (asked m at o).step) ∷ incarnation) in
-          let done : P (on_segment m v.c n.numbers s) = elim (discards m pages here p lawful a room fine left texts patience answering 0 n.numbers s kept v.c unreset stale window v.stage) [
-            | with_ack e ↦ subst P (sym e) (λ table. open_still v s (Some (bare_ack v.c)) unreset (λ t z. (let w : bare_ack v.c ≡ t = only_some (λ (u : PlainSegment). bare_ack v.c ≡ u) (bare_ack v.c) t z refl in sym w)) stale (stepped v.i v.c v.c v.there table))
+          let window : occupies_sequence_space s ≡ false → a.mss ≤ s.window = subst (λ (t : PlainSegment). occupies_sequence_space t ≡ false
+          → a.mss ≤ t.window) same h.window in
+          let P : Outcome → Type 0 = λ o. r.node.connections ≡ set n.connections v.i (asked m at o).connection
+          → Opening r.node (met (Some s) (segment_of m (asked m at o).connection (asked m at o).step) ∷ incarnation) in
+          let done : P (on_segment m v.c n.numbers s) = elim (discards m pages here p lawful a room fine left texts patience answering 0
+          n.numbers s kept v.c unreset stale window v.stage) [
+            | with_ack e ↦ subst P (sym e) (λ table. open_still v s (Some (bare_ack v.c)) unreset
+                (λ t z. (let w : bare_ack v.c ≡ t = only_some (λ (u : PlainSegment). bare_ack v.c ≡ u) (bare_ack v.c) t z refl in sym w))
+                stale (stepped v.i v.c v.c v.there table))
             | silently e ↦ subst P (sym e) (λ table. open_still v s None unreset (λ t z. absurd (cc)) stale (stepped v.i v.c v.c v.there table))
           ] in
           subst AfterOpening (sym g.exchanged) (done g.table)
@@ -508,7 +624,8 @@ module _ (m : AppSpec) (pages : Pages) (here : AppState → Bool) (serves_port :
 
       open_on_kept : (v : Opened n incarnation kept) → Goes a x kept → (SendsNext a x kept → ⊥) → Opening r.node (x ∷ incarnation)
       open_on_kept v h far =
-          elim (acts m serves_port n p v.i v.c good.single v.there (stage_serves m pages here p lawful a room fine left texts patience answering 0 kept v.c v.stage) event) [
+          elim (acts m serves_port n p v.i v.c good.single v.there (stage_serves m pages here p lawful a room fine left texts patience
+          answering 0 kept v.c v.stage) event) [
             | is_called e g ↦ elim h [
               | waits_for none q ↦ open_call v e g q
               | brings_next s ↦ absurd (far s)
@@ -528,13 +645,15 @@ module _ (m : AppSpec) (pages : Pages) (here : AppState → Bool) (serves_port :
     not_next [] w l s = absurd (cc)
     not_next (z ∷ zs) w l s =
         let ends : in_handshake (with_fresh a x (z ∷ zs)) ≡ false =
-        ap (λ k. in_handshake k) (keeps_fresh a x (z ∷ zs) s) ∙ ap (λ (k : Option PlainSegment). if is_some k then false else in_handshake (z ∷ zs)) s.received in
+        ap (λ k. in_handshake k) (keeps_fresh a x (z ∷ zs) s) ∙ ap (λ (k : Option PlainSegment). if is_some k then false else in_handshake
+        (z ∷ zs)) s.received in
         absurd (let both : false ≡ true = sym ends ∙ l in cc)
 
     opening_on : Goes a x (fresh a incarnation) → in_handshake (fresh a (x ∷ incarnation)) ≡ true → Opening n incarnation → Opening r.node (x ∷ incarnation)
     opening_on h limit s = elim s [
       | opened kept e v ↦ open_on_kept kept e v (subst (λ k. Goes a x k) e h)
-          (not_next kept (syn_out m pages here p lawful a room fine left texts patience answering 0 kept v.c v.is_syn v.stage).1 (ap (λ k. in_handshake (with_fresh a x k)) (sym e) ∙ limit))
+          (not_next kept (syn_out m pages here p lawful a room fine left texts patience answering 0 kept v.c v.is_syn v.stage).1
+          (ap (λ k. in_handshake (with_fresh a x k)) (sym e) ∙ limit))
       | arrived reported ↦ arrived (stays_sent pages a x incarnation reported)
     ]
 
@@ -556,7 +675,8 @@ module _ (m : AppSpec) (pages : Pages) (here : AppState → Bool) (serves_port :
       ap (λ k. record (accepted iss p s) { irs = k }) e
       ∙ ap (λ k. record (accepted iss p s) { irs = a.irs; initial_mss = k; mss = k }) f
 
-  at_opening : (iss : ℕ) (s : PlainSegment) → is_plain_syn s ≡ true → s.text ≡ [] → AtSyn m pages here p lawful a room fine left texts patience answering (met (Some s) (Some (syn_ack (accepted iss p s))) ∷ [])
+  at_opening : (iss : ℕ) (s : PlainSegment) → is_plain_syn s ≡ true → s.text ≡ [] → AtSyn m pages here p lawful a room fine left texts
+      patience answering (met (Some s) (Some (syn_ack (accepted iss p s))) ∷ [])
   at_opening iss s plain none = record {
     received = none;
     none = (let flags : s.flags ≡ SYN = eqb-eq s.flags SYN plain in
@@ -576,7 +696,8 @@ module _ (m : AppSpec) (pages : Pages) (here : AppState → Bool) (serves_port :
     first_exchange = exchange p event (step m serves_port n event).sent
 
     -- the connection is in its slot
-    born_there : (iss : ℕ) (s : PlainSegment) → is_plain_syn s ≡ true → first_exchange ≡ met (Some s) (Some (syn_ack (accepted iss p s))) → serving p s_node.connections ≡ accepted iss p s → SendsSyn a first_exchange → Opening s_node (first_exchange ∷ [])
+    born_there : (iss : ℕ) (s : PlainSegment) → is_plain_syn s ≡ true → first_exchange ≡ met (Some s) (Some (syn_ack (accepted iss p s)))
+        → serving p s_node.connections ≡ accepted iss p s → SendsSyn a first_exchange → Opening s_node (first_exchange ∷ [])
     born_there iss s plain e f o =
         let received : Some o.syn ≡ Some s = sym o.received ∙ ap (λ z. z.received) e in
         let syn : o.syn ≡ s = cc in
@@ -591,7 +712,8 @@ module _ (m : AppSpec) (pages : Pages) (here : AppState → Bool) (serves_port :
             c = serving p s_node.connections;
             there = there;
             is_syn = ap (λ (z : Connection). z.state) f;
-            stage = at_syn iss 0 (accepted iss p s).part k as_it_is (at_opening iss s plain (ap (λ t. t.text) (sym syn) ∙ o.text)) (timed_syn s (syn_ack (accepted iss p s)) refl);
+            stage = at_syn iss 0 (accepted iss p s).part k as_it_is (at_opening iss s plain (ap (λ t. t.text) (sym syn) ∙ o.text))
+                (timed_syn s (syn_ack (accepted iss p s)) refl);
             same = refl;
             clean = All-cons IsWithoutReset first [] record {
               received = λ t z. only_some (λ (u : PlainSegment). has_rst u.flags ≡ false) s t z (plain_unreset s plain);
@@ -599,7 +721,8 @@ module _ (m : AppSpec) (pages : Pages) (here : AppState → Bool) (serves_port :
             } (All-nil IsWithoutReset);
             confirmed = inl (ap (λ (z : Connection). z.acked) f);
           })
-          | free none ↦ absurd (let z : closed ≡ accepted iss p s = sym (Rattle.uip_node.proofs.Connections.serving_free s_node.connections p none) ∙ f in let y : false ≡ true = ap (λ c. is_live c.state) z in cc)
+          | free none ↦ absurd (let z : closed ≡ accepted iss p s = sym (Rattle.uip_node.proofs.Connections.serving_free s_node.connections
+              p none) ∙ f in let y : false ≡ true = ap (λ c. is_live c.state) z in cc)
         ]
 
     opens : SendsSyn a first_exchange → Opening s_node (first_exchange ∷ [])
@@ -611,9 +734,12 @@ module _ (m : AppSpec) (pages : Pages) (here : AppState → Bool) (serves_port :
           | evicted e f ↦ silent (ap (λ z. z.output) e)
           | unanswered s l e f ↦ silent (ap (λ z. z.output) e)
           | refused s q l e f ↦ absurd (let z : Some (reset_for_no_connection s) ≡ Some o.answer = sym (ap (λ y. y.output) e) ∙ o.output in
-              let y : has_syn o.answer.flags ≡ false = only_some (λ t. has_syn t.flags ≡ false) (reset_for_no_connection s) o.answer z refl in let w = o.answers in cc)
+              let y : has_syn o.answer.flags ≡ false = only_some (λ t. has_syn t.flags ≡ false) (reset_for_no_connection s) o.answer
+              z refl in let w = o.answers in cc)
           | born iss s plain port fit e f ↦ born_there iss s plain e f o
-          | delivers_text s numbers at alive fit words snapshots h ↦ absurd (let y : has_syn o.answer.flags ≡ false = answer_no_syn m at (serving p n.connections) numbers s o.answer (sym (ap (λ z. z.output) h.0) ∙ o.output) in let w = o.answers in cc)
+          | delivers_text s numbers at alive fit words snapshots h ↦
+              absurd (let y : has_syn o.answer.flags ≡ false = answer_no_syn m at (serving p n.connections) numbers s o.answer
+              (sym (ap (λ z. z.output) h.0) ∙ o.output) in let w = o.answers in cc)
           | ticks numbers at alive fit words snapshots h ↦ absurd (let z : None ≡ Some o.syn = sym (ap (λ y. y.received) h.0) ∙ o.received in cc)
         ]
 
@@ -622,9 +748,21 @@ module _ (m : AppSpec) (pages : Pages) (here : AppState → Bool) (serves_port :
   abbrev Reaches : List Exchange → Type 0
   Reaches incarnation = texts < bare_acks (fresh a incarnation) → Arrives pages a incarnation
 
-  whole_represents : (n : AbstractNode) (so_far : List Exchange) (some others : List TraceEntry) → text_received (fresh a so_far) ≡ a.request → Representing n so_far some → Representing n so_far others
+  whole_represents : (n : AbstractNode) (so_far : List Exchange) (some others : List TraceEntry) → text_received (fresh a so_far)
+      ≡ a.request → Representing n so_far some → Representing n so_far others
   whole_represents n so_far some others w s = elim s [
-    | incarnations kept e v ↦ incarnations kept e record { i = v.i; c = v.c; there = v.there; polls = v.polls; few = v.few; can_wait = inl (ap (λ k. text_received k) (sym e) ∙ w); stage = v.stage; same = v.same; clean = v.clean; confirmed = v.confirmed }
+    | incarnations kept e v ↦ incarnations kept e record {
+      i = v.i;
+      c = v.c;
+      there = v.there;
+      polls = v.polls;
+      few = v.few;
+      can_wait = inl (ap (λ k. text_received k) (sym e) ∙ w);
+      stage = v.stage;
+      same = v.same;
+      clean = v.clean;
+      confirmed = v.confirmed;
+    }
     | over reported ↦ over reported
   ]
 
@@ -633,43 +771,67 @@ module _ (m : AppSpec) (pages : Pages) (here : AppState → Bool) (serves_port :
     OfLine es = All (IsStep own) es
 
     -- the numbers of the application are changed
-    represents_still : (change : List ℕ → List ℕ) (n : AbstractNode) (so_far : List Exchange) (rest : List TraceEntry) → Representing n so_far rest → Representing (changed change n) so_far rest
+    represents_still : (change : List ℕ → List ℕ) (n : AbstractNode) (so_far : List Exchange) (rest : List TraceEntry)
+        → Representing n so_far rest → Representing (changed change n) so_far rest
     represents_still change n so_far rest s = elim s [
-      | incarnations kept e v ↦ incarnations kept e record { i = v.i; c = v.c; there = v.there; polls = v.polls; few = v.few; can_wait = v.can_wait; stage = v.stage; same = v.same; clean = v.clean; confirmed = v.confirmed }
+      | incarnations kept e v ↦ incarnations kept e record {
+        i = v.i;
+        c = v.c;
+        there = v.there;
+        polls = v.polls;
+        few = v.few;
+        can_wait = v.can_wait;
+        stage = v.stage;
+        same = v.same;
+        clean = v.clean;
+        confirmed = v.confirmed;
+      }
       | over reported ↦ over reported
     ]
 
-    still_whole : (x y : Exchange) (older : List Exchange) → text_received (fresh a (y ∷ older)) ≡ a.request → Goes a x (fresh a (y ∷ older)) → text_received (fresh a (x ∷ y ∷ older)) ≡ a.request
+    still_whole : (x y : Exchange) (older : List Exchange) → text_received (fresh a (y ∷ older)) ≡ a.request
+        → Goes a x (fresh a (y ∷ older)) → text_received (fresh a (x ∷ y ∷ older)) ≡ a.request
     still_whole x y older w k =
         let before : List Exchange = fresh a (y ∷ older) in
         elim k [
-          | waits_for none q ↦ ap (λ t. text_received t) (keeps_quiet a x before none) ∙ ap (λ z. text_received before ++ option_map_or (λ s. s.text) z []) none ∙ append_nothing (text_received before) ∙ w
-          | brings_next s ↦ ap (λ t. text_received t) (keeps_fresh a x before s) ∙ ap (λ z. text_received before ++ option_map_or (λ s. s.text) z []) s.received ∙ nothing_after (text_received before) s.segment.text a.request w s.part
+          | waits_for none q ↦ ap (λ t. text_received t) (keeps_quiet a x before none)
+              ∙ ap (λ z. text_received before ++ option_map_or (λ s. s.text) z []) none ∙ append_nothing (text_received before) ∙ w
+          | brings_next s ↦ ap (λ t. text_received t) (keeps_fresh a x before s)
+              ∙ ap (λ z. text_received before ++ option_map_or (λ s. s.text) z []) s.received ∙ nothing_after (text_received before)
+              s.segment.text a.request w s.part
           | brings_stale s ↦ ap (λ t. text_received t) (drops_stale a x before s) ∙ w
         ]
 
     -- after the whole request
-    run_later : (es : List LineStep) (n : AbstractNode) (y : Exchange) (older : List Exchange) → OfLine es → Good n → GoesOn a (exchanges_onto p (trace_over m serves_port es n) (y ∷ older)) → text_received (fresh a (y ∷ older)) ≡ a.request →
+    run_later : (es : List LineStep) (n : AbstractNode) (y : Exchange) (older : List Exchange) → OfLine es → Good n
+        → GoesOn a (exchanges_onto p (trace_over m serves_port es n) (y ∷ older)) → text_received (fresh a (y ∷ older)) ≡ a.request →
         Representing n (y ∷ older) [] → Reaches (exchanges_onto p (trace_over m serves_port es n) (y ∷ older))
     run_later [] n y older l g h w s few = elim s [
-      | incarnations kept e v ↦ absurd (runs_out m pages here p lawful a room fine left texts patience answering v.polls kept v.c (ap (λ k. text_received k) (sym e) ∙ w) (subst (λ k. texts < bare_acks k) e few) v.stage)
+      | incarnations kept e v ↦ absurd (runs_out m pages here p lawful a room fine left texts patience answering v.polls kept v.c
+          (ap (λ k. text_received k) (sym e) ∙ w) (subst (λ k. texts < bare_acks k) e few) v.stage)
       | over reported ↦ reported
     ]
-    run_later (Changes change ∷ es) n y older l g h w s few = run_later es (changed change n) y older (All-tail (IsStep own) (Changes change) es l) (changed_good own change es n l g) h w (represents_still change n (y ∷ older) [] s) few
+    run_later (Changes change ∷ es) n y older l g h w s few = run_later es (changed change n) y older
+        (All-tail (IsStep own) (Changes change) es l) (changed_good own change es n l g) h w (represents_still change n (y ∷ older) [] s) few
     run_later (OfNode e ∷ es) n y older l g h w s few =
         let x : Exchange = exchange p e (step m serves_port n e).sent in
         let here = goes_before a p (trace_over m serves_port es (step m serves_port n e).node) x (y ∷ older) h in
         let turn : TraceEntry = record { event = e; sent = (step m serves_port n e).sent } in
-        run_later es (step m serves_port n e).node x (y ∷ older) (All-tail (IsStep own) (OfNode e) es l) (good_on m lawful.steady serves_port n e (event_first own e es l) g) h (still_whole x y older w here.0)
+        run_later es (step m serves_port n e).node x (y ∷ older) (All-tail (IsStep own) (OfNode e) es l)
+        (good_on m lawful.steady serves_port n e (event_first own e es l) g) h (still_whole x y older w here.0)
         (represents_on n e g y older [] here.0 (whole_represents n (y ∷ older) [] (turn ∷ []) w s)) few
 
     -- while it asks
-    run_asking : (asking later : List TraceEntry) (es : List LineStep) (n : AbstractNode) (y : Exchange) (older : List Exchange) → trace_over m serves_port es n ≡ asking ++ later → OfLine es → Good n → GoesOn a (exchanges_onto p (asking ++ later) (y ∷ older)) →
-        text_received (fresh a (exchanges_onto p asking (y ∷ older))) ≡ a.request → Representing n (y ∷ older) asking → Reaches (exchanges_onto p (asking ++ later) (y ∷ older))
+    run_asking : (asking later : List TraceEntry) (es : List LineStep) (n : AbstractNode) (y : Exchange) (older : List Exchange)
+        → trace_over m serves_port es n ≡ asking ++ later → OfLine es → Good n → GoesOn a (exchanges_onto p (asking ++ later) (y ∷ older)) →
+        text_received (fresh a (exchanges_onto p asking (y ∷ older))) ≡ a.request → Representing n (y ∷ older) asking
+        → Reaches (exchanges_onto p (asking ++ later) (y ∷ older))
     run_asking [] later es n y older q l g h w s =
-        subst (λ ts. Reaches (exchanges_onto p ts (y ∷ older))) q (run_later es n y older l g (subst (λ ts. GoesOn a (exchanges_onto p ts (y ∷ older))) (sym q) h) w s)
+        subst (λ ts. Reaches (exchanges_onto p ts (y ∷ older))) q
+        (run_later es n y older l g (subst (λ ts. GoesOn a (exchanges_onto p ts (y ∷ older))) (sym q) h) w s)
     run_asking (t ∷ asking) later [] n y older q l g h w s = absurd (cc)
-    run_asking (t ∷ asking) later (Changes change ∷ es) n y older q l g h w s = run_asking (t ∷ asking) later es (changed change n) y older q (All-tail (IsStep own) (Changes change) es l) (changed_good own change es n l g) h w (represents_still change n (y ∷ older) (t ∷ asking) s)
+    run_asking (t ∷ asking) later (Changes change ∷ es) n y older q l g h w s = run_asking (t ∷ asking) later es (changed change n) y older
+        q (All-tail (IsStep own) (Changes change) es l) (changed_good own change es n l g) h w (represents_still change n (y ∷ older) (t ∷ asking) s)
     run_asking (t ∷ asking) later (OfNode e ∷ es) n y older q l g h w s =
         let turn : TraceEntry = record { event = e; sent = (step m serves_port n e).sent } in
         let head : turn ≡ t = cc in
@@ -679,14 +841,24 @@ module _ (m : AppSpec) (pages : Pages) (here : AppState → Bool) (serves_port :
         let goes = subst (λ z. GoesOn a (exchanges_onto p (asking ++ later) (z ∷ y ∷ older))) same h in
         let here = goes_before a p (asking ++ later) x (y ∷ older) goes in
         subst (λ z. Reaches (exchanges_onto p (asking ++ later) (z ∷ y ∷ older))) (sym same)
-        (run_asking asking later es (step m serves_port n e).node x (y ∷ older) tail (All-tail (IsStep own) (OfNode e) es l) (good_on m lawful.steady serves_port n e (event_first own e es l) g) goes
+        (run_asking asking later es (step m serves_port n e).node x (y ∷ older) tail (All-tail (IsStep own) (OfNode e) es l)
+        (good_on m lawful.steady serves_port n e (event_first own e es l) g) goes
         (subst (λ z. text_received (fresh a (exchanges_onto p asking (z ∷ y ∷ older))) ≡ a.request) same w)
         (represents_on n e g y older asking here.0 (subst (λ z. Representing n (y ∷ older) (z ∷ asking)) (sym head) s)))
 
     -- the numbers of the application are changed while it opens
     opening_still : (change : List ℕ → List ℕ) (n : AbstractNode) (so_far : List Exchange) → Opening n so_far → Opening (changed change n) so_far
     opening_still change n so_far s = elim s [
-      | opened kept e v ↦ opened kept e record { i = v.i; c = v.c; there = v.there; stage = v.stage; is_syn = v.is_syn; same = v.same; clean = v.clean; confirmed = v.confirmed }
+      | opened kept e v ↦ opened kept e record {
+        i = v.i;
+        c = v.c;
+        there = v.there;
+        stage = v.stage;
+        is_syn = v.is_syn;
+        same = v.same;
+        clean = v.clean;
+        confirmed = v.confirmed;
+      }
       | arrived reported ↦ arrived reported
     ]
 
@@ -703,18 +875,25 @@ module _ (m : AppSpec) (pages : Pages) (here : AppState → Bool) (serves_port :
             (λ f. absurd (let w : false ≡ true = ap (λ b. if b then false else in_handshake (z ∷ zs)) (sym f) ∙ k in cc))
             (λ f. ap (λ b. if b then false else in_handshake (z ∷ zs)) (sym f) ∙ k)))
 
-    limit_here : (turns : List TraceEntry) (y : Exchange) (older : List Exchange) → in_handshake (fresh a (exchanges_onto p turns (y ∷ older))) ≡ true → in_handshake (fresh a (y ∷ older)) ≡ true
+    limit_here : (turns : List TraceEntry) (y : Exchange) (older : List Exchange)
+        → in_handshake (fresh a (exchanges_onto p turns (y ∷ older))) ≡ true → in_handshake (fresh a (y ∷ older)) ≡ true
     limit_here [] y older h = h
     limit_here (t ∷ turns) y older h = limit_before (exchange p t.event t.sent) y older (limit_here turns (exchange p t.event t.sent) (y ∷ older) h)
 
     -- while the SYN-ACK awaits its acknowledgement
-    run_opening : (opening asking later : List TraceEntry) (es : List LineStep) (n : AbstractNode) (y : Exchange) (older : List Exchange) → trace_over m serves_port es n ≡ opening ++ (asking ++ later) → OfLine es → Good n → GoesOn a (exchanges_onto p (opening ++ (asking ++ later)) (y ∷ older)) →
-        in_handshake (fresh a (exchanges_onto p opening (y ∷ older))) ≡ true → text_received (fresh a (exchanges_onto p (opening ++ asking) (y ∷ older))) ≡ a.request → ((slot : ℕ) → calls_of slot asking ≤ patience) → Opening n (y ∷ older) →
+    run_opening : (opening asking later : List TraceEntry) (es : List LineStep) (n : AbstractNode) (y : Exchange) (older : List Exchange)
+        → trace_over m serves_port es n ≡ opening ++ (asking ++ later) → OfLine es → Good n
+        → GoesOn a (exchanges_onto p (opening ++ (asking ++ later)) (y ∷ older)) →
+        in_handshake (fresh a (exchanges_onto p opening (y ∷ older))) ≡ true
+        → text_received (fresh a (exchanges_onto p (opening ++ asking) (y ∷ older))) ≡ a.request
+        → ((slot : ℕ) → calls_of slot asking ≤ patience) → Opening n (y ∷ older) →
         Reaches (exchanges_onto p (opening ++ (asking ++ later)) (y ∷ older))
-    run_opening [] asking later es n y older q l g h limit w prompt s = run_asking asking later es n y older q l g h w (asking_from n (y ∷ older) asking prompt s)
+    run_opening [] asking later es n y older q l g h limit w prompt s = run_asking asking later es n y older q l g h w
+        (asking_from n (y ∷ older) asking prompt s)
     run_opening (t ∷ opening) asking later [] n y older q l g h limit w prompt s = absurd (cc)
     run_opening (t ∷ opening) asking later (Changes change ∷ es) n y older q l g h limit w prompt s =
-        run_opening (t ∷ opening) asking later es (changed change n) y older q (All-tail (IsStep own) (Changes change) es l) (changed_good own change es n l g) h limit w prompt (opening_still change n (y ∷ older) s)
+        run_opening (t ∷ opening) asking later es (changed change n) y older q (All-tail (IsStep own) (Changes change) es l)
+        (changed_good own change es n l g) h limit w prompt (opening_still change n (y ∷ older) s)
     run_opening (t ∷ opening) asking later (OfNode e ∷ es) n y older q l g h limit w prompt s =
         let turn : TraceEntry = record { event = e; sent = (step m serves_port n e).sent } in
         let head : turn ≡ t = cc in
@@ -725,7 +904,8 @@ module _ (m : AppSpec) (pages : Pages) (here : AppState → Bool) (serves_port :
         let here = goes_before a p (opening ++ (asking ++ later)) x (y ∷ older) goes in
         let limit_now = subst (λ z. in_handshake (fresh a (exchanges_onto p opening (z ∷ y ∷ older))) ≡ true) same limit in
         subst (λ z. Reaches (exchanges_onto p (opening ++ (asking ++ later)) (z ∷ y ∷ older))) (sym same)
-        (run_opening opening asking later es (step m serves_port n e).node x (y ∷ older) tail (All-tail (IsStep own) (OfNode e) es l) (good_on m lawful.steady serves_port n e (event_first own e es l) g) goes limit_now
+        (run_opening opening asking later es (step m serves_port n e).node x (y ∷ older) tail (All-tail (IsStep own) (OfNode e) es l)
+        (good_on m lawful.steady serves_port n e (event_first own e es l) g) goes limit_now
         (subst (λ z. text_received (fresh a (exchanges_onto p (opening ++ asking) (z ∷ y ∷ older))) ≡ a.request) same w) prompt
         (opening_on n e g y older [] here.0 (limit_here opening x (y ∷ older) limit_now) s))
 
@@ -733,17 +913,23 @@ module _ (m : AppSpec) (pages : Pages) (here : AppState → Bool) (serves_port :
     from_opening : (e : Event) (es : List LineStep) (n : AbstractNode) (opening asking later : List TraceEntry) → OfLine (OfNode e ∷ es) → Good n →
         trace_over m serves_port es (step m serves_port n e).node ≡ opening ++ (asking ++ later) →
         (let x : Exchange = exchange p e (step m serves_port n e).sent in
-        GoesOn a (exchanges_onto p (opening ++ (asking ++ later)) (x ∷ [])) → in_handshake (fresh a (exchanges_onto p opening (x ∷ []))) ≡ true → text_received (fresh a (exchanges_onto p (opening ++ asking) (x ∷ []))) ≡ a.request → ((slot : ℕ) → calls_of slot asking ≤ patience) →
+        GoesOn a (exchanges_onto p (opening ++ (asking ++ later)) (x ∷ [])) → in_handshake (fresh a (exchanges_onto p opening (x ∷ [])))
+        ≡ true → text_received (fresh a (exchanges_onto p (opening ++ asking) (x ∷ []))) ≡ a.request → ((slot : ℕ) → calls_of slot asking ≤ patience) →
         Reaches (exchanges_onto p (opening ++ (asking ++ later)) (x ∷ [])))
     from_opening e es n opening asking later l g tail h limit w prompt =
         let x : Exchange = exchange p e (step m serves_port n e).sent in
         let is : IsEvent e = event_first own e es l in
-        run_opening opening asking later es (step m serves_port n e).node x [] tail (All-tail (IsStep own) (OfNode e) es l) (good_on m lawful.steady serves_port n e is g) h limit w prompt
+        run_opening opening asking later es (step m serves_port n e).node x [] tail (All-tail (IsStep own) (OfNode e) es l)
+        (good_on m lawful.steady serves_port n e is g) h limit w prompt
         (opens n e is g (goes_before a p (opening ++ (asking ++ later)) x [] h))
 
     -- one that begins with its first entry
-    first_turn : (t : TraceEntry) (opening asking later incarnation : List TraceEntry) (e : Event) (es : List LineStep) (n : AbstractNode) → OfLine (OfNode e ∷ es) → Good n → trace_over m serves_port (OfNode e ∷ es) n ≡ incarnation → incarnation ≡ t ∷ (opening ++ (asking ++ later)) → GoesOn a (exchanges_with p incarnation) →
-        in_handshake (fresh a (exchanges_with p (t ∷ opening))) ≡ true → text_received (fresh a (exchanges_with p (t ∷ (opening ++ asking)))) ≡ a.request → ((slot : ℕ) → calls_of slot asking ≤ patience) → Reaches (exchanges_with p incarnation)
+    first_turn : (t : TraceEntry) (opening asking later incarnation : List TraceEntry) (e : Event) (es : List LineStep) (n : AbstractNode)
+        → OfLine (OfNode e ∷ es) → Good n → trace_over m serves_port (OfNode e ∷ es) n ≡ incarnation
+        → incarnation ≡ t ∷ (opening ++ (asking ++ later)) → GoesOn a (exchanges_with p incarnation) →
+        in_handshake (fresh a (exchanges_with p (t ∷ opening))) ≡ true
+        → text_received (fresh a (exchanges_with p (t ∷ (opening ++ asking)))) ≡ a.request → ((slot : ℕ) → calls_of slot asking ≤ patience)
+        → Reaches (exchanges_with p incarnation)
     first_turn t opening asking later incarnation e es n l g q j h limit w prompt =
         let turn : TraceEntry = record { event = e; sent = (step m serves_port n e).sent } in
         let both : turn ∷ trace_over m serves_port es (step m serves_port n e).node ≡ t ∷ (opening ++ (asking ++ later)) = q ∙ j in
@@ -751,33 +937,46 @@ module _ (m : AppSpec) (pages : Pages) (here : AppState → Bool) (serves_port :
         let tail : trace_over m serves_port es (step m serves_port n e).node ≡ opening ++ (asking ++ later) = cc in
         let x : Exchange = exchange p e (step m serves_port n e).sent in
         let same : exchange p t.event t.sent ≡ x = ap (λ z. exchange p z.event z.sent) (sym head) in
-        let goes : GoesOn a (exchanges_onto p (opening ++ (asking ++ later)) (x ∷ [])) = subst (λ z. GoesOn a (exchanges_onto p (opening ++ (asking ++ later)) (z ∷ []))) same (subst (λ ts. GoesOn a (exchanges_with p ts)) j h) in
+        let goes : GoesOn a (exchanges_onto p (opening ++ (asking ++ later)) (x ∷ [])) = subst
+        (λ z. GoesOn a (exchanges_onto p (opening ++ (asking ++ later)) (z ∷ []))) same (subst (λ ts. GoesOn a (exchanges_with p ts)) j h) in
         subst (λ ts. Reaches (exchanges_with p ts)) (sym j)
         (subst (λ z. Reaches (exchanges_onto p (opening ++ (asking ++ later)) (z ∷ []))) (sym same)
         (from_opening e es n opening asking later l g tail goes (subst (λ z. in_handshake (fresh a (exchanges_onto p opening (z ∷ []))) ≡ true) same limit)
         (subst (λ z. text_received (fresh a (exchanges_onto p (opening ++ asking) (z ∷ []))) ≡ a.request) same w) prompt))
 
     -- the turns from the opening on
-    from_start : (opening asking later incarnation : List TraceEntry) (es : List LineStep) (n : AbstractNode) → OfLine es → Good n → trace_over m serves_port es n ≡ incarnation → incarnation ≡ opening ++ (asking ++ later) → GoesOn a (exchanges_with p incarnation) →
-        in_handshake (fresh a (exchanges_with p opening)) ≡ true → text_received (fresh a (exchanges_with p (opening ++ asking))) ≡ a.request → ((slot : ℕ) → calls_of slot asking ≤ patience) → Reaches (exchanges_with p incarnation)
+    from_start : (opening asking later incarnation : List TraceEntry) (es : List LineStep) (n : AbstractNode) → OfLine es → Good n
+        → trace_over m serves_port es n ≡ incarnation → incarnation ≡ opening ++ (asking ++ later) → GoesOn a (exchanges_with p incarnation) →
+        in_handshake (fresh a (exchanges_with p opening)) ≡ true → text_received (fresh a (exchanges_with p (opening ++ asking)))
+        ≡ a.request → ((slot : ℕ) → calls_of slot asking ≤ patience) → Reaches (exchanges_with p incarnation)
     from_start opening asking later incarnation [] n l g q j h limit w prompt = absurd (subst (λ ts. GoesOn a (exchanges_with p ts)) (sym q) h)
-    from_start opening asking later incarnation (Changes change ∷ es) n l g q j h limit w prompt = from_start opening asking later incarnation es (changed change n) (All-tail (IsStep own) (Changes change) es l) (changed_good own change es n l g) q j h limit w prompt
-    from_start (t ∷ opening) asking later incarnation (OfNode e ∷ es) n l g q j h limit w prompt = first_turn t opening asking later incarnation e es n l g q j h limit w prompt
+    from_start opening asking later incarnation (Changes change ∷ es) n l g q j h limit w prompt = from_start opening asking later
+        incarnation es (changed change n) (All-tail (IsStep own) (Changes change) es l) (changed_good own change es n l g) q j h limit w prompt
+    from_start (t ∷ opening) asking later incarnation (OfNode e ∷ es) n l g q j h limit w prompt = first_turn t opening asking later
+        incarnation e es n l g q j h limit w prompt
     from_start [] (t ∷ asking) later incarnation (OfNode e ∷ es) n l g q j h limit w prompt =
-        first_turn t [] asking later incarnation e es n l g q j h refl w (λ slot. (let z = prompt slot in let y = calls_more slot t asking in omega (arith, z, y)))
+        first_turn t [] asking later incarnation e es n l g q j h refl w
+        (λ slot. (let z = prompt slot in let y = calls_more slot t asking in omega (arith, z, y)))
     from_start [] [] later incarnation (OfNode e ∷ es) n l g q j h limit w prompt =
         let rest : List TraceEntry = trace_over m serves_port es (step m serves_port n e).node in
         let x : Exchange = exchange p e (step m serves_port n e).sent in
         let goes : GoesOn a (exchanges_onto p rest (x ∷ [])) = subst (λ ts. GoesOn a (exchanges_with p ts)) (sym q) h in
-        let opening_text : text_received (x ∷ []) ≡ [] = (let o = goes_before a p rest x [] goes in ap (λ z. option_map_or (λ s. s.text) z []) o.received ∙ o.text) in
+        let opening_text : text_received (x ∷ []) ≡ [] = (let o = goes_before a p rest x [] goes in
+        ap (λ z. option_map_or (λ s. s.text) z []) o.received ∙ o.text) in
         subst (λ ts. Reaches (exchanges_with p ts)) q (from_opening e es n [] [] rest l g refl goes refl (opening_text ∙ w) (λ slot. omega arith))
 
     -- the turns before
-    pub from_before : (before opening asking later incarnation : List TraceEntry) (es : List LineStep) (n : AbstractNode) → OfLine es → Good n → trace_over m serves_port es n ≡ before ++ incarnation → incarnation ≡ opening ++ (asking ++ later) → GoesOn a (exchanges_with p incarnation) →
-        in_handshake (fresh a (exchanges_with p opening)) ≡ true → text_received (fresh a (exchanges_with p (opening ++ asking))) ≡ a.request → ((slot : ℕ) → calls_of slot asking ≤ patience) → Reaches (exchanges_with p incarnation)
+    pub from_before : (before opening asking later incarnation : List TraceEntry) (es : List LineStep) (n : AbstractNode) → OfLine es
+        → Good n → trace_over m serves_port es n ≡ before ++ incarnation → incarnation ≡ opening ++ (asking ++ later)
+        → GoesOn a (exchanges_with p incarnation) →
+        in_handshake (fresh a (exchanges_with p opening)) ≡ true → text_received (fresh a (exchanges_with p (opening ++ asking)))
+        ≡ a.request → ((slot : ℕ) → calls_of slot asking ≤ patience) → Reaches (exchanges_with p incarnation)
     from_before [] opening asking later incarnation es n l g q j h limit w prompt = from_start opening asking later incarnation es n l g q j h limit w prompt
     from_before (t ∷ before) opening asking later incarnation [] n l g q j h limit w prompt = absurd (cc)
-    from_before (t ∷ before) opening asking later incarnation (Changes change ∷ es) n l g q j h limit w prompt = from_before (t ∷ before) opening asking later incarnation es (changed change n) (All-tail (IsStep own) (Changes change) es l) (changed_good own change es n l g) q j h limit w prompt
+    from_before (t ∷ before) opening asking later incarnation (Changes change ∷ es) n l g q j h limit w prompt = from_before (t ∷ before)
+        opening asking later incarnation es (changed change n) (All-tail (IsStep own) (Changes change) es l)
+        (changed_good own change es n l g) q j h limit w prompt
     from_before (t ∷ before) opening asking later incarnation (OfNode e ∷ es) n l g q j h limit w prompt =
         let tail : trace_over m serves_port es (step m serves_port n e).node ≡ before ++ incarnation = cc in
-        from_before before opening asking later incarnation es (step m serves_port n e).node (All-tail (IsStep own) (OfNode e) es l) (good_on m lawful.steady serves_port n e (event_first own e es l) g) tail j h limit w prompt
+        from_before before opening asking later incarnation es (step m serves_port n e).node (All-tail (IsStep own) (OfNode e) es l)
+        (good_on m lawful.steady serves_port n e (event_first own e es l) g) tail j h limit w prompt

@@ -1,6 +1,13 @@
 -- Every trace of a node.
-use Rattle.node_laws.proofs.Prelude.{All, option_map, ◌≡◌, ℕ, Bool, ◌&&◌, List, [], ◌∷◌, map, position, true, false, inl, refl, ap, subst, Option, Some, None, PlainSegment, has_rst, IsAddr, IsPaged, IsU32, MayWant, Pages, AppSpec, AppState, Close, Addr, Sockets, Connection, serves, is_again, is_plain_syn, segment_of, Outcome, ident_of, Event, IpRefused, IcmpRefused, TcpRefused, EchoAsked, Arrived, Overlong, Periodic, Echo, TcpReply, append_nothing, choose, all_nil, all_cons, HasBytes, SendsBytes, IsEchoed, IsSteady, steady_of, page_bytes, OutputModel, HasOutputModel, at_every_port, EveryTraceConforms, EveryTraceOfPagesConforms, TraceConforms, TraceEntry, IsDecoded}
-use Rattle.uip_node.specs.Node.{AbstractNode, NodeStep, arrives_at, for_no_connection, happened, initial_node, opens as opens_at, opens_in, slot_for_syn, step}
+use Rattle.node_laws.proofs.Prelude.{All, option_map, ◌≡◌, ℕ, Bool, ◌&&◌, List, [], ◌∷◌, map, position, true, false, inl, refl, ap, subst}
+use Rattle.node_laws.proofs.Prelude.{Option, Some, None, PlainSegment, has_rst, IsAddr, IsPaged, IsU32, MayWant, Pages, AppSpec, AppState}
+use Rattle.node_laws.proofs.Prelude.{Close, Addr, Sockets, Connection, serves, is_again, is_plain_syn, segment_of, Outcome, ident_of, Event}
+use Rattle.node_laws.proofs.Prelude.{IpRefused, IcmpRefused, TcpRefused, EchoAsked, Arrived, Overlong, Periodic, Echo, TcpReply}
+use Rattle.node_laws.proofs.Prelude.{append_nothing, choose, all_nil, all_cons, HasBytes, SendsBytes, IsEchoed, IsSteady, steady_of}
+use Rattle.node_laws.proofs.Prelude.{page_bytes, OutputModel, HasOutputModel, at_every_port, EveryTraceConforms, EveryTraceOfPagesConforms}
+use Rattle.node_laws.proofs.Prelude.{TraceConforms, TraceEntry, IsDecoded}
+use Rattle.uip_node.specs.Node.{AbstractNode, NodeStep, arrives_at, for_no_connection, happened, initial_node, opens as opens_at, opens_in}
+use Rattle.uip_node.specs.Node.{slot_for_syn, step}
 use Rattle.node_laws.proofs.EveryIncarnation.{session_ends}
 use Rattle.node_laws.proofs.PeerReads.{every_peer_reads}
 use Rattle.node_laws.proofs.Timers.{retries_over_steps}
@@ -10,14 +17,16 @@ use Rattle.node_laws.proofs.Steps.{LineStep, OfNode, Changes, IsStep, all_happen
 abbrev NoEcho : NodeStep → Type 0
 NoEcho r = (request : List ℕ) → r.sent ≡ Some (Echo request) → ⊥
 
-no_echo_sent : (output : Option PlainSegment) (sockets : Sockets) (id : ℕ) (again : Bool) (request : List ℕ) → option_map (λ s. TcpReply sockets id again s) output ≡ Some (Echo request) → ⊥
+no_echo_sent : (output : Option PlainSegment) (sockets : Sockets) (id : ℕ) (again : Bool) (request : List ℕ)
+    → option_map (λ s. TcpReply sockets id again s) output ≡ Some (Echo request) → ⊥
 no_echo_sent None sockets id again request e = absurd (cc)
 no_echo_sent (Some s) sockets id again request e = absurd (cc)
 
 module _ (m : AppSpec) (served : ℕ → Bool) where
   happened_no : (n : AbstractNode) (event : Event) (slot : ℕ) (old : Connection) (o : Outcome) → NoEcho (happened m n event slot old o)
   unfolding happened
-  happened_no n event slot old o request e = no_echo_sent (segment_of m o.connection o.step) o.connection.sockets (ident_of (happened m n event slot old o).node.history) (is_again o.step) request e
+  happened_no n event slot old o request e = no_echo_sent (segment_of m o.connection o.step) o.connection.sockets
+      (ident_of (happened m n event slot old o).node.history) (is_again o.step) request e
 
   opens_no : (n : AbstractNode) (q : Sockets) (s : PlainSegment) (slot : Option ℕ) → NoEcho (opens_at m n q s slot)
   unfolding opens_in
@@ -52,11 +61,18 @@ module _ (m : AppSpec) (served : ℕ → Bool) where
 abbrev pub KeepsAll : (ℕ → OutputModel) → (ℕ → Bool) → Addr → List TraceEntry → Type 0
 KeepsAll model served own turns = TraceConforms model served turns × All (IsDecoded own) turns
 
-pub every_step : (m : AppSpec) (model : ℕ → OutputModel) → IsSteady m → SendsBytes m → HasOutputModel m model → (served : ℕ → Bool) (own : Addr) → IsAddr own → (numbers : List ℕ) → All IsU32 numbers
+pub every_step : (m : AppSpec) (model : ℕ → OutputModel) → IsSteady m → SendsBytes m → HasOutputModel m model
+    → (served : ℕ → Bool) (own : Addr) → IsAddr own → (numbers : List ℕ) → All IsU32 numbers
     → (steps : List LineStep) → All (IsStep own) steps → KeepsAll model served own (trace_over m served steps (initial_node own numbers))
 every_step m model steady bytes speaks served own a numbers w steps are =
     let ends = λ (p : Sockets). session_ends m model steady speaks served own numbers w steps are p in (
-      record { incarnations = λ p incarnation l. (ends p).incarnations incarnation l; asked = λ p. (ends p).asked; ports = λ p. (ends p).ports; echoes = all_echoed m served steps (initial_node own numbers); retries = retries_over_steps m steady served own numbers w steps are },
+      record {
+        incarnations = λ p incarnation l. (ends p).incarnations incarnation l;
+        asked = λ p. (ends p).asked;
+        ports = λ p. (ends p).ports;
+        echoes = all_echoed m served steps (initial_node own numbers);
+        retries = retries_over_steps m steady served own numbers w steps are;
+      },
       every_peer_reads m steady bytes served own a numbers w steps are,
     )
 
@@ -98,9 +114,12 @@ module _ (m : AppSpec) (pages : Pages) (lawful : IsPaged m pages) where
     short = lawful.short;
   }
 
-pub every_step_of_pages : (m : AppSpec) (pages : Pages) → IsPaged m pages → HasBytes pages → (served : ℕ → Bool) (own : Addr) → IsAddr own → (numbers : List ℕ) → All IsU32 numbers
+pub every_step_of_pages : (m : AppSpec) (pages : Pages) → IsPaged m pages → HasBytes pages → (served : ℕ → Bool) (own : Addr) → IsAddr own
+    → (numbers : List ℕ) → All IsU32 numbers
     → (steps : List LineStep) → All (IsStep own) steps → KeepsAll (at_every_port pages) served own (trace_over m served steps (initial_node own numbers))
-every_step_of_pages m pages lawful bytes = every_step m (at_every_port pages) (steady_of m pages lawful) (page_bytes m pages lawful bytes) (paged_everywhere m pages lawful)
+every_step_of_pages m pages lawful bytes = every_step m (at_every_port pages) (steady_of m pages lawful) (page_bytes m pages lawful bytes)
+    (paged_everywhere m pages lawful)
 
 pub every_trace_of_pages_conforms : EveryTraceOfPagesConforms
-every_trace_of_pages_conforms m pages lawful bytes = every_trace_conforms m (at_every_port pages) (steady_of m pages lawful) (page_bytes m pages lawful bytes) (paged_everywhere m pages lawful)
+every_trace_of_pages_conforms m pages lawful bytes = every_trace_conforms m (at_every_port pages) (steady_of m pages lawful)
+    (page_bytes m pages lawful bytes) (paged_everywhere m pages lawful)

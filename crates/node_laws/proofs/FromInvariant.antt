@@ -1,5 +1,8 @@
 -- What is proved of an incarnation exchange by exchange, and the guarantee that follows.
-use Rattle.node_laws.proofs.Prelude.{All, ◌≡◌, ℕ, zero, suc, ◌<◌, ◌≤◌, Bool, true, false, List, [], ◌∷◌, length, drop, refl, Some, slice_get, PlainSegment, has_fin, has_rst, IsSnapshot, first_mss, occupies_sequence_space, Alike, append_nothing, prefix_refl, Exchange, sent_at, CarriesByte, IsReceived, Account, OutputModel, Begins, IsSelection, SendsSlice, Acknowledges, IsAcknowledged, IsExtendedBy}
+use Rattle.node_laws.proofs.Prelude.{All, ◌≡◌, ℕ, zero, suc, ◌<◌, ◌≤◌, Bool, true, false, List, [], ◌∷◌, length, drop, refl, Some}
+use Rattle.node_laws.proofs.Prelude.{slice_get, PlainSegment, has_fin, has_rst, IsSnapshot, first_mss, occupies_sequence_space, Alike}
+use Rattle.node_laws.proofs.Prelude.{append_nothing, prefix_refl, Exchange, sent_at, CarriesByte, IsReceived, Account, OutputModel, Begins}
+use Rattle.node_laws.proofs.Prelude.{IsSelection, SendsSlice, Acknowledges, IsAcknowledged, IsExtendedBy}
 use Rattle.node_laws.proofs.Speaking.{IsReported}
 
 -- a FIN was sent
@@ -26,13 +29,22 @@ pub record Kept (model : OutputModel) (incarnation : List Exchange) : Type 0 whe
   pub acknowledges : (k : ℕ) (x : Exchange) (s : PlainSegment) → slice_get incarnation k ≡ Some x → x.output ≡ Some s → has_rst s.flags ≡ false
       → Acknowledges account.irs (drop k incarnation) account.input s
   pub same : length account.stream < 1073741824 → (i j : ℕ) (x y : Exchange) (s t : PlainSegment) → i < j → slice_get incarnation i ≡ Some x
-      → slice_get incarnation j ≡ Some y → x.output ≡ Some s → y.output ≡ Some t → occupies_sequence_space s ≡ true → occupies_sequence_space t ≡ true → s.seq ≡ t.seq → Alike t s
+      → slice_get incarnation j ≡ Some y → x.output ≡ Some s → y.output ≡ Some t → occupies_sequence_space s ≡ true
+      → occupies_sequence_space t ≡ true → s.seq ≡ t.seq → Alike t s
   pub one : (i j : ℕ) (x y : Exchange) (s t : PlainSegment) → i < j → slice_get incarnation i ≡ Some x → slice_get incarnation j ≡ Some y
-      → x.output ≡ Some s → y.output ≡ Some t → occupies_sequence_space s ≡ true → occupies_sequence_space t ≡ true → (s.seq ≡ t.seq → ⊥) → IsAcknowledged incarnation i j t
+      → x.output ≡ Some s → y.output ≡ Some t → occupies_sequence_space s ≡ true → occupies_sequence_space t ≡ true → (s.seq ≡ t.seq → ⊥)
+      → IsAcknowledged incarnation i j t
   pub of_page : IsReported model (HasEnded incarnation) account.input account.snapshots account.stream
 
 pub grows_refl : (a : Account) → IsExtendedBy a a
-grows_refl a = record { irs = refl; iss = refl; peer_mss = refl; input = prefix_refl a.input; snapshots = ([], append_nothing a.snapshots); stream = prefix_refl a.stream }
+grows_refl a = record {
+  irs = refl;
+  iss = refl;
+  peer_mss = refl;
+  input = prefix_refl a.input;
+  snapshots = ([], append_nothing a.snapshots);
+  stream = prefix_refl a.stream;
+}
 
 -- the exchange in which something was sent
 pub record SentIn (incarnation : List Exchange) (k : ℕ) (s : PlainSegment) : Type 0 where
@@ -46,7 +58,8 @@ sent_text_in (x ∷ incarnation) zero s h = record { exchange = x; there = refl;
 sent_text_in (x ∷ incarnation) (suc k) s h = let r = sent_text_in incarnation k s h in record { exchange = r.exchange; there = r.there; output = r.output }
 
 -- what was received before is received
-pub received_on : (iss : ℕ) (x : Exchange) (incarnation : List Exchange) (text : List ℕ) → IsReceived iss incarnation text → IsReceived iss (x ∷ incarnation) text
+pub received_on : (iss : ℕ) (x : Exchange) (incarnation : List Exchange) (text : List ℕ) → IsReceived iss incarnation text
+    → IsReceived iss (x ∷ incarnation) text
 received_on iss x incarnation text h at byte e =
     (let c : CarriesByte iss incarnation at byte = h at byte e in
     record { place = suc c.place; segment = c.segment; output = c.output; from = c.from; seq = c.seq; within = c.within; sum = c.sum; is = c.is })

@@ -1,5 +1,7 @@
 -- What every node satisfies that any events reach: no two connections of one peer, and numbers of their types.
-use Rattle.node_laws.proofs.Prelude.{All, ℕ, Bool, List, ◌∷◌, length, subst, arith, All-head, Addr, AppState, AppSpec, IsSnapshot, IsU32, Connection, Event, IsEvent, AbstractNode, initial_node, step, IsSteady, Single, none_serves, all_closed, FitConn, FitNode, closed_fits, event_fits, Safe, IsOfLine}
+use Rattle.node_laws.proofs.Prelude.{All, ℕ, Bool, List, ◌∷◌, length, subst, arith, All-head, Addr, AppState, AppSpec, IsSnapshot, IsU32}
+use Rattle.node_laws.proofs.Prelude.{Connection, Event, IsEvent, AbstractNode, initial_node, step, IsSteady, Single, none_serves}
+use Rattle.node_laws.proofs.Prelude.{all_closed, FitConn, FitNode, closed_fits, event_fits, Safe, IsOfLine}
 use Rattle.node_laws.proofs.Lines.{comes}
 use Rattle.node_laws.proofs.Wire.{line_wire, wire_event}
 
@@ -8,7 +10,10 @@ pub record Good (n : AbstractNode) : Type 0 where
   pub fit : FitNode n
 
 pub good_on : (m : AppSpec) → IsSteady m → (ports : ℕ → Bool) (n : AbstractNode) (event : Event) → IsEvent event → Good n → Good (step m ports n event).node
-good_on m steady ports n event is g = record { single = (comes m ports steady n event is g.single g.fit).single; fit = event_fits m steady ports n event is g.fit }
+good_on m steady ports n event is g = record {
+  single = (comes m ports steady n event is g.single g.fit).single;
+  fit = event_fits m steady ports n event is g.fit;
+}
 
 pub good_start : (own : Addr) (numbers : List ℕ) → All IsU32 numbers → Good (initial_node own numbers)
 good_start own numbers words = record {

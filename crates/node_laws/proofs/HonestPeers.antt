@@ -1,5 +1,10 @@
 -- A cooperating peer of a node has its page, whatever other peers do: with no loss, and with loss.
-use Rattle.node_laws.proofs.Prelude.{All, map, Bool, ◌≡◌, ℕ, ◌+◌, ◌<◌, ◌≤◌, ◌⊎◌, inl, inr, List, [], ◌∷◌, ◌++◌, refl, sym, ap, ◌∙◌, subst, arith, Option, Some, None, first_mss, AnswersPolled, AppSpec, AppState, Event, IsOfLine, trace_of, Arrives, AsksOverLoss, IsSteady, steady_of, IsPaged, IsU32, Pages, Addr, Sockets, AbstractNode, initial_node, Asker, ArrivesIn, ArrivesUnderLoss, IsLossy, IsOverLoss, fresh, with_fresh, text_received, bare_acks, SendsSyn, SendsNext, IsWaitedFor, IsHonest, HasItsPage, HonestPeer, Exchange, TraceEntry, exchange, exchanges_onto, exchanges_with}
+use Rattle.node_laws.proofs.Prelude.{All, map, Bool, ◌≡◌, ℕ, ◌+◌, ◌<◌, ◌≤◌, ◌⊎◌, inl, inr, List, [], ◌∷◌, ◌++◌, refl, sym, ap, ◌∙◌, subst}
+use Rattle.node_laws.proofs.Prelude.{arith, Option, Some, None, first_mss, AnswersPolled, AppSpec, AppState, Event, IsOfLine, trace_of}
+use Rattle.node_laws.proofs.Prelude.{Arrives, AsksOverLoss, IsSteady, steady_of, IsPaged, IsU32, Pages, Addr, Sockets, AbstractNode}
+use Rattle.node_laws.proofs.Prelude.{initial_node, Asker, ArrivesIn, ArrivesUnderLoss, IsLossy, IsOverLoss, fresh, with_fresh}
+use Rattle.node_laws.proofs.Prelude.{text_received, bare_acks, SendsSyn, SendsNext, IsWaitedFor, IsHonest, HasItsPage, HonestPeer, Exchange}
+use Rattle.node_laws.proofs.Prelude.{TraceEntry, exchange, exchanges_onto, exchanges_with}
 use Rattle.node_laws.proofs.Arriving.{Goes, GoesOn, from_before, goes_before, keeps_fresh, keeps_quiet}
 use Rattle.node_laws.proofs.Arriving.Goes.{brings_next, brings_stale, waits_for}
 use Rattle.node_laws.proofs.Arriving.InTime.{kept_on, tries_left}
@@ -34,11 +39,14 @@ all_fresh a (x ∷ y ∷ older) h =
 goes_honest : (a : Asker) (xs : List Exchange) → IsHonest a xs → GoesOn a xs
 goes_honest a [] h = h
 goes_honest a (x ∷ []) h = h
-goes_honest a (x ∷ y ∷ older) h =
-    (subst (λ k. Goes a x k) (sym (all_fresh a (y ∷ older) h.1)) (elim h.0 [ inl w ↦ waits_for w.0 (kept_on w.1) | inr s ↦ brings_next s ]), goes_honest a (y ∷ older) h.1)
+goes_honest a (x ∷ y ∷ older) h = (
+  subst (λ k. Goes a x k) (sym (all_fresh a (y ∷ older) h.1)) (elim h.0 [ inl w ↦ waits_for w.0 (kept_on w.1) | inr s ↦ brings_next s ]),
+  goes_honest a (y ∷ older) h.1,
+)
 
 -- the exchanges of two parts of a trace
-in_two : (p : Sockets) (first second : List TraceEntry) (before : List Exchange) → exchanges_onto p (first ++ second) before ≡ exchanges_onto p second (exchanges_onto p first before)
+in_two : (p : Sockets) (first second : List TraceEntry) (before : List Exchange) → exchanges_onto p (first ++ second) before
+    ≡ exchanges_onto p second (exchanges_onto p first before)
 in_two p [] second before = refl
 in_two p (t ∷ first) second before = in_two p first second (exchange p t.event t.sent ∷ before)
 
@@ -52,17 +60,24 @@ paging_of m pages lawful port = paging_as m m port anywhere (acts_as_itself m po
 pub honest_peer : HonestPeer
 honest_peer m pages lawful ports own addr numbers words events of a p fine left texts patience answering incarnation asks few =
     let first : fresh a (exchanges_with p asks.asking) ≡ exchanges_with p asks.asking =
-    first_fresh a p asks.later (exchanges_with p asks.asking) (subst (λ k. IsHonest a k) (ap (λ t. exchanges_with p t) asks.joined ∙ in_two p asks.asking asks.later []) asks.honest) in
+    first_fresh a p asks.later (exchanges_with p asks.asking) (subst (λ k. IsHonest a k) (ap (λ t. exchanges_with p t) asks.joined
+    ∙ in_two p asks.asking asks.later []) asks.honest) in
     let node : AbstractNode = initial_node own numbers in
     (from_before m pages anywhere ports p (paging_of m pages lawful p.own_port.0) a (room_of a p incarnation asks.honest) fine left texts patience
-    (answering_as m m p.own_port.0 anywhere (acts_as_itself m p.own_port.0) a.request a.mss fine left texts patience answering) own asks.before [] asks.asking asks.later incarnation (map OfNode events) node (all_happen own events of)
-    (good_start own numbers words) (turns_happen m ports events node ∙ asks.split) asks.joined (goes_honest a (exchanges_with p incarnation) asks.honest) refl (ap (λ k. text_received k) first ∙ asks.whole) asks.prompt
+    (answering_as m m p.own_port.0 anywhere (acts_as_itself m p.own_port.0) a.request a.mss fine left texts patience answering) own
+    asks.before [] asks.asking asks.later incarnation (map OfNode events) node (all_happen own events of)
+    (good_start own numbers words) (turns_happen m ports events node ∙ asks.split) asks.joined (goes_honest a (exchanges_with p incarnation)
+    asks.honest) refl (ap (λ k. text_received k) first ∙ asks.whole) asks.prompt
     (subst (λ k. texts < bare_acks k) (sym (all_fresh a (exchanges_with p incarnation) asks.honest)) few)).page
 
 -- ---- with loss
 
 goes_on_lossy : (a : Asker) (x : Exchange) (before : List Exchange) → IsOverLoss a x before → Goes a x before
-goes_on_lossy a x before h = elim h [ receives_nothing none few ↦ waits_for none (tries_left few) | receives_next s ↦ brings_next s | receives_stale s ↦ brings_stale s ]
+goes_on_lossy a x before h = elim h [
+  | receives_nothing none few ↦ waits_for none (tries_left few)
+  | receives_next s ↦ brings_next s
+  | receives_stale s ↦ brings_stale s
+]
 
 goes_lossy : (a : Asker) (xs : List Exchange) → IsLossy a xs → GoesOn a xs
 goes_lossy a [] h = h
@@ -77,28 +92,37 @@ pub lossy_syn : (a : Asker) (p : Sockets) (turns : List TraceEntry) → IsLossy 
 lossy_syn a p turns h = of_lossy_syn a p turns (goes_lossy a (exchanges_with p turns) h)
 
 -- over events and changes of the application's numbers, in the states of the port in which it acts as an application of pages
-pub arrives_acting : (m n : AppSpec) (pages : Pages) (here : AppState → Bool) → IsSteady m → IsPaged n pages → (served : ℕ → Bool) (own : Addr) (numbers : List ℕ) → All IsU32 numbers → (steps : List LineStep) → All (IsStep own) steps
-    → (a : Asker) (p : Sockets) → ActsAs m n p.own_port.0 here → (fine : ℕ → AppState → Bool) (left : AppState → ℕ) (texts patience : ℕ) → AnswersPolled n a.request a.mss fine left texts patience
+pub arrives_acting : (m n : AppSpec) (pages : Pages) (here : AppState → Bool) → IsSteady m → IsPaged n pages
+    → (served : ℕ → Bool) (own : Addr) (numbers : List ℕ) → All IsU32 numbers → (steps : List LineStep) → All (IsStep own) steps
+    → (a : Asker) (p : Sockets) → ActsAs m n p.own_port.0 here → (fine : ℕ → AppState → Bool) (left : AppState → ℕ) (texts patience : ℕ)
+    → AnswersPolled n a.request a.mss fine left texts patience
     → (incarnation : List TraceEntry) → AsksOverLoss a p patience (trace_over m served steps (initial_node own numbers)) incarnation
     → texts < bare_acks (fresh a (exchanges_with p incarnation)) → Arrives pages a (exchanges_with p incarnation)
 arrives_acting m n pages here steady lawful served own numbers words steps of a p acts fine left texts patience answering incarnation asks few =
     let goes : GoesOn a (exchanges_with p incarnation) = goes_lossy a (exchanges_with p incarnation) asks.lossy in
     let room : 0 < a.mss = (let o = of_lossy_syn a p incarnation goes in let l = mss_some o.option in let e = o.is in omega (arith, l, e)) in
-    from_before m pages here served p (paging_as m n p.own_port.0 here acts pages lawful steady) a room fine left texts patience (answering_as m n p.own_port.0 here acts a.request a.mss fine left texts patience answering)
-    own asks.before asks.opening asks.asking asks.later incarnation steps (initial_node own numbers) of (good_start own numbers words) asks.split asks.joined goes asks.handshake asks.whole asks.prompt few
+    from_before m pages here served p (paging_as m n p.own_port.0 here acts pages lawful steady) a room fine left texts patience
+    (answering_as m n p.own_port.0 here acts a.request a.mss fine left texts patience answering)
+    own asks.before asks.opening asks.asking asks.later incarnation steps (initial_node own numbers) of (good_start own numbers words)
+    asks.split asks.joined goes asks.handshake asks.whole asks.prompt few
 
-pub arrives_acting_in : (m n : AppSpec) (pages : Pages) (here : AppState → Bool) → IsSteady m → IsPaged n pages → (served : ℕ → Bool) (own : Addr) (numbers : List ℕ) → All IsU32 numbers → (events : List Event) → All (IsOfLine own) events
-    → (a : Asker) (p : Sockets) → ActsAs m n p.own_port.0 here → (fine : ℕ → AppState → Bool) (left : AppState → ℕ) (texts patience : ℕ) → AnswersPolled n a.request a.mss fine left texts patience
+pub arrives_acting_in : (m n : AppSpec) (pages : Pages) (here : AppState → Bool) → IsSteady m → IsPaged n pages
+    → (served : ℕ → Bool) (own : Addr) (numbers : List ℕ) → All IsU32 numbers → (events : List Event) → All (IsOfLine own) events
+    → (a : Asker) (p : Sockets) → ActsAs m n p.own_port.0 here → (fine : ℕ → AppState → Bool) (left : AppState → ℕ) (texts patience : ℕ)
+    → AnswersPolled n a.request a.mss fine left texts patience
     → (incarnation : List TraceEntry) → AsksOverLoss a p patience (trace_of m served events (initial_node own numbers)) incarnation
     → texts < bare_acks (fresh a (exchanges_with p incarnation)) → Arrives pages a (exchanges_with p incarnation)
 arrives_acting_in m n pages here steady lawful served own numbers words events of a p acts fine left texts patience answering incarnation asks few =
-    arrives_acting m n pages here steady lawful served own numbers words (map OfNode events) (all_happen own events of) a p acts fine left texts patience answering incarnation
+    arrives_acting m n pages here steady lawful served own numbers words (map OfNode events) (all_happen own events of) a p acts fine left
+    texts patience answering incarnation
     (subst (λ trace. AsksOverLoss a p patience trace incarnation) (sym (turns_happen m served events (initial_node own numbers))) asks) few
 
-pub arrives_over_steps : (m : AppSpec) (pages : Pages) → IsPaged m pages → (served : ℕ → Bool) (own : Addr) (numbers : List ℕ) → All IsU32 numbers → (steps : List LineStep) → All (IsStep own) steps
+pub arrives_over_steps : (m : AppSpec) (pages : Pages) → IsPaged m pages → (served : ℕ → Bool) (own : Addr) (numbers : List ℕ)
+    → All IsU32 numbers → (steps : List LineStep) → All (IsStep own) steps
     → ArrivesIn m pages (trace_over m served steps (initial_node own numbers))
 arrives_over_steps m pages lawful served own numbers words steps of a p fine left texts patience answering incarnation asks few =
-    arrives_acting m m pages anywhere (steady_of m pages lawful) lawful served own numbers words steps of a p (acts_as_itself m p.own_port.0) fine left texts patience answering incarnation asks few
+    arrives_acting m m pages anywhere (steady_of m pages lawful) lawful served own numbers words steps of a p
+    (acts_as_itself m p.own_port.0) fine left texts patience answering incarnation asks few
 
 pub arrives_under_loss : ArrivesUnderLoss
 arrives_under_loss m pages lawful ports own addr numbers words events of =

@@ -1,5 +1,8 @@
 -- A peer on a link that loses and repeats, computed from the definitions alone: a lost SYN-ACK, and a lost text.
-use Rattle.node_laws.proofs.Prelude.{◌≡◌, ◌+◌, ℕ, false, List, [], ◌∷◌, map, is_some, length, refl, arith, Some, None, PlainSegment, has_rst, SYN, PSH, ACK, hello, idles, peer_closes, stays_established, in_established, fin_acked, fin_waits, on_segment, rests_on, ticks_established, Periodic, happened, opens_in, for_no_connection, only_some, Asker, IsLossy, fresh, retransmissions, text_received, bare_acks, receives_all, Exchange}
+use Rattle.node_laws.proofs.Prelude.{◌≡◌, ◌+◌, ℕ, false, List, [], ◌∷◌, map, is_some, length, refl, arith, Some, None, PlainSegment}
+use Rattle.node_laws.proofs.Prelude.{has_rst, SYN, PSH, ACK, hello, idles, peer_closes, stays_established, in_established, fin_acked}
+use Rattle.node_laws.proofs.Prelude.{fin_waits, on_segment, rests_on, ticks_established, Periodic, happened, opens_in, for_no_connection}
+use Rattle.node_laws.proofs.Prelude.{only_some, Asker, IsLossy, fresh, retransmissions, text_received, bare_acks, receives_all, Exchange}
 use Rattle.node_laws.specs.LossyPeers.IsOverLoss.{receives_next, receives_nothing, receives_stale}
 use Rattle.node_laws.proofs.Rows.{says, session_over, reported}
 
@@ -47,7 +50,19 @@ has_page = refl
 is_lossy : IsLossy asker lossy
 unfolding idles peer_closes stays_established in_established fin_acked fin_waits on_segment rests_on ticks_established happened opens_in for_no_connection
 is_lossy = (
-  receives_next (record { segment = segment 1002 7 []; received = refl; syn = refl; fin = refl; rst = refl; acks = refl; seq = refl; part = record { rest = []; joined = refl }; ack = refl; window = omega arith; some = λ e. refl }),
+  receives_next (record {
+    segment = segment 1002 7 [];
+    received = refl;
+    syn = refl;
+    fin = refl;
+    rst = refl;
+    acks = refl;
+    seq = refl;
+    part = record { rest = []; joined = refl };
+    ack = refl;
+    window = omega arith;
+    some = λ e. refl;
+  }),
   (
     receives_nothing refl (omega arith),
     (
@@ -61,9 +76,33 @@ is_lossy = (
             (
               receives_nothing refl (omega arith),
               (
-                receives_next (record { segment = segment 1001 1 (120 ∷ []); received = refl; syn = refl; fin = refl; rst = refl; acks = refl; seq = refl; part = record { rest = []; joined = refl }; ack = refl; window = omega arith; some = λ e. absurd (cc) }),
+                receives_next (record {
+                  segment = segment 1001 1 (120 ∷ []);
+                  received = refl;
+                  syn = refl;
+                  fin = refl;
+                  rst = refl;
+                  acks = refl;
+                  seq = refl;
+                  part = record { rest = []; joined = refl };
+                  ack = refl;
+                  window = omega arith;
+                  some = λ e. absurd (cc);
+                }),
                 (
-                  receives_next (record { segment = segment 1001 1 []; received = refl; syn = refl; fin = refl; rst = refl; acks = refl; seq = refl; part = record { rest = 120 ∷ []; joined = refl }; ack = refl; window = omega arith; some = λ e. refl }),
+                  receives_next (record {
+                    segment = segment 1001 1 [];
+                    received = refl;
+                    syn = refl;
+                    fin = refl;
+                    rst = refl;
+                    acks = refl;
+                    seq = refl;
+                    part = record { rest = 120 ∷ []; joined = refl };
+                    ack = refl;
+                    window = omega arith;
+                    some = λ e. refl;
+                  }),
                   (
                     receives_nothing refl (omega arith),
                     (
@@ -74,7 +113,17 @@ is_lossy = (
                           receives_nothing refl (omega arith),
                           (
                             receives_stale (record { segment = syn; received = refl; rst = refl; stale = refl; window = λ e. omega arith }),
-                            record { syn = syn; received = refl; number = refl; mss = refl; text = refl; answer = record { seq = 0; ack = 1001; flags = SYN + ACK; window = 1460; mss = Some 1460; text = [] }; output = refl; answers = refl; seq = refl },
+                            record {
+                              syn = syn;
+                              received = refl;
+                              number = refl;
+                              mss = refl;
+                              text = refl;
+                              answer = record { seq = 0; ack = 1001; flags = SYN + ACK; window = 1460; mss = Some 1460; text = [] };
+                              output = refl;
+                              answers = refl;
+                              seq = refl;
+                            },
                           ),
                         ),
                       ),

@@ -1,5 +1,9 @@
 -- Worked incarnations, computed from the definitions alone.
-use Rattle.node_laws.proofs.Prelude.{option_map, ◌≡◌, ◌+◌, ℕ, Bool, true, false, List, [], ◌∷◌, map, refl, Option, Some, None, ◌==◌, FIN, SYN, RST, ACK, fixed_spec, hello, Sockets, idles, peer_closes, stays_established, in_established, fin_acked, fin_waits, on_segment, rests_on, ticks_established, Event, Arrived, Periodic, happened, opens_in, for_no_connection, Exchange, exchanges_with, is_incarnation, is_opening, initial_node, trace_of}
+use Rattle.node_laws.proofs.Prelude.{option_map, ◌≡◌, ◌+◌, ℕ, Bool, true, false, List, [], ◌∷◌, map, refl, Option, Some, None, ◌==◌, FIN}
+use Rattle.node_laws.proofs.Prelude.{SYN, RST, ACK, fixed_spec, hello, Sockets, idles, peer_closes, stays_established, in_established}
+use Rattle.node_laws.proofs.Prelude.{fin_acked, fin_waits, on_segment, rests_on, ticks_established, Event, Arrived, Periodic, happened}
+use Rattle.node_laws.proofs.Prelude.{opens_in, for_no_connection, Exchange, exchanges_with, is_incarnation, is_opening, initial_node}
+use Rattle.node_laws.proofs.Prelude.{trace_of}
 
 abbrev pub web : ℕ → Bool
 web port = port == 80
@@ -19,12 +23,14 @@ unfolding idles peer_closes stays_established in_established fin_acked fin_waits
 one_life = refl
 
 -- after a reset a SYN begins another
-two_lives : map (λ x. is_opening x) (session_over (says 1000 0 SYN [] ∷ says 1001 1 ACK (120 ∷ []) ∷ says 1002 7 RST [] ∷ says 5000 0 SYN [] ∷ [])) ≡ true ∷ false ∷ false ∷ true ∷ []
+two_lives : map (λ x. is_opening x) (session_over (says 1000 0 SYN [] ∷ says 1001 1 ACK (120 ∷ []) ∷ says 1002 7 RST [] ∷ says 5000 0 SYN []
+    ∷ [])) ≡ true ∷ false ∷ false ∷ true ∷ []
 unfolding idles peer_closes stays_established in_established fin_acked fin_waits on_segment rests_on ticks_established happened opens_in for_no_connection
 two_lives = refl
 
 -- a SYN in a life begins none
-one_still : map (λ x. is_opening x) (session_over (says 1000 0 SYN [] ∷ says 1000 0 SYN [] ∷ says 1001 1 ACK (120 ∷ []) ∷ says 5000 0 SYN [] ∷ [])) ≡ false ∷ false ∷ false ∷ true ∷ []
+one_still : map (λ x. is_opening x) (session_over (says 1000 0 SYN [] ∷ says 1000 0 SYN [] ∷ says 1001 1 ACK (120 ∷ []) ∷ says 5000 0 SYN []
+    ∷ [])) ≡ false ∷ false ∷ false ∷ true ∷ []
 unfolding idles peer_closes stays_established in_established fin_acked fin_waits on_segment rests_on ticks_established happened opens_in for_no_connection
 one_still = refl
 

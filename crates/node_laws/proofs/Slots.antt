@@ -1,5 +1,15 @@
 -- What an event does to the connection in one slot, and what it adds to the exchanges with its peer.
-use Rattle.node_laws.proofs.Prelude.{option_or, option_map, ◌≡◌, ℕ, zero, suc, ◌+◌, Bool, true, false, not, ◌==◌, ◌&&◌, ◌⊎◌, inl, inr, List, [], ◌∷◌, set, position, refl, sym, ap, ◌∙◌, subst, arith, Option, Some, None, slice_get, slice_index_or, eqb, eq-eqb, PlainSegment, has_rst, AppSpec, is_time_wait, longest_wait, Sockets, Connection, closed, is_live, serves, same_sockets, segment_of, is_again, is_plain_syn, reset_for_no_connection, syn_ack, Outcome, leaves, asked, accepted, on_segment, on_tick, Step, initial_number, ident_of, Event, IpRefused, IcmpRefused, TcpRefused, EchoAsked, Arrived, Overlong, Periodic, TcpReply, AbstractNode, NodeStep, snapshot, happened, connection_in, slot_for_syn, opens_in, opens, refuses, for_no_connection, arrives_at, periodic, step, serving, both_ways, choose, and_true, eqb-eq, not-true, same_is, is_same, serves_not, find_is, get_set, get_set_other, index_of, Single, here, there, finds, finds_none, found, on_segment_keeps, asked_keeps, on_tick_keeps, on_tick_closed, received_from, sent_to, exchange}
+use Rattle.node_laws.proofs.Prelude.{option_or, option_map, ◌≡◌, ℕ, zero, suc, ◌+◌, Bool, true, false, not, ◌==◌, ◌&&◌, ◌⊎◌, inl, inr, List}
+use Rattle.node_laws.proofs.Prelude.{[], ◌∷◌, set, position, refl, sym, ap, ◌∙◌, subst, arith, Option, Some, None, slice_get}
+use Rattle.node_laws.proofs.Prelude.{slice_index_or, eqb, eq-eqb, PlainSegment, has_rst, AppSpec, is_time_wait, longest_wait, Sockets}
+use Rattle.node_laws.proofs.Prelude.{Connection, closed, is_live, serves, same_sockets, segment_of, is_again, is_plain_syn}
+use Rattle.node_laws.proofs.Prelude.{reset_for_no_connection, syn_ack, Outcome, leaves, asked, accepted, on_segment, on_tick, Step}
+use Rattle.node_laws.proofs.Prelude.{initial_number, ident_of, Event, IpRefused, IcmpRefused, TcpRefused, EchoAsked, Arrived, Overlong}
+use Rattle.node_laws.proofs.Prelude.{Periodic, TcpReply, AbstractNode, NodeStep, snapshot, happened, connection_in, slot_for_syn, opens_in}
+use Rattle.node_laws.proofs.Prelude.{opens, refuses, for_no_connection, arrives_at, periodic, step, serving, both_ways, choose, and_true}
+use Rattle.node_laws.proofs.Prelude.{eqb-eq, not-true, same_is, is_same, serves_not, find_is, get_set, get_set_other, index_of, Single}
+use Rattle.node_laws.proofs.Prelude.{here, there, finds, finds_none, found, on_segment_keeps, asked_keeps, on_tick_keeps, on_tick_closed}
+use Rattle.node_laws.proofs.Prelude.{received_from, sent_to, exchange}
 use Rattle.uip_node.proofs.Connections.{Free}
 use Rattle.node_laws.proofs.Lines.{quiet, met, meets, came_here, came_elsewhere, sent_here, sent_elsewhere}
 
@@ -9,7 +19,8 @@ either : (a b : Option ℕ) (i : ℕ) → option_or a b ≡ Some i → (a ≡ So
 either (Some j) b i h = inl h
 either None b i h = inr h
 
-pub slot_free : (cs : List Connection) (i : ℕ) (c : Connection) → slot_for_syn cs ≡ Some i → slice_get cs i ≡ Some c → is_live c.state ≡ true → is_time_wait c.state ≡ true
+pub slot_free : (cs : List Connection) (i : ℕ) (c : Connection) → slot_for_syn cs ≡ Some i → slice_get cs i ≡ Some c
+    → is_live c.state ≡ true → is_time_wait c.state ≡ true
 slot_free cs i c h at live =
     let free : Connection → Bool = λ c. not (is_live c.state) in
     let rested : Connection → Bool = λ c. is_time_wait c.state && (c.age == longest_wait (λ c. c.state) (λ c. c.age) cs) in
@@ -54,12 +65,14 @@ module _ (m : AppSpec) (served : ℕ → Bool) (n : AbstractNode) (p : Sockets) 
     still : (event : Event) (r : NodeStep) → (event ≡ Periodic i → ⊥) → exchange p event r.sent ≡ quiet → r.node.connections ≡ n.connections → Acts event r
     still event r away x e = is_apart away x (ap (λ l. slice_get l i) e ∙ at)
 
-    acted : (event : Event) (received : Option PlainSegment) (o : Outcome) → received_from p event ≡ received → o.connection.sockets ≡ p → Acted event (happened m n event i c o) received o
+    acted : (event : Event) (received : Option PlainSegment) (o : Outcome) → received_from p event ≡ received → o.connection.sockets ≡ p
+        → Acted event (happened m n event i c o) received o
     unfolding happened
     acted event received o e q =
         let r : NodeStep = happened m n event i c o in
         record {
-          exchanged = meets (received_from p event) (sent_to p r.sent) received (segment_of m o.connection o.step) e (sent_here p o.connection.sockets (ident_of r.node.history) (is_again o.step) (segment_of m o.connection o.step) q);
+          exchanged = meets (received_from p event) (sent_to p r.sent) received (segment_of m o.connection o.step) e
+              (sent_here p o.connection.sockets (ident_of r.node.history) (is_again o.step) (segment_of m o.connection o.step) q);
           id = ident_of r.node.history;
           sent = ap (λ z. option_map (λ s. TcpReply z (ident_of r.node.history) (is_again o.step) s) (segment_of m o.connection o.step)) q;
           table = refl;
@@ -67,16 +80,19 @@ module _ (m : AppSpec) (served : ℕ → Bool) (n : AbstractNode) (p : Sockets) 
         }
 
     -- another slot's connection takes a step, which sends nothing to this peer
-    elsewhere : (event : Event) (j : ℕ) (old : Connection) (o : Outcome) → (event ≡ Periodic i → ⊥) → (j ≡ i → ⊥) → received_from p event ≡ None → same_sockets o.connection.sockets p ≡ false → Acts event (happened m n event j old o)
+    elsewhere : (event : Event) (j : ℕ) (old : Connection) (o : Outcome) → (event ≡ Periodic i → ⊥) → (j ≡ i → ⊥) → received_from p event
+        ≡ None → same_sockets o.connection.sockets p ≡ false → Acts event (happened m n event j old o)
     unfolding happened
     elsewhere event j old o away other e q =
         let r : NodeStep = happened m n event j old o in
         is_apart away
-        (meets (received_from p event) (sent_to p r.sent) None None e (sent_elsewhere p o.connection.sockets (ident_of r.node.history) (is_again o.step) (segment_of m o.connection o.step) q))
+        (meets (received_from p event) (sent_to p r.sent) None None e (sent_elsewhere p o.connection.sockets (ident_of r.node.history)
+        (is_again o.step) (segment_of m o.connection o.step) q))
         (get_set_other n.connections j o.connection i (λ z. other (sym z)) ∙ at)
 
     -- nothing is sent at all
-    silent : (event : Event) (j : ℕ) (old d : Connection) (numbers : List ℕ) → (event ≡ Periodic i → ⊥) → (j ≡ i → ⊥) → received_from p event ≡ None → Acts event (happened m n event j old (leaves d numbers Step.Drop))
+    silent : (event : Event) (j : ℕ) (old d : Connection) (numbers : List ℕ) → (event ≡ Periodic i → ⊥) → (j ≡ i → ⊥)
+        → received_from p event ≡ None → Acts event (happened m n event j old (leaves d numbers Step.Drop))
     unfolding happened
     silent event j old d numbers away other e =
         is_apart away (meets (received_from p event) None None None e refl) (get_set_other n.connections j d i (λ z. other (sym z)) ∙ at)
@@ -91,9 +107,11 @@ module _ (m : AppSpec) (served : ℕ → Bool) (n : AbstractNode) (p : Sockets) 
         let keeps : o.connection.sockets ≡ old.sockets = asked_keeps m (snapshot n event j) old (on_tick m old n.numbers) (on_tick_keeps m old n.numbers) in
         elsewhere event j old o away other refl
         (both_ways (same_sockets old.sockets p)
-        (λ e. absurd (let u : serves p old ≡ true = ap (λ b. b && same_sockets old.sockets p) l ∙ e in other (single p j i old c (index_live n.connections j l) at u own)))
+        (λ e. absurd (let u : serves p old ≡ true = ap (λ b. b && same_sockets old.sockets p) l ∙ e in
+        other (single p j i old c (index_live n.connections j l) at u own)))
         (λ e. ap (λ z. same_sockets z p) keeps ∙ e)))
-        (λ l. let none : asked m (snapshot n event j) (on_tick m old n.numbers) ≡ leaves old n.numbers Step.Drop = ap (λ o. asked m (snapshot n event j) o) (on_tick_closed m old n.numbers l) in
+        (λ l. let none : asked m (snapshot n event j) (on_tick m old n.numbers) ≡ leaves old n.numbers Step.Drop = ap
+        (λ o. asked m (snapshot n event j) o) (on_tick_closed m old n.numbers l) in
         subst (λ o. Acts event (happened m n event j old o)) (sym none) (silent event j old old n.numbers away other refl))
 
     called : (j : ℕ) → Acts (Periodic j) (periodic m n j)
@@ -105,7 +123,8 @@ module _ (m : AppSpec) (served : ℕ → Bool) (n : AbstractNode) (p : Sockets) 
         let o : Outcome = asked m (snapshot n event i) (on_tick m c n.numbers) in
         let keeps : o.connection.sockets ≡ c.sockets = asked_keeps m (snapshot n event i) c (on_tick m c n.numbers) (on_tick_keeps m c n.numbers) in
         let h : Acts event (periodic m n i) =
-        subst (λ z. Acts event (happened m n event i z (asked m (snapshot n event i) (on_tick m z n.numbers)))) (sym in_it) (is_called refl (acted event None o refl (keeps ∙ peer))) in
+        subst (λ z. Acts event (happened m n event i z (asked m (snapshot n event i) (on_tick m z n.numbers)))) (sym in_it)
+        (is_called refl (acted event None o refl (keeps ∙ peer))) in
         subst (λ k. Acts (Periodic k) (periodic m n k)) q h)
         (λ e. other_call j (λ z. let y : eqb j i ≡ true = eq-eqb j i z in cc))
 
@@ -131,7 +150,8 @@ module _ (m : AppSpec) (served : ℕ → Bool) (n : AbstractNode) (p : Sockets) 
       opened (Some k) e =
           let new : Connection = accepted (initial_number n.history) q s in
           let r : NodeStep = opens m n q s (Some k) in
-          let x : exchange p (Arrived q s) r.sent ≡ quiet = meets (received_from p (Arrived q s)) (sent_to p r.sent) None None far_came (sent_elsewhere p q (ident_of r.node.history) false (Some (syn_ack new)) far) in
+          let x : exchange p (Arrived q s) r.sent ≡ quiet = meets (received_from p (Arrived q s)) (sent_to p r.sent) None None far_came
+          (sent_elsewhere p q (ident_of r.node.history) false (Some (syn_ack new)) far) in
           both_ways (eqb k i)
           (λ z. makes_room x (slot_free n.connections i c (e ∙ ap Some (eqb-eq k i z)) at live) (gone k (eqb-eq k i z) new far))
           (λ z. is_apart no_call x (get_set_other n.connections k new i (λ y. (let w : eqb k i ≡ true = eq-eqb k i (sym y) in cc)) ∙ at))
@@ -144,7 +164,8 @@ module _ (m : AppSpec) (served : ℕ → Bool) (n : AbstractNode) (p : Sockets) 
           (λ e. choose (λ r. Acts (Arrived q s) r) (has_rst s.flags) _ _
           (λ f. still (Arrived q s) _ no_call (meets (received_from p (Arrived q s)) None None None far_came refl) refl)
           (λ f. still (Arrived q s) (refuses n q s) no_call
-          (meets (received_from p (Arrived q s)) (sent_to p (refuses n q s).sent) None None far_came (sent_elsewhere p q (ident_of (refuses n q s).node.history) false (Some (reset_for_no_connection s)) far)) refl))
+          (meets (received_from p (Arrived q s)) (sent_to p (refuses n q s).sent) None None far_came
+          (sent_elsewhere p q (ident_of (refuses n q s).node.history) false (Some (reset_for_no_connection s)) far)) refl))
 
       far_arrival : (where_found : Option ℕ) → position (serves q) n.connections ≡ where_found → Acts (Arrived q s) (arrives_at m served n q s where_found)
       far_arrival o e =
@@ -153,12 +174,14 @@ module _ (m : AppSpec) (served : ℕ → Bool) (n : AbstractNode) (p : Sockets) 
                 (let old : Connection = serving q n.connections in
                 let event : Event = Arrived q s in
                 let out : Outcome = asked m (snapshot n event k) (on_segment m old n.numbers s) in
-                let keeps : out.connection.sockets ≡ old.sockets = asked_keeps m (snapshot n event k) old (on_segment m old n.numbers s) (on_segment_keeps m old n.numbers s) in
+                let keeps : out.connection.sockets ≡ old.sockets = asked_keeps m (snapshot n event k) old (on_segment m old n.numbers s)
+                (on_segment_keeps m old n.numbers s) in
                 let same : old.sockets ≡ q = same_is old.sockets q (and_true (is_live old.state) (same_sockets old.sockets q) u).1 in
                 let slot : connection_in k n ≡ old = index_of n.connections k closed old at_k in
                 let other : k ≡ i → ⊥ = λ z. (let w : Some old ≡ Some c = sym at_k ∙ ap (slice_get n.connections) z ∙ at in
                 let y : old ≡ c = cc in let x : same_sockets q p ≡ true = is_same q p (sym same ∙ ap (λ t. t.sockets) y ∙ peer) in cc) in
-                let h : Acts event (happened m n event k old out) = elsewhere event k old out no_call other far_came (ap (λ z. same_sockets z p) (keeps ∙ same) ∙ far) in
+                let h : Acts event (happened m n event k old out) = elsewhere event k old out no_call other far_came
+                (ap (λ z. same_sockets z p) (keeps ∙ same) ∙ far) in
                 let k' : o ≡ Some k = sym e ∙ g ∙ ap Some (omega arith) in
                 subst (λ z. Acts event (arrives_at m served n q s z)) (sym k')
                 (subst (λ z. Acts event (happened m n event k z (asked m (snapshot n event k) (on_segment m z n.numbers s)))) (sym slot) h))
@@ -173,7 +196,8 @@ module _ (m : AppSpec) (served : ℕ → Bool) (n : AbstractNode) (p : Sockets) 
               (let k' : k ≡ i = single p k i (serving p n.connections) c at_k at u own in
               let event : Event = Arrived p s in
               let out : Outcome = asked m (snapshot n event i) (on_segment m c n.numbers s) in
-              let keeps : out.connection.sockets ≡ c.sockets = asked_keeps m (snapshot n event i) c (on_segment m c n.numbers s) (on_segment_keeps m c n.numbers s) in
+              let keeps : out.connection.sockets ≡ c.sockets = asked_keeps m (snapshot n event i) c (on_segment m c n.numbers s)
+              (on_segment_keeps m c n.numbers s) in
               let slot : connection_in i n ≡ c = index_of n.connections i closed c at in
               let h : Acts event (happened m n event i c out) = is_met s refl (acted event (Some s) out (came_here p p s refl) (keeps ∙ peer)) in
               let o' : o ≡ Some i = sym e ∙ g ∙ ap Some (let z : 0 + k ≡ k = omega arith in z) ∙ ap Some k' in
@@ -185,7 +209,8 @@ module _ (m : AppSpec) (served : ℕ → Bool) (n : AbstractNode) (p : Sockets) 
     arrival : (q : Sockets) (s : PlainSegment) → Acts (Arrived q s) (step m served n (Arrived q s))
     arrival q s =
         both_ways (same_sockets q p)
-        (λ e. let z : p ≡ q = sym (same_is q p e) in subst (λ k. Acts (Arrived k s) (step m served n (Arrived k s))) z (own_arrival s (position (serves p) n.connections) refl))
+        (λ e. let z : p ≡ q = sym (same_is q p e) in subst (λ k. Acts (Arrived k s) (step m served n (Arrived k s))) z
+        (own_arrival s (position (serves p) n.connections) refl))
         (λ e. far_arrival q s e (position (serves q) n.connections) refl)
 
     pub acts : (event : Event) → Acts event (step m served n event)

@@ -1,5 +1,9 @@
 -- What is known of an application's state on a connection, by the pages that it has at its port, and of the text that was sent.
-use Rattle.node_laws.proofs.Prelude.{◌≡◌, ℕ, ◌+◌, ◌≤◌, ◌⊎◌, true, false, List, [], ◌∷◌, ◌++◌, length, take, drop, refl, sym, ap, ◌∙◌, subst, arith, inl, inr, length-take, append_assoc, take-append-le, take-append-drop, IsPrefixOf, Pages, MayWant, AppState, Snapshot, AppSpec, Now, Close, delivers_text, IsSlice, IsSteady, IsPart, append_nothing, cut_part, cut_length, prefix_part, prefix_refl, OutputModel, Paged, Interactive, Free, AcceptsPrefix, IsPagedAt, FollowsPagesAt, LeavesDelivered, FollowsModelAt}
+use Rattle.node_laws.proofs.Prelude.{◌≡◌, ℕ, ◌+◌, ◌≤◌, ◌⊎◌, true, false, List, [], ◌∷◌, ◌++◌, length, take, drop, refl, sym, ap, ◌∙◌, subst}
+use Rattle.node_laws.proofs.Prelude.{arith, inl, inr, length-take, append_assoc, take-append-le, take-append-drop, IsPrefixOf, Pages}
+use Rattle.node_laws.proofs.Prelude.{MayWant, AppState, Snapshot, AppSpec, Now, Close, delivers_text, IsSlice, IsSteady, IsPart}
+use Rattle.node_laws.proofs.Prelude.{append_nothing, cut_part, cut_length, prefix_part, prefix_refl, OutputModel, Paged, Interactive, Free}
+use Rattle.node_laws.proofs.Prelude.{AcceptsPrefix, IsPagedAt, FollowsPagesAt, LeavesDelivered, FollowsModelAt}
 
 -- ---- prefixes of texts
 
@@ -55,7 +59,8 @@ reported_starts (Paged pages) E none = (record { rest = pages.page [] []; joined
 reported_starts (Interactive sessions) E none = ([], prefix_refl [], (record { rest = sessions.page [] []; joined = refl }, λ e. absurd (none e)))
 reported_starts Free E none = tt
 
-pub reported_where : (model : OutputModel) (E F : Type 0) → (F → E) → (text : List ℕ) (k : List Snapshot) (sent : List ℕ) → IsReported model E text k sent → IsReported model F text k sent
+pub reported_where : (model : OutputModel) (E F : Type 0) → (F → E) → (text : List ℕ) (k : List Snapshot) (sent : List ℕ)
+    → IsReported model E text k sent → IsReported model F text k sent
 reported_where (Paged pages) E F to text k sent h = (h.0, λ f. h.1 (to f))
 reported_where (Interactive sessions) E F to text k sent h = (h.0, h.1, (h.2.0, λ f. h.2.1 (to f)))
 reported_where Free E F to text k sent h = tt
@@ -64,7 +69,8 @@ all_prefix : (xs ys : List ℕ) → xs ≡ ys → IsPrefixOf xs ys
 all_prefix xs ys e = subst (λ z. IsPrefixOf xs z) e (prefix_refl xs)
 
 -- the end of the page gives both
-pub reported_end : (model : OutputModel) (E : Type 0) (text : List ℕ) (k : List Snapshot) (sent : List ℕ) → IsEnd model text k sent → IsReported model E text k sent
+pub reported_end : (model : OutputModel) (E : Type 0) (text : List ℕ) (k : List Snapshot) (sent : List ℕ) → IsEnd model text k sent
+    → IsReported model E text k sent
 reported_end (Paged pages) E text k sent h = (all_prefix sent (pages.page text k) h.0, λ e. h)
 reported_end (Interactive sessions) E text k sent h = (h.0, h.1, (all_prefix sent (sessions.page h.0 k) h.2.0, λ e. h.2))
 reported_end Free E text k sent h = tt
@@ -72,10 +78,12 @@ reported_end Free E text k sent h = tt
 module _ (m : AppSpec) (port : ℕ) where
   -- of the pages of a port
   module _ (pages : Pages) (l : FollowsPagesAt m port pages) where
-    end_of_on : (delivered more : List ℕ) (k later : List Snapshot) (sent : List ℕ) → IsEndOf pages delivered k sent → IsEndOf pages (delivered ++ more) (k ++ later) sent
+    end_of_on : (delivered more : List ℕ) (k later : List Snapshot) (sent : List ℕ) → IsEndOf pages delivered k sent
+        → IsEndOf pages (delivered ++ more) (k ++ later) sent
     end_of_on delivered more k later sent h = (h.0 ∙ sym (l.stays delivered more k later h.1), l.stays_complete delivered more k later h.1)
 
-    text_on : (E : Type 0) (delivered more : List ℕ) (k later : List Snapshot) (sent : List ℕ) → IsTextOf pages E delivered k sent → IsTextOf pages E (delivered ++ more) (k ++ later) sent
+    text_on : (E : Type 0) (delivered more : List ℕ) (k later : List Snapshot) (sent : List ℕ) → IsTextOf pages E delivered k sent
+        → IsTextOf pages E (delivered ++ more) (k ++ later) sent
     text_on E delivered more k later sent h = (
       prefix_trans sent (pages.page delivered k) (pages.page (delivered ++ more) (k ++ later)) h.0 (l.grows delivered more k later),
       λ e. end_of_on delivered more k later sent (h.1 e),
@@ -110,7 +118,14 @@ module _ (m : AppSpec) (port : ℕ) where
             ]
             | inr g ↦ (let n = x.no_more g.0 in
                 let old : IsPrefixOf p.input text = g.1 in
-                inr (n.1, record { rest = old.rest ++ piece; joined = ap (λ z. z ++ (old.rest ++ piece)) n.0 ∙ sym (append_assoc p.input old.rest piece) ∙ ap (λ z. z ++ piece) old.joined }))
+                inr (
+                  n.1,
+                  record {
+                    rest = old.rest ++ piece;
+                    joined = ap (λ z. z ++ (old.rest ++ piece)) n.0
+                        ∙ sym (append_assoc p.input old.rest piece) ∙ ap (λ z. z ++ piece) old.joined;
+                  },
+                ))
           ],
         )
 
@@ -127,7 +142,8 @@ module _ (m : AppSpec) (port : ℕ) where
     text_sent_text E none p n h = (subst (λ z. IsPrefixOf (take n (m.output p)) z) (l.output p h) (prefix_of n (m.output p)), λ e. absurd (none e))
 
     -- it closes at the end of the page
-    end_of_sent : (numbers : List ℕ) (p : AppState) → l.here p ≡ true → p.acked ≤ length (m.output p) → m.want numbers p ≡ Close → IsEndOf pages p.input p.snapshots (take p.acked (m.output p))
+    end_of_sent : (numbers : List ℕ) (p : AppState) → l.here p ≡ true → p.acked ≤ length (m.output p) → m.want numbers p ≡ Close
+        → IsEndOf pages p.input p.snapshots (take p.acked (m.output p))
     end_of_sent numbers p h fits e =
         let w : MayWant pages p Close = l.closes numbers p h fits e in
         let page : List ℕ = pages.page p.input p.snapshots in (
@@ -137,7 +153,10 @@ module _ (m : AppSpec) (port : ℕ) where
 
   -- if every piece is delivered
   received_all : (pages : Pages) (l : IsPagedAt m port pages) (p : AppState) (text : List ℕ) → ReceivedOf pages l.follows p text → p.input ≡ text
-  received_all pages l p text h = elim (h.1) [ inl e ↦ e | inr g ↦ absurd (let z : l.follows.lost p ≡ false = l.accepts_all p in let y : l.follows.lost p ≡ true = g.0 in cc) ]
+  received_all pages l p text h = elim (h.1) [
+    | inl e ↦ e
+    | inr g ↦ absurd (let z : l.follows.lost p ≡ false = l.accepts_all p in let y : l.follows.lost p ≡ true = g.0 in cc)
+  ]
 
   -- this was delivered to a state of this port, or for a session a prefix of it
   abbrev pub IsOpen : (model : OutputModel) → FollowsModelAt m port model → AppState → List ℕ → Type 0
@@ -145,14 +164,16 @@ module _ (m : AppSpec) (port : ℕ) where
   IsOpen (Interactive sessions) laws p text = ReceivedOf sessions laws p text
   IsOpen Free laws p text = Unit {0}
 
-  pub reported_on : (model : OutputModel) → FollowsModelAt m port model → (E : Type 0) (text more : List ℕ) (k later : List Snapshot) (sent : List ℕ) → IsReported model E text k sent → IsReported model E (text ++ more) (k ++ later) sent
+  pub reported_on : (model : OutputModel) → FollowsModelAt m port model → (E : Type 0) (text more : List ℕ) (k later : List Snapshot)
+      (sent : List ℕ) → IsReported model E text k sent → IsReported model E (text ++ more) (k ++ later) sent
   reported_on (Paged pages) laws E text more k later sent h = (let l : IsPagedAt m port pages = laws in text_on pages l.follows E text more k later sent h)
   reported_on (Interactive sessions) laws E text more k later sent h =
       (let g : IsTextOf sessions E (h.0 ++ []) (k ++ later) sent = text_on sessions laws E h.0 [] k later sent h.2 in
       (h.0 ++ [], subst (λ z. IsPrefixOf z (text ++ more)) (sym (append_nothing h.0)) (prefix_on h.0 text more h.1), g))
   reported_on Free laws E text more k later sent h = tt
 
-  end_on : (model : OutputModel) → FollowsModelAt m port model → (text more : List ℕ) (k later : List Snapshot) (sent : List ℕ) → IsEnd model text k sent → IsEnd model (text ++ more) (k ++ later) sent
+  end_on : (model : OutputModel) → FollowsModelAt m port model → (text more : List ℕ) (k later : List Snapshot) (sent : List ℕ)
+      → IsEnd model text k sent → IsEnd model (text ++ more) (k ++ later) sent
   end_on (Paged pages) laws text more k later sent h = (let l : IsPagedAt m port pages = laws in end_of_on pages l.follows text more k later sent h)
   end_on (Interactive sessions) laws text more k later sent h =
       (let g : IsEndOf sessions (h.0 ++ []) (k ++ later) sent = end_of_on sessions laws h.0 [] k later sent h.2 in
@@ -160,7 +181,8 @@ module _ (m : AppSpec) (port : ℕ) where
   end_on Free laws text more k later sent h = tt
 
   -- with no capture more
-  pub end_more : (model : OutputModel) → FollowsModelAt m port model → (text more : List ℕ) (k : List Snapshot) (sent : List ℕ) → IsEnd model text k sent → IsEnd model (text ++ more) k sent
+  pub end_more : (model : OutputModel) → FollowsModelAt m port model → (text more : List ℕ) (k : List Snapshot) (sent : List ℕ)
+      → IsEnd model text k sent → IsEnd model (text ++ more) k sent
   end_more model laws text more k sent h =
       subst (λ z. IsEnd model (text ++ more) z sent) (append_nothing k) (end_on model laws text more k [] sent h)
 
@@ -171,30 +193,35 @@ module _ (m : AppSpec) (port : ℕ) where
   open_new (Interactive sessions) laws numbers = received_new sessions laws numbers
   open_new Free laws numbers = tt
 
-  open_piece : (model : OutputModel) (laws : FollowsModelAt m port model) (numbers : List ℕ) (p : AppState) (piece text : List ℕ) → IsOpen model laws p text → IsOpen model laws (m.newdata numbers p piece).part (text ++ piece)
+  open_piece : (model : OutputModel) (laws : FollowsModelAt m port model) (numbers : List ℕ) (p : AppState) (piece text : List ℕ)
+      → IsOpen model laws p text → IsOpen model laws (m.newdata numbers p piece).part (text ++ piece)
   open_piece (Paged pages) laws numbers p piece text h = (let l : IsPagedAt m port pages = laws in received_piece pages l.follows numbers p piece text h)
   open_piece (Interactive sessions) laws numbers p piece text h = received_piece sessions laws numbers p piece text h
   open_piece Free laws numbers p piece text h = tt
 
-  pub open_received : (model : OutputModel) (laws : FollowsModelAt m port model) (numbers : List ℕ) (p : AppState) (piece text : List ℕ) → IsOpen model laws p text → IsOpen model laws (delivers_text m numbers p piece).part (text ++ piece)
+  pub open_received : (model : OutputModel) (laws : FollowsModelAt m port model) (numbers : List ℕ) (p : AppState) (piece text : List ℕ)
+      → IsOpen model laws p text → IsOpen model laws (delivers_text m numbers p piece).part (text ++ piece)
   open_received model laws numbers p [] text h = subst (λ z. IsOpen model laws p z) (sym (append_nothing text)) h
   open_received model laws numbers p (x ∷ xs) text h = open_piece model laws numbers p (x ∷ xs) text h
 
-  pub open_prepared : (model : OutputModel) (laws : FollowsModelAt m port model) (numbers : List ℕ) (p : AppState) (now : Now) (text : List ℕ) → IsOpen model laws p text → IsOpen model laws (m.prepare numbers p now) text
+  pub open_prepared : (model : OutputModel) (laws : FollowsModelAt m port model) (numbers : List ℕ) (p : AppState) (now : Now)
+      (text : List ℕ) → IsOpen model laws p text → IsOpen model laws (m.prepare numbers p now) text
   open_prepared (Paged pages) laws numbers p now text h =
       (let l : IsPagedAt m port pages = laws in received_left pages l.follows p (m.prepare numbers p now) text (l.follows.prepare numbers p now h.0) h)
   open_prepared (Interactive sessions) laws numbers p now text h =
       (let l : FollowsPagesAt m port sessions = laws in received_left sessions l p (m.prepare numbers p now) text (l.prepare numbers p now h.0) h)
   open_prepared Free laws numbers p now text h = tt
 
-  pub open_acked : (model : OutputModel) (laws : FollowsModelAt m port model) (numbers : List ℕ) (p : AppState) (n : ℕ) (text : List ℕ) → IsOpen model laws p text → IsOpen model laws (m.acked numbers p n).part text
+  pub open_acked : (model : OutputModel) (laws : FollowsModelAt m port model) (numbers : List ℕ) (p : AppState) (n : ℕ) (text : List ℕ)
+      → IsOpen model laws p text → IsOpen model laws (m.acked numbers p n).part text
   open_acked (Paged pages) laws numbers p n text h =
       (let l : IsPagedAt m port pages = laws in received_left pages l.follows p (m.acked numbers p n).part text (l.follows.acked numbers p n h.0) h)
   open_acked (Interactive sessions) laws numbers p n text h =
       (let l : FollowsPagesAt m port sessions = laws in received_left sessions l p (m.acked numbers p n).part text (l.acked numbers p n h.0) h)
   open_acked Free laws numbers p n text h = tt
 
-  pub open_polled : (model : OutputModel) (laws : FollowsModelAt m port model) (numbers : List ℕ) (p : AppState) (text : List ℕ) → IsOpen model laws p text → IsOpen model laws (m.polled numbers p).part text
+  pub open_polled : (model : OutputModel) (laws : FollowsModelAt m port model) (numbers : List ℕ) (p : AppState) (text : List ℕ)
+      → IsOpen model laws p text → IsOpen model laws (m.polled numbers p).part text
   open_polled (Paged pages) laws numbers p text h =
       (let l : IsPagedAt m port pages = laws in received_left pages l.follows p (m.polled numbers p).part text (l.follows.polled numbers p h.0) h)
   open_polled (Interactive sessions) laws numbers p text h =
@@ -203,7 +230,8 @@ module _ (m : AppSpec) (port : ℕ) where
 
   -- ---- what it sends
 
-  pub reported_sent : (model : OutputModel) (laws : FollowsModelAt m port model) (E : Type 0) → (E → ⊥) → (p : AppState) (text : List ℕ) (n : ℕ) → IsOpen model laws p text → IsReported model E text p.snapshots (take n (m.output p))
+  pub reported_sent : (model : OutputModel) (laws : FollowsModelAt m port model) (E : Type 0) → (E → ⊥)
+      → (p : AppState) (text : List ℕ) (n : ℕ) → IsOpen model laws p text → IsReported model E text p.snapshots (take n (m.output p))
   reported_sent (Paged pages) laws E none p text n h =
       (let l : IsPagedAt m port pages = laws in
       subst (λ z. IsTextOf pages E z p.snapshots (take n (m.output p))) (received_all pages l p text h) (text_sent_text pages l.follows E none p n h.0))
@@ -211,11 +239,16 @@ module _ (m : AppSpec) (port : ℕ) where
   reported_sent Free laws E none p text n h = tt
 
   -- it closes at the end of the page
-  pub end_sent : (model : OutputModel) (laws : FollowsModelAt m port model) (numbers : List ℕ) (p : AppState) (text : List ℕ) → IsOpen model laws p text → p.acked ≤ length (m.output p) → m.want numbers p ≡ Close → IsEnd model text p.snapshots (take p.acked (m.output p))
+  pub end_sent : (model : OutputModel) (laws : FollowsModelAt m port model) (numbers : List ℕ) (p : AppState) (text : List ℕ)
+      → IsOpen model laws p text → p.acked ≤ length (m.output p) → m.want numbers p ≡ Close → IsEnd model text p.snapshots (take p.acked (m.output p))
   end_sent (Paged pages) laws numbers p text h fits e =
       (let l : IsPagedAt m port pages = laws in
       subst (λ z. IsEndOf pages z p.snapshots (take p.acked (m.output p))) (received_all pages l p text h) (end_of_sent pages l.follows numbers p h.0 fits e))
-  end_sent (Interactive sessions) laws numbers p text h fits e = (p.input, received_prefix sessions laws p text h, end_of_sent sessions laws numbers p h.0 fits e)
+  end_sent (Interactive sessions) laws numbers p text h fits e = (
+    p.input,
+    received_prefix sessions laws p text h,
+    end_of_sent sessions laws numbers p h.0 fits e,
+  )
   end_sent Free laws numbers p text h fits e = tt
 
   -- ---- what deliveries and captures do

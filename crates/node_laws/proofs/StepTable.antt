@@ -1,6 +1,18 @@
 -- What a step of a connection accepts from its peer, and what its page is then.
-use Rattle.node_laws.proofs.Prelude.{◌≡◌, ℕ, ◌+◌, Bool, true, false, not, ◌&&◌, ◌||◌, ◌⊎◌, inl, inr, List, [], ◌∷◌, ◌++◌, length, refl, sym, ap, ◌∙◌, subst, arith, Option, Some, None, length-append, eqb, ltb, append_assoc, take, drop, length-drop, ◌≤◌, if◌then◌else◌, wrap, PlainSegment, has_fin, has_rst, has_syn, Beat, AppState, Snapshot, AppSpec, IsPrefixOf, CanSend, Now, State, Closed, SynRcvd, Established, CloseWait, FinWait1, FinWait2, Closing, TimeWait, LastAck, Want, Nothing, Send, Close, Abort, take-add, Connection, Sockets, is_live, rcv_nxt, occupies_sequence_space, segment_of, text_segment, Outcome, after_own_fin, closes, peer_has_closed, idles, does_as_wanted, prepared, asked, accepted, delivers_text, is_out_of_order, is_acked, rests, has_text, in_state, takes, with_part, with_window, in_established, peer_closes, stays_established, fin_acked, fin_waits, by_state, on_segment, grows_older, by_beat, on_tick, Step, choose, both_ways, append_nothing, ltb-zero, and_false, eqb-eq, not-false, prefix_length, prefix_refl, is_open, asked_by, by_open, is_ask, no_ask_again, on_tick_by, open_live, segment_moves, tick_moves, IsSteady, OutputModel, FollowsModelAt}
-use Rattle.node_laws.proofs.Speaking.{IsEnd, IsReported, IsOpen, end_more, end_sent, prefix_size, received_is, open_acked, open_received, open_new, open_polled, open_prepared, prepared_is, equal_prefix, reported_sent}
+use Rattle.node_laws.proofs.Prelude.{◌≡◌, ℕ, ◌+◌, Bool, true, false, not, ◌&&◌, ◌||◌, ◌⊎◌, inl, inr, List, [], ◌∷◌, ◌++◌, length, refl, sym}
+use Rattle.node_laws.proofs.Prelude.{ap, ◌∙◌, subst, arith, Option, Some, None, length-append, eqb, ltb, append_assoc, take, drop}
+use Rattle.node_laws.proofs.Prelude.{length-drop, ◌≤◌, if◌then◌else◌, wrap, PlainSegment, has_fin, has_rst, has_syn, Beat, AppState}
+use Rattle.node_laws.proofs.Prelude.{Snapshot, AppSpec, IsPrefixOf, CanSend, Now, State, Closed, SynRcvd, Established, CloseWait, FinWait1}
+use Rattle.node_laws.proofs.Prelude.{FinWait2, Closing, TimeWait, LastAck, Want, Nothing, Send, Close, Abort, take-add, Connection, Sockets}
+use Rattle.node_laws.proofs.Prelude.{is_live, rcv_nxt, occupies_sequence_space, segment_of, text_segment, Outcome, after_own_fin, closes}
+use Rattle.node_laws.proofs.Prelude.{peer_has_closed, idles, does_as_wanted, prepared, asked, accepted, delivers_text, is_out_of_order}
+use Rattle.node_laws.proofs.Prelude.{is_acked, rests, has_text, in_state, takes, with_part, with_window, in_established, peer_closes}
+use Rattle.node_laws.proofs.Prelude.{stays_established, fin_acked, fin_waits, by_state, on_segment, grows_older, by_beat, on_tick, Step}
+use Rattle.node_laws.proofs.Prelude.{choose, both_ways, append_nothing, ltb-zero, and_false, eqb-eq, not-false, prefix_length, prefix_refl}
+use Rattle.node_laws.proofs.Prelude.{is_open, asked_by, by_open, is_ask, no_ask_again, on_tick_by, open_live, segment_moves, tick_moves}
+use Rattle.node_laws.proofs.Prelude.{IsSteady, OutputModel, FollowsModelAt}
+use Rattle.node_laws.proofs.Speaking.{IsEnd, IsReported, IsOpen, end_more, end_sent, prefix_size, received_is, open_acked, open_received}
+use Rattle.node_laws.proofs.Speaking.{open_new, open_polled, open_prepared, prepared_is, equal_prefix, reported_sent}
 
 -- the numbers that a FIN or a SYN takes up
 abbrev pub numbers_for : Bool → ℕ
@@ -29,7 +41,10 @@ bare s h =
 -- what is not out of order, and occupies sequence space, is at the expected number
 in_order : (c : Connection) (s : PlainSegment) → is_out_of_order c s ≡ false → occupies_sequence_space s ≡ true → s.seq ≡ rcv_nxt c
 in_order c s h p =
-    elim (and_false (occupies_sequence_space s) (not (eqb s.seq (rcv_nxt c))) h) [ inl x ↦ absurd (cc) | inr y ↦ eqb-eq s.seq (rcv_nxt c) (not-false (eqb s.seq (rcv_nxt c)) y) ]
+    elim (and_false (occupies_sequence_space s) (not (eqb s.seq (rcv_nxt c))) h) [
+      | inl x ↦ absurd (cc)
+      | inr y ↦ eqb-eq s.seq (rcv_nxt c) (not-false (eqb s.seq (rcv_nxt c)) y)
+    ]
 
 -- one more segment that is taken
 pub record Reads (received : Option PlainSegment) (irs : ℕ) (text : List ℕ) (e : Bool) (now : List ℕ) (over : Bool) : Type 0 where
@@ -44,7 +59,9 @@ abbrev pub Reading : Option PlainSegment → ℕ → List ℕ → Bool → List 
 Reading received irs text e now over = ((now ≡ text) × (over ≡ e)) ⊎ Reads received irs text e now over
 
 -- text and FIN in their turn
-in_turn : (irs taken : ℕ) (text : List ℕ) (e : Bool) (s : PlainSegment) (fin : Bool) → (occupies_sequence_space s ≡ true → s.seq ≡ wrap (irs + 1 + taken)) → e ≡ false → taken ≡ length text + numbers_for e → (fin ≡ true → has_fin s.flags ≡ true)
+in_turn : (irs taken : ℕ) (text : List ℕ) (e : Bool) (s : PlainSegment) (fin : Bool)
+    → (occupies_sequence_space s ≡ true → s.seq ≡ wrap (irs + 1 + taken)) → e ≡ false → taken ≡ length text + numbers_for e
+    → (fin ≡ true → has_fin s.flags ≡ true)
     → Reading (Some s) irs text e (text ++ s.text) fin
 in_turn irs taken text e s fin order q t f =
     both_ways (occupies_sequence_space s)
@@ -57,7 +74,10 @@ in_turn irs taken text e s fin order q t f =
       fin = f;
     })
     (λ p. (let b : IsBare s = bare s p in
-    inl (ap (λ l. text ++ l) b.text ∙ append_nothing text, both_ways fin (λ g. absurd (let z : has_fin s.flags ≡ true = f g in let y : has_fin s.flags ≡ false = b.fin in cc)) (λ g. g ∙ sym q))))
+    inl (
+      ap (λ l. text ++ l) b.text ∙ append_nothing text,
+      both_ways fin (λ g. absurd (let z : has_fin s.flags ≡ true = f g in let y : has_fin s.flags ≡ false = b.fin in cc)) (λ g. g ∙ sym q),
+    )))
 
 -- What is known of a connection, and of the text that was sent; `F` states that no FIN was.
 module _ (m : AppSpec) (port : ℕ) (model : OutputModel) (laws : FollowsModelAt m port model) (F : Type 0) where
@@ -137,7 +157,16 @@ module _ (m : AppSpec) (port : ℕ) (model : OutputModel) (laws : FollowsModelAt
   -- a connection that grows older
   older_page : (c : Connection) (st : State) (text : List ℕ) (e : Bool) (sent : List ℕ) → AtPage st c text e sent → AtPage st (grows_older c) text e sent
   older_page c Closed text e sent h = tt
-  older_page c SynRcvd text e sent h = record { acked = h.acked; len = h.len; none = h.none; snapshots = h.snapshots; is = h.is; unsent = h.unsent; unended = h.unended; here = h.here }
+  older_page c SynRcvd text e sent h = record {
+    acked = h.acked;
+    len = h.len;
+    none = h.none;
+    snapshots = h.snapshots;
+    is = h.is;
+    unsent = h.unsent;
+    unended = h.unended;
+    here = h.here;
+  }
   older_page c Established text e sent h = record { count = h.count; opens = h.opens; is = h.is; fits = h.fits; sent_is = h.sent_is; unended = h.unended }
   older_page c CloseWait text e sent h = record { count = h.count; opens = h.opens; is = h.is; fits = h.fits; sent_is = h.sent_is; unended = h.unended }
   older_page c FinWait1 text e sent h = record { end = h.end; count = h.count; len = h.len; is = h.is }
@@ -155,7 +184,8 @@ module _ (m : AppSpec) (port : ℕ) (model : OutputModel) (laws : FollowsModelAt
     opens = delivered h.opens;
     is = refl;
     fits = omega (arith, h.fits, sum, prefix_length (m.output c.part) (m.output d.part) grows);
-    sent_is = h.sent_is ∙ sym (equal_prefix (m.output c.part) (m.output d.part) (c.part.acked + c.len) grows h.fits) ∙ ap (λ n. take n (m.output d.part)) (sym sum);
+    sent_is = h.sent_is ∙ sym (equal_prefix (m.output c.part) (m.output d.part) (c.part.acked + c.len) grows h.fits)
+        ∙ ap (λ n. take n (m.output d.part)) (sym sum);
     unended = h.unended;
   }
 
@@ -164,7 +194,8 @@ module _ (m : AppSpec) (port : ℕ) (model : OutputModel) (laws : FollowsModelAt
   open_like fin c text e e' sent q h = subst (λ z. AtOpen fin c text z sent) q h
 
   -- in ESTABLISHED and CLOSE-WAIT
-  open_page : (c d : Connection) (st : State) (text : List ℕ) (e : Bool) (sent : List ℕ) → is_open st ≡ true → (c.acked ≡ 1 + c.part.acked → d.acked ≡ 1 + d.part.acked)
+  open_page : (c d : Connection) (st : State) (text : List ℕ) (e : Bool) (sent : List ℕ) → is_open st ≡ true
+      → (c.acked ≡ 1 + c.part.acked → d.acked ≡ 1 + d.part.acked)
       → d.part.acked + d.len ≡ c.part.acked + c.len → IsPrefixOf (m.output c.part) (m.output d.part)
       → (IsOpen m port model laws c.part text → IsOpen m port model laws d.part text) → AtPage st c text e sent → AtPage st d text e sent
   open_page c d st text e sent o count sum grows delivered h =
@@ -173,7 +204,9 @@ module _ (m : AppSpec) (port : ℕ) (model : OutputModel) (laws : FollowsModelAt
       (λ g. open_like true d text true e sent (sym g.is) (open_on true true c d text text e sent count sum grows delivered g)) st o h
 
   -- more is accepted after the end
-  ends_on : (far far' : ℕ) (fin fin' : Bool) (c d : Connection) (text more : List ℕ) (e : Bool) (sent : List ℕ) → d.part.snapshots ≡ c.part.snapshots → d.acked + far ≡ c.acked + far' → d.len + far' ≡ 2 → AtEnd far fin c text e sent → AtEnd far' fin' d (text ++ more) fin' sent
+  ends_on : (far far' : ℕ) (fin fin' : Bool) (c d : Connection) (text more : List ℕ) (e : Bool) (sent : List ℕ)
+      → d.part.snapshots ≡ c.part.snapshots → d.acked + far ≡ c.acked + far' → d.len + far' ≡ 2 → AtEnd far fin c text e sent
+      → AtEnd far' fin' d (text ++ more) fin' sent
   ends_on far far' fin fin' c d text more e sent k a l h = record {
     end = subst (λ z. IsEnd model (text ++ more) z sent) (sym k) (end_more m port model laws text more c.part.snapshots sent h.end);
     count = omega (arith, a, h.count);
@@ -184,32 +217,48 @@ module _ (m : AppSpec) (port : ℕ) (model : OutputModel) (laws : FollowsModelAt
   -- ---- asking
 
   -- b, which c became, becomes d
-  moved_to : (received : Option PlainSegment) (c : Connection) (text : List ℕ) (e : Bool) (sent sent' : List ℕ) (b d : Connection) (w : Moved received c text e sent b) → d.part.snapshots ≡ b.part.snapshots → d.irs ≡ b.irs → d.taken ≡ b.taken → AtPage d.state d w.now w.over sent' → Moved received c text e sent' d
-  moved_to received c text e sent sent' b d w k p t a = record { now = w.now; over = w.over; read = w.read; more = w.more; snapshots = k ∙ w.snapshots; irs = p ∙ w.irs; page = record { at = a; taken = t ∙ w.page.taken } }
+  moved_to : (received : Option PlainSegment) (c : Connection) (text : List ℕ) (e : Bool) (sent sent' : List ℕ) (b d : Connection)
+      (w : Moved received c text e sent b) → d.part.snapshots ≡ b.part.snapshots → d.irs ≡ b.irs → d.taken ≡ b.taken
+      → AtPage d.state d w.now w.over sent' → Moved received c text e sent' d
+  moved_to received c text e sent sent' b d w k p t a = record {
+    now = w.now;
+    over = w.over;
+    read = w.read;
+    more = w.more;
+    snapshots = k ∙ w.snapshots;
+    irs = p ∙ w.irs;
+    page = record { at = a; taken = t ∙ w.page.taken };
+  }
 
   -- the FIN is sent after what was sent
-  ends_page : (b d : Connection) (numbers text : List ℕ) (e fin : Bool) (sent : List ℕ) → d.acked ≡ b.acked → d.len ≡ 1 → d.part ≡ b.part → b.len ≡ 0 → m.want numbers b.part ≡ Close → AtOpen fin b text e sent → AtEnd 1 fin d text e sent
+  ends_page : (b d : Connection) (numbers text : List ℕ) (e fin : Bool) (sent : List ℕ) → d.acked ≡ b.acked → d.len ≡ 1 → d.part ≡ b.part
+      → b.len ≡ 0 → m.want numbers b.part ≡ Close → AtOpen fin b text e sent → AtEnd 1 fin d text e sent
   ends_page b d numbers text e fin sent a l p z w g =
       let f : b.part.acked ≤ length (m.output b.part) = omega (arith, g.fits) in
       let all : sent ≡ take b.part.acked (m.output b.part) = g.sent_is ∙ ap (λ n. take n (m.output b.part)) (omega (arith, z)) in
       let size : length sent ≡ b.part.acked = ap length all ∙ prefix_size b.part.acked (m.output b.part) f in
       record {
-        end = subst (λ q. IsEnd model text q.snapshots sent) (sym p) (subst (λ q. IsEnd model text b.part.snapshots q) (sym all) (end_sent m port model laws numbers b.part text g.opens f w));
+        end = subst (λ q. IsEnd model text q.snapshots sent) (sym p) (subst (λ q. IsEnd model text b.part.snapshots q) (sym all)
+            (end_sent m port model laws numbers b.part text g.opens f w));
         count = omega (arith, a, g.count, size);
         len = omega (arith, l);
         is = g.is;
       }
 
-  closing_page : (b d : Connection) (st : State) (numbers text : List ℕ) (e : Bool) (sent : List ℕ) → is_open st ≡ true → d.acked ≡ b.acked → d.len ≡ 1 → d.part ≡ b.part → b.len ≡ 0 → m.want numbers b.part ≡ Close → AtPage st b text e sent → AtPage (after_own_fin st) d text e sent
+  closing_page : (b d : Connection) (st : State) (numbers text : List ℕ) (e : Bool) (sent : List ℕ) → is_open st ≡ true → d.acked ≡ b.acked
+      → d.len ≡ 1 → d.part ≡ b.part → b.len ≡ 0 → m.want numbers b.part ≡ Close → AtPage st b text e sent → AtPage (after_own_fin st) d text e sent
   closing_page b d st numbers text e sent o a l p z w h =
-      by_open (λ x. AtPage x b text e sent → AtPage (after_own_fin x) d text e sent) (λ g. ends_page b d numbers text e false sent a l p z w g) (λ g. ends_page b d numbers text e true sent a l p z w g) st o h
+      by_open (λ x. AtPage x b text e sent → AtPage (after_own_fin x) d text e sent) (λ g. ends_page b d numbers text e false sent a l p z w
+      g) (λ g. ends_page b d numbers text e true sent a l p z w g) st o h
 
   -- where the application may speak
-  opened : (c : Connection) (st : State) (text : List ℕ) (e : Bool) (sent : List ℕ) → is_open st ≡ true → AtPage st c text e sent → (fin : Bool) × AtOpen fin c text e sent
+  opened : (c : Connection) (st : State) (text : List ℕ) (e : Bool) (sent : List ℕ) → is_open st ≡ true → AtPage st c text e sent
+      → (fin : Bool) × AtOpen fin c text e sent
   opened c st text e sent o h = by_open (λ x. AtPage x c text e sent → (fin : Bool) × AtOpen fin c text e sent) (λ g. (false, g)) (λ g. (true, g)) st o h
 
   -- new text goes out
-  module _ (b d : Connection) (n : ℕ) (text : List ℕ) (e : Bool) (sent : List ℕ) (part : d.part ≡ b.part) (acked : d.acked ≡ b.acked) (idle : b.len ≡ 0) (len : d.len ≤ n) (there : n ≤ length (drop b.part.acked (m.output b.part))) where
+  module _ (b d : Connection) (n : ℕ) (text : List ℕ) (e : Bool) (sent : List ℕ) (part : d.part ≡ b.part) (acked : d.acked ≡ b.acked)
+      (idle : b.len ≡ 0) (len : d.len ≤ n) (there : n ≤ length (drop b.part.acked (m.output b.part))) where
     abbrev text_sent : List ℕ
     text_sent = sent ++ (text_segment m d).text
 
@@ -217,7 +266,8 @@ module _ (m : AppSpec) (port : ℕ) (model : OutputModel) (laws : FollowsModelAt
     sends_open fin g =
         let size : length (m.output d.part) ≡ length (m.output b.part) = ap (λ q. length (m.output q)) part in
         let at : d.part.acked ≡ b.part.acked = ap (λ q. q.acked) part in
-        let prefix : sent ≡ take d.part.acked (m.output d.part) = g.sent_is ∙ ap (λ k. take k (m.output b.part)) (omega (arith, idle, at)) ∙ ap (λ q. take d.part.acked (m.output q)) (sym part) in
+        let prefix : sent ≡ take d.part.acked (m.output d.part) = g.sent_is ∙ ap (λ k. take k (m.output b.part)) (omega (arith, idle, at))
+        ∙ ap (λ q. take d.part.acked (m.output q)) (sym part) in
         record {
           count = omega (arith, g.count, acked, at);
           opens = subst (λ q. IsOpen m port model laws q text) (sym part) g.opens;
@@ -239,41 +289,52 @@ module _ (m : AppSpec) (port : ℕ) (model : OutputModel) (laws : FollowsModelAt
           joined = refl;
           acked = omega (arith, acked, g.count, size);
           unended = g.unended;
-          of_page = subst (λ z. IsReported model ⊥ text d.part.snapshots z) (sym q.sent_is) (reported_sent m port model laws ⊥ (λ none. none) d.part text (d.part.acked + d.len) q.opens);
+          of_page = subst (λ z. IsReported model ⊥ text d.part.snapshots z) (sym q.sent_is)
+              (reported_sent m port model laws ⊥ (λ none. none) d.part text (d.part.acked + d.len) q.opens);
         }
 
     sends_page : (st : State) → is_open st ≡ true → AtPage st b text e sent → AtPage st d text e text_sent
     sends_page st o h = by_open (λ x. AtPage x b text e sent → AtPage x d text e text_sent) (λ g. sends_open false g) (λ g. sends_open true g) st o h
 
   -- nothing new is sent
-  keeps_sent : (received : Option PlainSegment) (c : Connection) (text : List ℕ) (e : Bool) (sent : List ℕ) (o : Outcome) → Moved received c text e sent o.connection → Spoke received c text e sent o
+  keeps_sent : (received : Option PlainSegment) (c : Connection) (text : List ℕ) (e : Bool) (sent : List ℕ) (o : Outcome)
+      → Moved received c text e sent o.connection → Spoke received c text e sent o
   keeps_sent received c text e sent o g = record { sent_now = sent; moved = g; adds = inl refl }
 
   pub accepted_page : (iss : ℕ) (sockets : Sockets) (s : PlainSegment) → sockets.own_port.0 ≡ port → F → Page (accepted iss sockets s) [] false []
-  accepted_page iss sockets s here unended = record { at = record { acked = refl; len = refl; none = refl; snapshots = refl; is = refl; unsent = refl; unended = unended; here = here }; taken = refl }
+  accepted_page iss sockets s here unended =
+      record { at = record { acked = refl; len = refl; none = refl; snapshots = refl; is = refl; unsent = refl; unended = unended; here = here }; taken = refl }
 
   module _ (steady : IsSteady m) where
-    wanted_spoke : (received : Option PlainSegment) (c : Connection) (text : List ℕ) (e : Bool) (sent : List ℕ) (w : Want) (fresh : Bool) (b : Connection) (numbers : List ℕ) → m.want numbers b.part ≡ w → is_open b.state ≡ true → b.len ≡ 0
-        → CanSend w (length (drop b.part.acked (m.output b.part))) → Moved received c text e sent b → Spoke received c text e sent (does_as_wanted w fresh b numbers)
+    wanted_spoke : (received : Option PlainSegment) (c : Connection) (text : List ℕ) (e : Bool) (sent : List ℕ) (w : Want) (fresh : Bool)
+        (b : Connection) (numbers : List ℕ) → m.want numbers b.part ≡ w → is_open b.state ≡ true → b.len ≡ 0
+        → CanSend w (length (drop b.part.acked (m.output b.part))) → Moved received c text e sent b
+        → Spoke received c text e sent (does_as_wanted w fresh b numbers)
     unfolding idles moved_to
-    wanted_spoke received c text e sent Abort fresh b numbers q o z can g = keeps_sent received c text e sent _ (moved_to received c text e sent sent b (closes b) g refl refl refl tt)
+    wanted_spoke received c text e sent Abort fresh b numbers q o z can g = keeps_sent received c text e sent _
+        (moved_to received c text e sent sent b (closes b) g refl refl refl tt)
     wanted_spoke received c text e sent Close fresh b numbers q o z can g =
         let d : Connection = record b { state = after_own_fin b.state; len = 1; age = 0 } in
-        keeps_sent received c text e sent _ (moved_to received c text e sent sent b d g refl refl refl (closing_page b d b.state numbers g.now g.over sent o refl refl refl z q g.page.at))
+        keeps_sent received c text e sent _ (moved_to received c text e sent sent b d g refl refl refl
+        (closing_page b d b.state numbers g.now g.over sent o refl refl refl z q g.page.at))
     wanted_spoke received c text e sent (Send n) fresh b numbers q o z can g =
         let d : Connection = (does_as_wanted (Send n) fresh b numbers).connection in
         let len : d.len ≤ n = omega arith in
         let x = opened b b.state g.now g.over sent o g.page.at in
         record {
           sent_now = sent ++ (text_segment m d).text;
-          moved = moved_to received c text e sent (sent ++ (text_segment m d).text) b d g refl refl refl (sends_page b d n g.now g.over sent refl refl z len can.1 b.state o g.page.at);
+          moved = moved_to received c text e sent (sent ++ (text_segment m d).text) b d g refl refl refl
+              (sends_page b d n g.now g.over sent refl refl z len can.1 b.state o g.page.at);
           adds = inr (sends_adds b d n g.now g.over sent refl refl z len can.1 x.0 (open_live b.state o) x.1);
         }
     wanted_spoke received c text e sent Nothing fresh b numbers q o z can g =
-        choose (λ (x : Outcome). Spoke received c text e sent x) (peer_has_closed b.state) _ _ (λ p. keeps_sent received c text e sent _ (moved_to received c text e sent sent b (closes b) g refl refl refl tt))
-        (λ p. choose (λ (x : Outcome). Spoke received c text e sent x) fresh _ _ (λ f. keeps_sent received c text e sent _ g) (λ f. keeps_sent received c text e sent _ g))
+        choose (λ (x : Outcome). Spoke received c text e sent x) (peer_has_closed b.state) _ _
+        (λ p. keeps_sent received c text e sent _ (moved_to received c text e sent sent b (closes b) g refl refl refl tt))
+        (λ p. choose (λ (x : Outcome). Spoke received c text e sent x) fresh _ _ (λ f. keeps_sent received c text e sent _ g)
+        (λ f. keeps_sent received c text e sent _ g))
 
-    asked_spoke : (received : Option PlainSegment) (c : Connection) (text : List ℕ) (e : Bool) (sent : List ℕ) (at : Connection → Now) (o : Outcome) → (is_ask o.step ≡ true → o.connection.len ≡ 0) → OutMoved received c text e sent o → Spoke received c text e sent (asked m at o)
+    asked_spoke : (received : Option PlainSegment) (c : Connection) (text : List ℕ) (e : Bool) (sent : List ℕ) (at : Connection → Now)
+        (o : Outcome) → (is_ask o.step ≡ true → o.connection.len ≡ 0) → OutMoved received c text e sent o → Spoke received c text e sent (asked m at o)
     asked_spoke received c text e sent at o idle h =
         asked_by m (λ x. Spoke received c text e sent x) at o
         (λ a fresh. (let now : Now = at o.connection in
@@ -294,18 +355,31 @@ module _ (m : AppSpec) (port : ℕ) (model : OutputModel) (laws : FollowsModelAt
             taken = w.page.taken;
           };
         } in
-        wanted_spoke received c text e sent (m.want o.numbers b.part) fresh b o.numbers refl (h.open_there a) (idle a) (steady.lawful.sends o.numbers b.part tt) y))
+        wanted_spoke received c text e sent (m.want o.numbers b.part) fresh b o.numbers refl (h.open_there a) (idle a)
+        (steady.lawful.sends o.numbers b.part tt) y))
         (keeps_sent received c text e sent o h.moved)
 
     -- ---- a segment
 
     -- nothing is taken
-    stays : (received : Option PlainSegment) (c : Connection) (text : List ℕ) (e : Bool) (sent : List ℕ) (d : Connection) → Page c text e sent → d.part.snapshots ≡ c.part.snapshots → d.irs ≡ c.irs → d.taken ≡ c.taken → AtPage d.state d text e sent → Moved received c text e sent d
-    stays received c text e sent d g k p t a = record { now = text; over = e; read = inl (refl, refl); more = []; snapshots = k ∙ sym (append_nothing c.part.snapshots); irs = p; page = record { at = a; taken = t ∙ g.taken } }
+    stays : (received : Option PlainSegment) (c : Connection) (text : List ℕ) (e : Bool) (sent : List ℕ) (d : Connection)
+        → Page c text e sent → d.part.snapshots ≡ c.part.snapshots → d.irs ≡ c.irs → d.taken ≡ c.taken → AtPage d.state d text e sent
+        → Moved received c text e sent d
+    stays received c text e sent d g k p t a = record {
+      now = text;
+      over = e;
+      read = inl (refl, refl);
+      more = [];
+      snapshots = k ∙ sym (append_nothing c.part.snapshots);
+      irs = p;
+      page = record { at = a; taken = t ∙ g.taken };
+    }
 
     -- text is accepted, and a FIN after it
-    receives_on : (c : Connection) (text : List ℕ) (e : Bool) (sent : List ℕ) (s : PlainSegment) (fin : Bool) (d : Connection) → (occupies_sequence_space s ≡ true → s.seq ≡ rcv_nxt c) → e ≡ false → c.taken ≡ length text + numbers_for e → (fin ≡ true → has_fin s.flags ≡ true) →
-        d.part.snapshots ≡ c.part.snapshots → d.irs ≡ c.irs → d.taken ≡ c.taken + length s.text + numbers_for fin → AtPage d.state d (text ++ s.text) fin sent → Moved (Some s) c text e sent d
+    receives_on : (c : Connection) (text : List ℕ) (e : Bool) (sent : List ℕ) (s : PlainSegment) (fin : Bool) (d : Connection)
+        → (occupies_sequence_space s ≡ true → s.seq ≡ rcv_nxt c) → e ≡ false → c.taken ≡ length text + numbers_for e → (fin ≡ true → has_fin s.flags ≡ true) →
+        d.part.snapshots ≡ c.part.snapshots → d.irs ≡ c.irs → d.taken ≡ c.taken + length s.text + numbers_for fin
+        → AtPage d.state d (text ++ s.text) fin sent → Moved (Some s) c text e sent d
     receives_on c text e sent s fin d order q t f k p n a = record {
       now = text ++ s.text;
       over = fin;
@@ -316,11 +390,14 @@ module _ (m : AppSpec) (port : ℕ) (model : OutputModel) (laws : FollowsModelAt
       page = record { at = a; taken = (let z : numbers_for e ≡ 0 = ap numbers_for q in omega (arith, n, t, z, length-append text s.text)) };
     }
 
-    shut : (received : Option PlainSegment) (c b : Connection) (text : List ℕ) (e : Bool) (sent : List ℕ) → Page c text e sent → b.part.snapshots ≡ c.part.snapshots → b.irs ≡ c.irs → b.taken ≡ c.taken → Moved received c text e sent (closes b)
+    shut : (received : Option PlainSegment) (c b : Connection) (text : List ℕ) (e : Bool) (sent : List ℕ) → Page c text e sent
+        → b.part.snapshots ≡ c.part.snapshots → b.irs ≡ c.irs → b.taken ≡ c.taken → Moved received c text e sent (closes b)
     shut received c b text e sent g k p t = stays received c text e sent (closes b) g k p t tt
 
     -- a piece is delivered to it
-    receives_open : (fin fin' : Bool) (c d : Connection) (numbers piece text : List ℕ) (e : Bool) (sent : List ℕ) → d.part ≡ (delivers_text m numbers c.part piece).part → d.acked ≡ c.acked → d.len ≡ c.len → AtOpen fin c text e sent → AtOpen fin' d (text ++ piece) fin' sent
+    receives_open : (fin fin' : Bool) (c d : Connection) (numbers piece text : List ℕ) (e : Bool) (sent : List ℕ)
+        → d.part ≡ (delivers_text m numbers c.part piece).part → d.acked ≡ c.acked → d.len ≡ c.len → AtOpen fin c text e sent
+        → AtOpen fin' d (text ++ piece) fin' sent
     receives_open fin fin' c d numbers piece text e sent part acked len h =
         let x = received_is m port steady numbers c.part piece in
         let at : d.part.acked ≡ c.part.acked = ap (λ q. q.acked) part ∙ x.acked in
@@ -329,7 +406,8 @@ module _ (m : AppSpec) (port : ℕ) (model : OutputModel) (laws : FollowsModelAt
         (λ g. subst (λ q. IsOpen m port model laws q (text ++ piece)) (sym part) (open_received m port model laws numbers c.part piece text g)) h
 
     -- all that was outstanding is acknowledged
-    acked_open : (fin : Bool) (c d : Connection) (numbers text : List ℕ) (e : Bool) (sent : List ℕ) → d.part ≡ (m.acked numbers c.part c.len).part → d.acked ≡ c.acked + c.len → d.len ≡ 0 → AtOpen fin c text e sent → AtOpen fin d text e sent
+    acked_open : (fin : Bool) (c d : Connection) (numbers text : List ℕ) (e : Bool) (sent : List ℕ)
+        → d.part ≡ (m.acked numbers c.part c.len).part → d.acked ≡ c.acked + c.len → d.len ≡ 0 → AtOpen fin c text e sent → AtOpen fin d text e sent
     acked_open fin c d numbers text e sent part acked len h =
         let left : c.len ≤ length (drop c.part.acked (m.output c.part)) = omega (arith, h.fits, length-drop c.part.acked (m.output c.part)) in
         let x = steady.lawful.acked_moves numbers c.part c.len tt left in
@@ -340,33 +418,44 @@ module _ (m : AppSpec) (port : ℕ) (model : OutputModel) (laws : FollowsModelAt
         (subst (λ z. IsPrefixOf (m.output c.part) z) (sym output) (prefix_refl (m.output c.part)))
         (λ g. subst (λ q. IsOpen m port model laws q text) (sym part) (open_acked m port model laws numbers c.part c.len text g)) h)
 
-    closing_in : (c : Connection) (text : List ℕ) (e : Bool) (sent : List ℕ) (numbers : List ℕ) (s : PlainSegment) → (occupies_sequence_space s ≡ true → s.seq ≡ rcv_nxt c) → has_fin s.flags ≡ true → AtOpen false c text e sent → c.taken ≡ length text + numbers_for e → OutMoved (Some s) c text e sent (peer_closes m c numbers s)
+    closing_in : (c : Connection) (text : List ℕ) (e : Bool) (sent : List ℕ) (numbers : List ℕ) (s : PlainSegment)
+        → (occupies_sequence_space s ≡ true → s.seq ≡ rcv_nxt c) → has_fin s.flags ≡ true → AtOpen false c text e sent
+        → c.taken ≡ length text + numbers_for e → OutMoved (Some s) c text e sent (peer_closes m c numbers s)
     unfolding peer_closes
     closing_in c text e sent numbers s order f h t =
         let x = received_is m port steady numbers c.part s.text in
         let d : Connection = in_state CloseWait (with_window s.window (with_part (delivers_text m numbers c.part s.text).part (takes (length s.text + 1) c))) in
         let a : AtOpen true d (text ++ s.text) true sent = receives_open false true c d numbers s.text text e sent refl refl refl h in
         let g : Moved (Some s) c text e sent d = receives_on c text e sent s true d order h.is t (λ z. f) x.snapshots refl (omega arith) a in
-        choose (λ (o : Outcome). OutMoved (Some s) c text e sent o) (ltb 0 c.len) _ _ (λ z. record { moved = g; open_there = λ y. refl }) (λ z. record { moved = g; open_there = λ y. refl })
+        choose (λ (o : Outcome). OutMoved (Some s) c text e sent o) (ltb 0 c.len) _ _ (λ z. record { moved = g; open_there = λ y. refl })
+        (λ z. record { moved = g; open_there = λ y. refl })
 
-    going_in : (acked : Bool) (c : Connection) (text : List ℕ) (e : Bool) (sent : List ℕ) (numbers : List ℕ) (s : PlainSegment) → (occupies_sequence_space s ≡ true → s.seq ≡ rcv_nxt c) → c.state ≡ Established → AtOpen false c text e sent → c.taken ≡ length text + numbers_for e → OutMoved (Some s) c text e sent (stays_established m acked c numbers s)
+    going_in : (acked : Bool) (c : Connection) (text : List ℕ) (e : Bool) (sent : List ℕ) (numbers : List ℕ) (s : PlainSegment)
+        → (occupies_sequence_space s ≡ true → s.seq ≡ rcv_nxt c) → c.state ≡ Established → AtOpen false c text e sent
+        → c.taken ≡ length text + numbers_for e → OutMoved (Some s) c text e sent (stays_established m acked c numbers s)
     unfolding stays_established
     going_in acked c text e sent numbers s order st h t =
         let x = received_is m port steady numbers c.part s.text in
         let d : Connection = with_window s.window (with_part (delivers_text m numbers c.part s.text).part (takes (length s.text) c)) in
         let a : AtOpen false d (text ++ s.text) false sent = receives_open false false c d numbers s.text text e sent refl refl refl h in
-        let g : Moved (Some s) c text e sent d = receives_on c text e sent s false d order h.is t (λ z. absurd (cc)) x.snapshots refl (omega arith) (page_at d Established (text ++ s.text) false sent st a) in
+        let g : Moved (Some s) c text e sent d = receives_on c text e sent s false d order h.is t (λ z. absurd (cc)) x.snapshots refl
+        (omega arith) (page_at d Established (text ++ s.text) false sent st a) in
         let o : is_open d.state ≡ true = ap is_open st in
         choose (λ (o : Outcome). OutMoved (Some s) c text e sent o) (not acked && not (has_text s)) _ _ (λ z. record { moved = g; open_there = λ y. o })
-        (λ z. choose (λ (o : Outcome). OutMoved (Some s) c text e sent o) (ltb 0 c.len) _ _ (λ f. record { moved = g; open_there = λ y. o }) (λ f. record { moved = g; open_there = λ y. o }))
+        (λ z. choose (λ (o : Outcome). OutMoved (Some s) c text e sent o) (ltb 0 c.len) _ _ (λ f. record { moved = g; open_there = λ y. o })
+        (λ f. record { moved = g; open_there = λ y. o }))
 
-    established_in : (acked : Bool) (c : Connection) (text : List ℕ) (e : Bool) (sent : List ℕ) (numbers : List ℕ) (s : PlainSegment) → (occupies_sequence_space s ≡ true → s.seq ≡ rcv_nxt c) → c.state ≡ Established → AtOpen false c text e sent → c.taken ≡ length text + numbers_for e → OutMoved (Some s) c text e sent (in_established m acked c numbers s)
+    established_in : (acked : Bool) (c : Connection) (text : List ℕ) (e : Bool) (sent : List ℕ) (numbers : List ℕ) (s : PlainSegment)
+        → (occupies_sequence_space s ≡ true → s.seq ≡ rcv_nxt c) → c.state ≡ Established → AtOpen false c text e sent
+        → c.taken ≡ length text + numbers_for e → OutMoved (Some s) c text e sent (in_established m acked c numbers s)
     unfolding in_established
     established_in acked c text e sent numbers s order st h t =
-        choose (λ (o : Outcome). OutMoved (Some s) c text e sent o) (has_fin s.flags) _ _ (λ f. closing_in c text e sent numbers s order f h t) (λ f. going_in acked c text e sent numbers s order st h t)
+        choose (λ (o : Outcome). OutMoved (Some s) c text e sent o) (has_fin s.flags) _ _ (λ f. closing_in c text e sent numbers s order f h
+        t) (λ f. going_in acked c text e sent numbers s order st h t)
 
     -- what b, which differs from c in what was acknowledged, becomes
-    out_of : (received : Option PlainSegment) (c b : Connection) (text : List ℕ) (e : Bool) (sent : List ℕ) (o : Outcome) → b.part.snapshots ≡ c.part.snapshots → b.irs ≡ c.irs → OutMoved received b text e sent o → OutMoved received c text e sent o
+    out_of : (received : Option PlainSegment) (c b : Connection) (text : List ℕ) (e : Bool) (sent : List ℕ) (o : Outcome)
+        → b.part.snapshots ≡ c.part.snapshots → b.irs ≡ c.irs → OutMoved received b text e sent o → OutMoved received c text e sent o
     out_of received c b text e sent o k p h =
         let w : Moved received b text e sent o.connection = h.moved in
         record {
@@ -383,14 +472,17 @@ module _ (m : AppSpec) (port : ℕ) (model : OutputModel) (laws : FollowsModelAt
         }
 
     -- a step that asks nothing
-    reported : (received : Option PlainSegment) (c : Connection) (text : List ℕ) (e : Bool) (sent : List ℕ) (d : Connection) (s : Step) (numbers : List ℕ) → is_ask s ≡ false → Moved received c text e sent d → OutMoved received c text e sent (record { connection = d; numbers = numbers; step = s })
+    reported : (received : Option PlainSegment) (c : Connection) (text : List ℕ) (e : Bool) (sent : List ℕ) (d : Connection) (s : Step)
+        (numbers : List ℕ) → is_ask s ≡ false → Moved received c text e sent d
+        → OutMoved received c text e sent (record { connection = d; numbers = numbers; step = s })
     reported received c text e sent d s numbers q g = record { moved = g; open_there = λ z. absurd (let y : true ≡ false = sym z ∙ q in cc) }
 
     same : (received : Option PlainSegment) (c : Connection) (text : List ℕ) (e : Bool) (sent : List ℕ) → Page c text e sent → Moved received c text e sent c
     same received c text e sent g = stays received c text e sent c g refl refl refl g.at
 
     -- text and FIN after the own FIN; f counts the FIN
-    waits_in : (far : ℕ) (st st' : State) (c closed_by_peer : Connection) (text : List ℕ) (e : Bool) (sent : List ℕ) (numbers : List ℕ) (s : PlainSegment) → (occupies_sequence_space s ≡ true → s.seq ≡ rcv_nxt c) → c.state ≡ st →
+    waits_in : (far : ℕ) (st st' : State) (c closed_by_peer : Connection) (text : List ℕ) (e : Bool) (sent : List ℕ) (numbers : List ℕ)
+        (s : PlainSegment) → (occupies_sequence_space s ≡ true → s.seq ≡ rcv_nxt c) → c.state ≡ st →
         ((d : Connection) (x : List ℕ) → AtEnd far false d x false sent → AtPage st d x false sent) → Page c text e sent → AtEnd far false c text e sent →
         (has_fin s.flags ≡ true → Moved (Some s) c text e sent closed_by_peer) → OutMoved (Some s) c text e sent (fin_waits closed_by_peer c numbers s)
     unfolding fin_waits
@@ -400,10 +492,13 @@ module _ (m : AppSpec) (port : ℕ) (model : OutputModel) (laws : FollowsModelAt
         (λ f. choose (λ (o : Outcome). OutMoved (Some s) c text e sent o) (has_text s) _ _
         (λ i. let d : Connection = takes (length s.text) c in
         reported (Some s) c text e sent d Step.Ack numbers refl
-        (receives_on c text e sent s false d order h.is g.taken (λ z. absurd (cc)) refl refl (omega arith) (page_at d st (text ++ s.text) false sent q (to d (text ++ s.text) (ends_on far far false false c d text s.text e sent refl refl h.len h)))))
+        (receives_on c text e sent s false d order h.is g.taken (λ z. absurd (cc)) refl refl (omega arith)
+        (page_at d st (text ++ s.text) false sent q (to d (text ++ s.text) (ends_on far far false false c d text s.text e sent refl refl h.len h)))))
         (λ i. reported (Some s) c text e sent c Step.Drop numbers refl (same (Some s) c text e sent g)))
 
-    by_state_in : (st : State) (acked : Bool) (c : Connection) (text : List ℕ) (e : Bool) (sent : List ℕ) (numbers : List ℕ) (s : PlainSegment) → (occupies_sequence_space s ≡ true → s.seq ≡ rcv_nxt c) → c.state ≡ st → Page c text e sent → AtPage st c text e sent → OutMoved (Some s) c text e sent (by_state m st acked c numbers s)
+    by_state_in : (st : State) (acked : Bool) (c : Connection) (text : List ℕ) (e : Bool) (sent : List ℕ) (numbers : List ℕ)
+        (s : PlainSegment) → (occupies_sequence_space s ≡ true → s.seq ≡ rcv_nxt c) → c.state ≡ st → Page c text e sent
+        → AtPage st c text e sent → OutMoved (Some s) c text e sent (by_state m st acked c numbers s)
     unfolding fin_acked
     by_state_in Closed acked c text e sent numbers s order q g h = reported (Some s) c text e sent c Step.Drop numbers refl (same (Some s) c text e sent g)
     by_state_in SynRcvd true c text e sent numbers s order q g h =
@@ -412,10 +507,12 @@ module _ (m : AppSpec) (port : ℕ) (model : OutputModel) (laws : FollowsModelAt
         let x = received_is m port steady start.numbers start.part s.text in
         let d : Connection = with_part (delivers_text m start.numbers start.part s.text).part (takes (length s.text) (in_state Established (rests c))) in
         let zero : d.part.acked ≡ 0 = x.acked ∙ steady.connected_acked numbers own in
-        let new : IsOpen m port model laws start.part [] = subst (λ n. IsOpen m port model laws (m.connected numbers n).part []) (sym h.here) (open_new m port model laws numbers) in
+        let new : IsOpen m port model laws start.part [] = subst (λ n. IsOpen m port model laws (m.connected numbers n).part [])
+        (sym h.here) (open_new m port model laws numbers) in
         let delivered : IsOpen m port model laws d.part s.text = open_received m port model laws start.numbers start.part s.text [] new in
         record {
-          moved = receives_on c text e sent s false d order h.is g.taken (λ z. absurd (cc)) (x.snapshots ∙ steady.connected_snapshots numbers own ∙ sym h.snapshots) refl (omega arith)
+          moved = receives_on c text e sent s false d order h.is g.taken (λ z. absurd (cc))
+              (x.snapshots ∙ steady.connected_snapshots numbers own ∙ sym h.snapshots) refl (omega arith)
               record {
                 count = omega (arith, h.acked, h.len, zero);
                 opens = subst (λ l. IsOpen m port model laws d.part (l ++ s.text)) (sym h.none) delivered;
@@ -443,54 +540,69 @@ module _ (m : AppSpec) (port : ℕ) (model : OutputModel) (laws : FollowsModelAt
         }
     by_state_in CloseWait false c text e sent numbers s order q g h =
         let d : Connection = with_window s.window c in
-        reported (Some s) c text e sent d Step.Drop numbers refl (stays (Some s) c text e sent d g refl refl refl (page_at d CloseWait text e sent q record { count = h.count; opens = h.opens; is = h.is; fits = h.fits; sent_is = h.sent_is; unended = h.unended }))
+        reported (Some s) c text e sent d Step.Drop numbers refl (stays (Some s) c text e sent d g refl refl refl
+        (page_at d CloseWait text e sent q record { count = h.count; opens = h.opens; is = h.is; fits = h.fits; sent_is = h.sent_is; unended = h.unended }))
     by_state_in FinWait1 true c text e sent numbers s order q g h =
         choose (λ (o : Outcome). OutMoved (Some s) c text e sent o) (has_fin s.flags) _ _
         (λ f. let d : Connection = in_state TimeWait (takes (length s.text + 1) (rests c)) in
         reported (Some s) c text e sent d Step.Ack numbers refl
-        (receives_on c text e sent s true d order h.is g.taken (λ z. f) refl refl (omega arith) (ends_on 1 2 false true c d text s.text e sent refl (omega (arith, h.len)) (omega arith) h)))
+        (receives_on c text e sent s true d order h.is g.taken (λ z. f) refl refl (omega arith)
+        (ends_on 1 2 false true c d text s.text e sent refl (omega (arith, h.len)) (omega arith) h)))
         (λ f. let d : Connection = in_state FinWait2 (takes (length s.text) (rests c)) in
         reported (Some s) c text e sent d Step.Drop numbers refl
-        (receives_on c text e sent s false d order h.is g.taken (λ z. absurd (cc)) refl refl (omega arith) (ends_on 1 2 false false c d text s.text e sent refl (omega (arith, h.len)) (omega arith) h)))
+        (receives_on c text e sent s false d order h.is g.taken (λ z. absurd (cc)) refl refl (omega arith)
+        (ends_on 1 2 false false c d text s.text e sent refl (omega (arith, h.len)) (omega arith) h)))
     by_state_in FinWait1 false c text e sent numbers s order q g h =
         let d : Connection = in_state Closing (takes (length s.text + 1) c) in
         waits_in 1 FinWait1 Closing c d text e sent numbers s order q (λ x y z. z) g h
-        (λ f. receives_on c text e sent s true d order h.is g.taken (λ z. f) refl refl (omega arith) (ends_on 1 1 false true c d text s.text e sent refl refl h.len h))
+        (λ f. receives_on c text e sent s true d order h.is g.taken (λ z. f) refl refl (omega arith)
+        (ends_on 1 1 false true c d text s.text e sent refl refl h.len h))
     by_state_in FinWait2 acked c text e sent numbers s order q g h =
         let d : Connection = record (in_state TimeWait (takes (length s.text + 1) c)) { age = 0 } in
         waits_in 2 FinWait2 TimeWait c d text e sent numbers s order q (λ x y z. z) g h
-        (λ f. receives_on c text e sent s true d order h.is g.taken (λ z. f) refl refl (omega arith) (ends_on 2 2 false true c d text s.text e sent refl refl h.len h))
+        (λ f. receives_on c text e sent s true d order h.is g.taken (λ z. f) refl refl (omega arith)
+        (ends_on 2 2 false true c d text s.text e sent refl refl h.len h))
     by_state_in Closing true c text e sent numbers s order q g h =
         let d : Connection = in_state TimeWait (rests c) in
         reported (Some s) c text e sent d Step.Drop numbers refl
         (stays (Some s) c text e sent d g refl refl refl record { end = h.end; count = omega (arith, h.count, h.len); len = omega arith; is = h.is })
     by_state_in Closing false c text e sent numbers s order q g h = reported (Some s) c text e sent c Step.Drop numbers refl (same (Some s) c text e sent g)
-    by_state_in LastAck true c text e sent numbers s order q g h = reported (Some s) c text e sent (closes (rests c)) Step.Drop numbers refl (shut (Some s) c (rests c) text e sent g refl refl refl)
+    by_state_in LastAck true c text e sent numbers s order q g h = reported (Some s) c text e sent (closes (rests c)) Step.Drop numbers refl
+        (shut (Some s) c (rests c) text e sent g refl refl refl)
     by_state_in LastAck false c text e sent numbers s order q g h = reported (Some s) c text e sent c Step.Drop numbers refl (same (Some s) c text e sent g)
     by_state_in TimeWait acked c text e sent numbers s order q g h = reported (Some s) c text e sent c Step.Ack numbers refl (same (Some s) c text e sent g)
 
-    segment_in : (c : Connection) (text : List ℕ) (e : Bool) (sent : List ℕ) (numbers : List ℕ) (s : PlainSegment) → Page c text e sent → OutMoved (Some s) c text e sent (on_segment m c numbers s)
+    segment_in : (c : Connection) (text : List ℕ) (e : Bool) (sent : List ℕ) (numbers : List ℕ) (s : PlainSegment) → Page c text e sent
+        → OutMoved (Some s) c text e sent (on_segment m c numbers s)
     unfolding on_segment
     segment_in c text e sent numbers s g =
-        choose (λ (o : Outcome). OutMoved (Some s) c text e sent o) (has_rst s.flags) _ _ (λ r. reported (Some s) c text e sent (closes c) Step.Drop _ refl (shut (Some s) c c text e sent g refl refl refl))
+        choose (λ (o : Outcome). OutMoved (Some s) c text e sent o) (has_rst s.flags) _ _ (λ r. reported (Some s) c text e sent (closes c)
+        Step.Drop _ refl (shut (Some s) c c text e sent g refl refl refl))
         (λ r. choose (λ (o : Outcome). OutMoved (Some s) c text e sent o) (is_out_of_order c s) _ _
         (λ f. reported (Some s) c text e sent c Step.Ack numbers refl (same (Some s) c text e sent g))
         (λ f. by_state_in c.state (is_acked c s) c text e sent numbers s (in_order c s f) refl g g.at))
 
-    pub segment_moved : (at : Connection → Now) (c : Connection) (text : List ℕ) (e : Bool) (sent : List ℕ) (numbers : List ℕ) (s : PlainSegment) → Page c text e sent → Spoke (Some s) c text e sent (asked m at (on_segment m c numbers s))
-    segment_moved at c text e sent numbers s g = asked_spoke (Some s) c text e sent at (on_segment m c numbers s) (segment_moves m c numbers s).idle (segment_in c text e sent numbers s g)
+    pub segment_moved : (at : Connection → Now) (c : Connection) (text : List ℕ) (e : Bool) (sent : List ℕ) (numbers : List ℕ)
+        (s : PlainSegment) → Page c text e sent → Spoke (Some s) c text e sent (asked m at (on_segment m c numbers s))
+    segment_moved at c text e sent numbers s g = asked_spoke (Some s) c text e sent at (on_segment m c numbers s)
+        (segment_moves m c numbers s).idle (segment_in c text e sent numbers s g)
 
     -- ---- a tick
 
     older_moved : (c : Connection) (text : List ℕ) (e : Bool) (sent : List ℕ) → Page c text e sent → Moved None c text e sent (grows_older c)
     older_moved c text e sent g = stays None c text e sent (grows_older c) g refl refl refl (older_page c c.state text e sent g.at)
 
-    by_beat_moved : (b : Beat) (c : Connection) (text : List ℕ) (e : Bool) (sent : List ℕ) (numbers : List ℕ) → Page c text e sent → OutMoved None c text e sent (by_beat m b c numbers)
+    by_beat_moved : (b : Beat) (c : Connection) (text : List ℕ) (e : Bool) (sent : List ℕ) (numbers : List ℕ) → Page c text e sent
+        → OutMoved None c text e sent (by_beat m b c numbers)
     by_beat_moved Beat.Wait c text e sent numbers g = reported None c text e sent (grows_older c) Step.Drop numbers refl (older_moved c text e sent g)
-    by_beat_moved Beat.Again c text e sent numbers g = record { moved = older_moved c text e sent g; open_there = λ z. absurd (let y = no_ask_again m c.state in cc) }
+    by_beat_moved Beat.Again c text e sent numbers g = record {
+      moved = older_moved c text e sent g;
+      open_there = λ z. absurd (let y = no_ask_again m c.state in cc);
+    }
     by_beat_moved Beat.GiveUp c text e sent numbers g = reported None c text e sent (closes c) Step.Reset _ refl (shut None c c text e sent g refl refl refl)
 
-    tick_in : (c : Connection) (text : List ℕ) (e : Bool) (sent : List ℕ) (numbers : List ℕ) → Page c text e sent → OutMoved None c text e sent (on_tick m c numbers)
+    tick_in : (c : Connection) (text : List ℕ) (e : Bool) (sent : List ℕ) (numbers : List ℕ) → Page c text e sent
+        → OutMoved None c text e sent (on_tick m c numbers)
     tick_in c text e sent numbers g = on_tick_by m (λ o. OutMoved None c text e sent o) c numbers record {
       none = reported None c text e sent c Step.Drop numbers refl (same None c text e sent g);
       beats = λ r b. by_beat_moved b c text e sent numbers g;
@@ -509,5 +621,7 @@ module _ (m : AppSpec) (port : ℕ) (model : OutputModel) (laws : FollowsModelAt
           });
     }
 
-    pub tick_moved : (at : Connection → Now) (c : Connection) (text : List ℕ) (e : Bool) (sent : List ℕ) (numbers : List ℕ) → Page c text e sent → Spoke None c text e sent (asked m at (on_tick m c numbers))
-    tick_moved at c text e sent numbers g = asked_spoke None c text e sent at (on_tick m c numbers) (tick_moves m c numbers).idle (tick_in c text e sent numbers g)
+    pub tick_moved : (at : Connection → Now) (c : Connection) (text : List ℕ) (e : Bool) (sent : List ℕ) (numbers : List ℕ)
+        → Page c text e sent → Spoke None c text e sent (asked m at (on_tick m c numbers))
+    tick_moved at c text e sent numbers g = asked_spoke None c text e sent at (on_tick m c numbers) (tick_moves m c numbers).idle
+        (tick_in c text e sent numbers g)

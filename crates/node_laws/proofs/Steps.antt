@@ -1,5 +1,6 @@
 -- The steps of a node's line: events, and between them changes of its application's numbers, as by values that a caller sets.
-use Rattle.node_laws.proofs.Prelude.{All, ◌≡◌, ℕ, Bool, List, [], ◌∷◌, ◌++◌, map, refl, ap, ◌∙◌, All-cons, All-head, All-nil, All-tail, IsU32, AppSpec, Addr, Event, IsEvent, AbstractNode, run, step, TraceEntry, trace_of, IsOfLine}
+use Rattle.node_laws.proofs.Prelude.{All, ◌≡◌, ℕ, Bool, List, [], ◌∷◌, ◌++◌, map, refl, ap, ◌∙◌, All-cons, All-head, All-nil, All-tail}
+use Rattle.node_laws.proofs.Prelude.{IsU32, AppSpec, Addr, Event, IsEvent, AbstractNode, run, step, TraceEntry, trace_of, IsOfLine}
 use Rattle.node_laws.proofs.GoodNodes.{Good}
 use Rattle.node_laws.proofs.Wire.{line_wire, wire_event}
 
@@ -45,12 +46,18 @@ pub record Cut (m : AppSpec) (served : ℕ → Bool) (own : Addr) (n : AbstractN
   pub are : All (IsStep own) steps
   pub turns : trace_over m served steps n ≡ front
 
-pub cut : (m : AppSpec) (served : ℕ → Bool) (own : Addr) (steps : List LineStep) (n : AbstractNode) (front rest : List TraceEntry) → All (IsStep own) steps → trace_over m served steps n ≡ front ++ rest → Cut m served own n front
+pub cut : (m : AppSpec) (served : ℕ → Bool) (own : Addr) (steps : List LineStep) (n : AbstractNode) (front rest : List TraceEntry)
+    → All (IsStep own) steps → trace_over m served steps n ≡ front ++ rest → Cut m served own n front
 cut m served own steps n [] rest of e = record { steps = []; are = All-nil (IsStep own); turns = refl }
 cut m served own [] n (t ∷ front) rest of e = absurd (cc)
 cut m served own (Changes change ∷ steps) n (t ∷ front) rest of e =
     let more = cut m served own steps (changed change n) (t ∷ front) rest (All-tail (IsStep own) (Changes change) steps of) e in
-    record { steps = Changes change ∷ more.steps; are = All-cons (IsStep own) (Changes change) more.steps (All-head (IsStep own) (Changes change) steps of) more.are; turns = more.turns }
+    record {
+      steps = Changes change ∷ more.steps;
+      are = All-cons (IsStep own) (Changes change) more.steps
+          (All-head (IsStep own) (Changes change) steps of) more.are;
+      turns = more.turns;
+    }
 cut m served own (OfNode event ∷ steps) n (t ∷ front) rest of e =
     let turn : TraceEntry = record { event = event; sent = (step m served n event).sent } in
     let head : turn ≡ t = cc in
@@ -67,7 +74,8 @@ pub event_first : (own : Addr) (e : Event) (steps : List LineStep) → All (IsSt
 event_first own e steps of = wire_event e (line_wire own e (All-head (IsStep own) (OfNode e) steps of))
 
 -- a node whose application's numbers are changed is as good
-pub changed_good : (own : Addr) (change : List ℕ → List ℕ) (steps : List LineStep) (n : AbstractNode) → All (IsStep own) (Changes change ∷ steps) → Good n → Good (changed change n)
+pub changed_good : (own : Addr) (change : List ℕ → List ℕ) (steps : List LineStep) (n : AbstractNode)
+    → All (IsStep own) (Changes change ∷ steps) → Good n → Good (changed change n)
 changed_good own change steps n of good = record {
   single = good.single;
   fit = record { size = good.fit.size; conns = good.fit.conns; numbers = (All-head (IsStep own) (Changes change) steps of) n.numbers good.fit.numbers };

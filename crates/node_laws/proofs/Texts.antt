@@ -1,5 +1,6 @@
 -- The offsets of bytes in a text.
-use Rattle.node_laws.proofs.Prelude.{◌≡◌, ℕ, zero, suc, ◌+◌, ◌<◌, ◌≤◌, ◌⊎◌, List, [], ◌∷◌, ◌++◌, length, take, drop, refl, sym, ap, ◌∙◌, arith, Some, None, slice_get, length-append, IsPrefixOf, append_nothing}
+use Rattle.node_laws.proofs.Prelude.{◌≡◌, ℕ, zero, suc, ◌+◌, ◌<◌, ◌≤◌, ◌⊎◌, List, [], ◌∷◌, ◌++◌, length, take, drop, refl, sym, ap, ◌∙◌}
+use Rattle.node_laws.proofs.Prelude.{arith, Some, None, slice_get, length-append, IsPrefixOf, append_nothing}
 use Rattle.node_laws.proofs.StepTable.{nil_of}
 
 get_drop : (a : ℕ) (xs : List ℕ) (i b : ℕ) → slice_get (drop a xs) i ≡ Some b → slice_get xs (a + i) ≡ Some b
@@ -38,7 +39,8 @@ prefix_by (x ∷ xs) (y ∷ ys) h =
 
 pub all_of_it : (xs ys : List ℕ) → IsPrefixOf xs ys → length xs ≡ length ys → xs ≡ ys
 all_of_it xs ys h e =
-    let z : length h.rest ≡ 0 = (let a : length (xs ++ h.rest) ≡ length ys = ap length h.joined in let b : length (xs ++ h.rest) ≡ length xs + length h.rest = length-append xs h.rest in omega (arith, a, b, e)) in
+    let z : length h.rest ≡ 0 = (let a : length (xs ++ h.rest) ≡ length ys = ap length h.joined in let b : length (xs ++ h.rest)
+    ≡ length xs + length h.rest = length-append xs h.rest in omega (arith, a, b, e)) in
     sym (append_nothing xs) ∙ ap (λ r. xs ++ r) (sym (nil_of h.rest z)) ∙ h.joined
 
 pub most_or_more : (n most : ℕ) → (n ≤ most) ⊎ (most < n)

@@ -1,10 +1,28 @@
 -- What is outstanding in the exchanges is outstanding at the node, and its timer expires.
-use Rattle.node_laws.proofs.Prelude.{All, append_assoc, map, IsU32, option_map_or, option_map, ◌≡◌, ℕ, zero, suc, ◌+◌, ◌<◌, ◌≤◌, ◌==◌, Bool, true, false, not, ◌&&◌, inl, inr, List, [], ◌∷◌, ◌++◌, length, set, take, refl, sym, ap, ◌∙◌, subst, arith, Option, Some, None, slice_get, ltb, if◌then◌else◌, cases_lt, All-head, All-tail, wrap, Addr, PlainSegment, has_rst, has_ack, AppSpec, IsNow, is_time_wait, beat_at, Beat, Now, State, Closed, SynRcvd, Established, CloseWait, FinWait1, FinWait2, Closing, TimeWait, LastAck, Sockets, Connection, closed, is_live, serves, same_sockets, snd_una, occupies_sequence_space, segment_of, is_again, reset_for_no_connection, reset_of, syn_ack, Outcome, leaves, closes, asked, accepted, is_acked, on_segment, by_beat, grows_older, limit_of, on_tick, outstanding, Step, Event, called_by, IpRefused, IcmpRefused, TcpRefused, EchoAsked, Arrived, Overlong, Periodic, TcpReply, AbstractNode, NodeStep, snapshot, initial_node, step, serving, IsEvent, Alike, IsSteady, both_ways, and_true, eqb-eq, only_some, Single, get_set, get_set_same, is_served, serving_free, none_serves, here, there, served, free, FitConn, on_segment_fits, on_tick_fits, node_snapshot, Moves, asked_moves, segment_moves, tick_moves, on_segment_keeps, asked_keeps, on_tick_keeps, same_is, serves_dead, serves_yes, stepped_reports, IsDue, StepReports, OutReports, due, alike_trans, alike_sym, alike_refl, segment_reports, tick_reports, IsWithoutReset, sequence_length, Exchange, TraceEntry, sent_at, exchange, received_from, exchanges_onto, trace_of, calls_of, IsOutstanding, IsRetried, IsRetriedIn, RetransmitsOrResets, RetriesIn, sent_again, given_up, IsOfLine}
+use Rattle.node_laws.proofs.Prelude.{All, append_assoc, map, IsU32, option_map_or, option_map, ◌≡◌, ℕ, zero, suc, ◌+◌, ◌<◌, ◌≤◌, ◌==◌, Bool}
+use Rattle.node_laws.proofs.Prelude.{true, false, not, ◌&&◌, inl, inr, List, [], ◌∷◌, ◌++◌, length, set, take, refl, sym, ap, ◌∙◌, subst}
+use Rattle.node_laws.proofs.Prelude.{arith, Option, Some, None, slice_get, ltb, if◌then◌else◌, cases_lt, All-head, All-tail, wrap, Addr}
+use Rattle.node_laws.proofs.Prelude.{PlainSegment, has_rst, has_ack, AppSpec, IsNow, is_time_wait, beat_at, Beat, Now, State, Closed}
+use Rattle.node_laws.proofs.Prelude.{SynRcvd, Established, CloseWait, FinWait1, FinWait2, Closing, TimeWait, LastAck, Sockets, Connection}
+use Rattle.node_laws.proofs.Prelude.{closed, is_live, serves, same_sockets, snd_una, occupies_sequence_space, segment_of, is_again}
+use Rattle.node_laws.proofs.Prelude.{reset_for_no_connection, reset_of, syn_ack, Outcome, leaves, closes, asked, accepted, is_acked}
+use Rattle.node_laws.proofs.Prelude.{on_segment, by_beat, grows_older, limit_of, on_tick, outstanding, Step, Event, called_by, IpRefused}
+use Rattle.node_laws.proofs.Prelude.{IcmpRefused, TcpRefused, EchoAsked, Arrived, Overlong, Periodic, TcpReply, AbstractNode, NodeStep}
+use Rattle.node_laws.proofs.Prelude.{snapshot, initial_node, step, serving, IsEvent, Alike, IsSteady, both_ways, and_true, eqb-eq}
+use Rattle.node_laws.proofs.Prelude.{only_some, Single, get_set, get_set_same, is_served, serving_free, none_serves, here, there, served}
+use Rattle.node_laws.proofs.Prelude.{free, FitConn, on_segment_fits, on_tick_fits, node_snapshot, Moves, asked_moves, segment_moves}
+use Rattle.node_laws.proofs.Prelude.{tick_moves, on_segment_keeps, asked_keeps, on_tick_keeps, same_is, serves_dead, serves_yes}
+use Rattle.node_laws.proofs.Prelude.{stepped_reports, IsDue, StepReports, OutReports, due, alike_trans, alike_sym, alike_refl}
+use Rattle.node_laws.proofs.Prelude.{segment_reports, tick_reports, IsWithoutReset, sequence_length, Exchange, TraceEntry, sent_at}
+use Rattle.node_laws.proofs.Prelude.{exchange, received_from, exchanges_onto, trace_of, calls_of, IsOutstanding, IsRetried, IsRetriedIn}
+use Rattle.node_laws.proofs.Prelude.{RetransmitsOrResets, RetriesIn, sent_again, given_up, IsOfLine}
 use Rattle.node_laws.proofs.Arriving.{calls_one}
-use Rattle.node_laws.proofs.Beating.{Young, asked_young, segment_young, tick_young, due_size, asked_lives, segment_lives, tick_lives, mss_some, no_wait, ticks_are, due_again, next_beat, SafeAt}
+use Rattle.node_laws.proofs.Beating.{Young, asked_young, segment_young, tick_young, due_size, asked_lives, segment_lives, tick_lives}
+use Rattle.node_laws.proofs.Beating.{mss_some, no_wait, ticks_are, due_again, next_beat, SafeAt}
 use Rattle.node_laws.proofs.GoodNodes.{AnyLength, Good, SafeConn, first_is, good_on, good_start, low_text}
 use Rattle.node_laws.proofs.Lines.{comes, quiet, met}
-use Rattle.node_laws.proofs.Steps.{Changes, IsStep, LineStep, OfNode, all_happen, changed, changed_good, cut, event_first, trace_over, turns_happen}
+use Rattle.node_laws.proofs.Steps.{Changes, IsStep, LineStep, OfNode, all_happen, changed, changed_good, cut, event_first, trace_over}
+use Rattle.node_laws.proofs.Steps.{turns_happen}
 use Rattle.node_laws.proofs.Lines.OfMedium.{passes_by, evicted, unanswered, refused, born, delivers_text, ticks}
 use Rattle.node_laws.proofs.Slots.{Acted, acts}
 use Rattle.node_laws.proofs.Slots.Acts.{is_called, is_met, is_apart, makes_room}
@@ -14,7 +32,8 @@ use Rattle.node_laws.proofs.Slots.Acts.{is_called, is_met, is_apart, makes_room}
 -- what is outstanding was sent just now, or was so before
 pub data Outstands (x : Exchange) (session : List Exchange) (s : PlainSegment) : Type 0 where
   just_sent : x.output ≡ Some s → occupies_sequence_space s ≡ true → Outstands x session s
-  sent_before : IsOutstanding session s → IsWithoutReset x → ((t : PlainSegment) → x.received ≡ Some t → has_ack t.flags ≡ true → t.ack ≡ wrap (s.seq + sequence_length s) → ⊥) → Outstands x session s
+  sent_before : IsOutstanding session s → IsWithoutReset x → ((t : PlainSegment) → x.received ≡ Some t → has_ack t.flags ≡ true
+      → t.ack ≡ wrap (s.seq + sequence_length s) → ⊥) → Outstands x session s
 
 outstands_at : (x : Exchange) (session : List Exchange) (s : PlainSegment) (h : IsOutstanding (x ∷ session) s) (k : ℕ) → h.place ≡ k → Outstands x session s
 outstands_at x session s h zero e = just_sent (subst (λ k. sent_at (x ∷ session) k ≡ Some s) e h.output) h.placed
@@ -41,7 +60,8 @@ get_short (y ∷ ys) zero x h = omega arith
 get_short (y ∷ ys) (suc i) x h = (let z = get_short ys i x h in omega (arith, z))
 
 -- what is outstanding asks the application nothing
-no_question : (m : AppSpec) (at : Connection → Now) (d : Connection) (numbers : List ℕ) (st : State) → asked m at (leaves d numbers (outstanding true st)) ≡ leaves d numbers (outstanding true st)
+no_question : (m : AppSpec) (at : Connection → Now) (d : Connection) (numbers : List ℕ) (st : State)
+    → asked m at (leaves d numbers (outstanding true st)) ≡ leaves d numbers (outstanding true st)
 no_question m at d numbers SynRcvd = refl
 no_question m at d numbers _ = refl
 
@@ -73,7 +93,8 @@ module _ (m : AppSpec) (steady : IsSteady m) (ports : ℕ → Bool) (p : Sockets
   peer_own c own = same_is c.sockets p (and_true (is_live c.state) (same_sockets c.sockets p) own).1
 
   -- one that dies leaves none
-  none_left : (table : List Connection) (i : ℕ) (c d : Connection) → Single table → slice_get table i ≡ Some c → serves p c ≡ true → is_live d.state ≡ false → is_live (serving p (set table i d)).state ≡ false
+  none_left : (table : List Connection) (i : ℕ) (c d : Connection) → Single table → slice_get table i ≡ Some c → serves p c ≡ true
+      → is_live d.state ≡ false → is_live (serving p (set table i d)).state ≡ false
   none_left table i c d single at own dead =
       ap (λ z. is_live z.state) (serving_free (set table i d) p
       (λ j y h. elim (get_set table i d j y h) [
@@ -101,14 +122,16 @@ module _ (m : AppSpec) (steady : IsSteady m) (ports : ℕ → Bool) (p : Sockets
       peer : o.connection.sockets ≡ c.sockets
       dies : is_live o.connection.state ≡ false → 0 < c.len → IsWithoutReset (met received (segment_of m o.connection o.step)) → acked ≡ true
 
-    acted : (v : Living n session) (received : Option PlainSegment) (o : Outcome) (acked : Bool) → Acted m ports n p v.i v.c event r received o → Stepped v.c received o acked → Representing r.node (x ∷ session)
+    acted : (v : Living n session) (received : Option PlainSegment) (o : Outcome) (acked : Bool) → Acted m ports n p v.i v.c event r
+        received o → Stepped v.c received o acked → Representing r.node (x ∷ session)
     acted v received o acked g h =
         let c : Connection = v.c in
         let d : Connection = o.connection in
         let sent : Option PlainSegment = segment_of m d o.step in
         let there : slice_get r.node.connections v.i ≡ Some d = ap (λ l. slice_get l v.i) g.table ∙ get_set_same n.connections v.i c d v.there in
         -- what was outstanding, and is not acknowledged, is so still
-        let unmoved : (s : PlainSegment) → Due c s → ((t : PlainSegment) → received ≡ Some t → has_ack t.flags ≡ true → t.ack ≡ wrap (s.seq + sequence_length s) → ⊥) → acked ≡ true → ⊥ =
+        let unmoved : (s : PlainSegment) → Due c s → ((t : PlainSegment) → received ≡ Some t → has_ack t.flags ≡ true
+        → t.ack ≡ wrap (s.seq + sequence_length s) → ⊥) → acked ≡ true → ⊥ =
         λ s q none e. (let a = h.acks e in
         let size : sequence_length s ≡ c.len = due_size m steady AnyLength (low_text m) c c.state s v.safe.state q.len q.alike in
         none a.0 a.1 a.2 (a.3 ∙ ap (λ k. wrap (k + c.len)) (sym q.seq) ∙ ap (λ k. wrap (s.seq + k)) (sym size))) in
@@ -121,7 +144,11 @@ module _ (m : AppSpec) (steady : IsSteady m) (ports : ℕ → Bool) (p : Sockets
               let onto = h.tells.onto l in
               let k = onto.kept due_c.len same in
               let iss : d.iss ≡ c.iss = onto.iss in
-              record { len = k.0; seq = due_c.seq ∙ ap wrap (let z : c.iss + c.acked ≡ d.iss + d.acked = omega (arith, same, iss) in z); alike = alike_trans s _ _ due_c.alike (alike_sym _ _ k.1) })
+              record {
+                len = k.0;
+                seq = due_c.seq ∙ ap wrap (let z : c.iss + c.acked ≡ d.iss + d.acked = omega (arith, same, iss) in z);
+                alike = alike_trans s _ _ due_c.alike (alike_sym _ _ k.1);
+              })
         ] in
         let over : is_live d.state ≡ false → (s : PlainSegment) → IsOutstanding (met received sent ∷ session) s → ⊥ =
         λ l s q. elim (outstands (met received sent) session s q) [
@@ -130,7 +157,15 @@ module _ (m : AppSpec) (steady : IsSteady m) (ports : ℕ → Bool) (p : Sockets
         ] in
         subst (λ z. Representing r.node (z ∷ session)) (sym g.exchanged)
         (both_ways (is_live d.state)
-        (λ l. incarnations record { i = v.i; c = d; there = there; own = serves_yes p d l (h.peer ∙ peer_own c v.own); safe = h.tells.safe l; young = h.young; out = still l })
+        (λ l. incarnations record {
+          i = v.i;
+          c = d;
+          there = there;
+          own = serves_yes p d l (h.peer ∙ peer_own c v.own);
+          safe = h.tells.safe l;
+          young = h.young;
+          out = still l;
+        })
         (λ l. gone (subst (λ t. is_live (serving p t).state ≡ false) (sym g.table) (none_left n.connections v.i c d good.single v.there v.own l)) (over l)))
 
     -- a RST is sent if a step is one
@@ -140,7 +175,8 @@ module _ (m : AppSpec) (steady : IsSteady m) (ports : ℕ → Bool) (p : Sockets
     fit_of : (v : Living n session) → FitConn v.c
     fit_of v = good.fit.conns v.i v.c v.there
 
-    called : (v : Living n session) → Acted m ports n p v.i v.c event r None (asked m (snapshot n event v.i) (on_tick m v.c n.numbers)) → Representing r.node (x ∷ session)
+    called : (v : Living n session) → Acted m ports n p v.i v.c event r None (asked m (snapshot n event v.i) (on_tick m v.c n.numbers))
+        → Representing r.node (x ∷ session)
     called v g =
         let at : Connection → Now = snapshot n event v.i in
         let c : Connection = v.c in
@@ -153,13 +189,15 @@ module _ (m : AppSpec) (steady : IsSteady m) (ports : ℕ → Bool) (p : Sockets
           acks = λ e. absurd (cc);
           young = asked_young m at o (tick_young m steady AnyLength (low_text m) c n.numbers v.safe.state v.young);
           peer = asked_keeps m at c o (on_tick_keeps m c n.numbers);
-          dies = λ l some clean. elim (asked_lives m steady AnyLength (low_text m) at c o t (tick_lives m steady AnyLength (low_text m) c n.numbers v.safe.state some (live_own c v.own))) [
-            | inl e ↦ absurd (cc)
-            | inr e ↦ absurd (resets_send (asked m at o).connection None (asked m at o).step e clean)
-          ];
+          dies = λ l some clean. elim (asked_lives m steady AnyLength (low_text m) at c o t (tick_lives m steady AnyLength (low_text m) c
+              n.numbers v.safe.state some (live_own c v.own))) [
+                | inl e ↦ absurd (cc)
+                | inr e ↦ absurd (resets_send (asked m at o).connection None (asked m at o).step e clean)
+              ];
         }
 
-    met_by : (v : Living n session) (s : PlainSegment) → Acted m ports n p v.i v.c event r (Some s) (asked m (snapshot n event v.i) (on_segment m v.c n.numbers s)) → Representing r.node (x ∷ session)
+    met_by : (v : Living n session) (s : PlainSegment) → Acted m ports n p v.i v.c event r (Some s)
+        (asked m (snapshot n event v.i) (on_segment m v.c n.numbers s)) → Representing r.node (x ∷ session)
     met_by v s g =
         let at : Connection → Now = snapshot n event v.i in
         let c : Connection = v.c in
@@ -179,7 +217,8 @@ module _ (m : AppSpec) (steady : IsSteady m) (ports : ℕ → Bool) (p : Sockets
           dies = λ l some clean. (let unreset : has_rst s.flags ≡ false = clean.received s refl in
               both_ways (is_acked c s)
               (λ a. ap (λ b. not b && is_acked c s) unreset ∙ a)
-              (λ a. elim (asked_lives m steady AnyLength (low_text m) at c o t (segment_lives m steady AnyLength (low_text m) c n.numbers s (live_own c v.own) unreset a)) [
+              (λ a. elim (asked_lives m steady AnyLength (low_text m) at c o t (segment_lives m steady AnyLength (low_text m) c n.numbers s
+              (live_own c v.own) unreset a)) [
                 | inl e ↦ absurd (cc)
                 | inr e ↦ absurd (resets_send (asked m at o).connection (Some s) (asked m at o).step e clean)
               ]));
@@ -208,13 +247,18 @@ module _ (m : AppSpec) (steady : IsSteady m) (ports : ℕ → Bool) (p : Sockets
 
     module _ (is : IsEvent event) (dead : is_live (serving p n.connections).state ≡ false) (out : (s : PlainSegment) → IsOutstanding session s → ⊥) where
       -- nothing is sent that occupies sequence space
-      nothing_sent : (y : Exchange) → ((s : PlainSegment) → y.output ≡ Some s → occupies_sequence_space s ≡ false) → (s : PlainSegment) → IsOutstanding (y ∷ session) s → ⊥
-      nothing_sent y none s q = elim (outstands y session s q) [ just_sent e placed ↦ absurd (let z = none s e in cc) | sent_before before clean not_acked ↦ out s before ]
+      nothing_sent : (y : Exchange) → ((s : PlainSegment) → y.output ≡ Some s → occupies_sequence_space s ≡ false) → (s : PlainSegment)
+          → IsOutstanding (y ∷ session) s → ⊥
+      nothing_sent y none s q = elim (outstands y session s q) [
+        | just_sent e placed ↦ absurd (let z = none s e in cc)
+        | sent_before before clean not_acked ↦ out s before
+      ]
 
       silent_sent : (y : Exchange) → y.output ≡ None → (s : PlainSegment) → IsOutstanding (y ∷ session) s → ⊥
       silent_sent y e = nothing_sent y (λ s f. absurd (let z : None ≡ Some s = sym e ∙ f in cc))
 
-      new_born : (iss : ℕ) (s : PlainSegment) → FitConn (accepted iss p s) → x ≡ met (Some s) (Some (syn_ack (accepted iss p s))) → serving p r.node.connections ≡ accepted iss p s → Representing r.node (x ∷ session)
+      new_born : (iss : ℕ) (s : PlainSegment) → FitConn (accepted iss p s) → x ≡ met (Some s) (Some (syn_ack (accepted iss p s)))
+          → serving p r.node.connections ≡ accepted iss p s → Representing r.node (x ∷ session)
       new_born iss s fit e f =
           let d : Connection = accepted iss p s in
           let due_now : Due d (syn_ack d) = record { len = omega arith; seq = refl; alike = alike_refl (syn_ack d) } in
@@ -231,7 +275,8 @@ module _ (m : AppSpec) (steady : IsSteady m) (ports : ℕ → Bool) (p : Sockets
                 | sent_before before clean none ↦ absurd (out t before)
               ];
             })
-            | free none ↦ absurd (let z : closed ≡ d = sym (serving_free r.node.connections p none) ∙ f in let y : false ≡ true = ap (λ c. is_live c.state) z in cc)
+            | free none ↦ absurd (let z : closed ≡ d = sym (serving_free r.node.connections p none) ∙ f in
+                let y : false ≡ true = ap (λ c. is_live c.state) z in cc)
           ]
 
       dead_on : Representing r.node (x ∷ session)
@@ -241,7 +286,8 @@ module _ (m : AppSpec) (steady : IsSteady m) (ports : ℕ → Bool) (p : Sockets
             | evicted e f ↦ gone (ap (λ z. is_live z.state) f) (silent_sent x (ap (λ z. z.output) e))
             | unanswered s l e f ↦ gone (ap (λ z. is_live z.state) f ∙ dead) (silent_sent x (ap (λ z. z.output) e))
             | refused s q l e f ↦ gone (ap (λ z. is_live z.state) f ∙ dead)
-                (nothing_sent x (λ t g. (let z : Some (reset_for_no_connection s) ≡ Some t = sym (ap (λ y. y.output) e) ∙ g in only_some (λ y. occupies_sequence_space y ≡ false) (reset_for_no_connection s) t z refl)))
+                (nothing_sent x (λ t g. (let z : Some (reset_for_no_connection s) ≡ Some t = sym (ap (λ y. y.output) e) ∙ g in
+                only_some (λ y. occupies_sequence_space y ≡ false) (reset_for_no_connection s) t z refl)))
             | born iss s plain port fit e f ↦ new_born iss s fit e f
             | delivers_text s numbers at alive fit words snapshots h ↦ absurd (cc)
             | ticks numbers at alive fit words snapshots h ↦ absurd (cc)
@@ -264,10 +310,15 @@ module _ (m : AppSpec) (steady : IsSteady m) (ports : ℕ → Bool) (p : Sockets
     ended : (u : PlainSegment) → segment_of m o.connection o.step ≡ Some u → is_again o.step ≡ false → has_rst u.flags ≡ true → Beats c s b o
 
   -- it continues as it was
-  older_due : (c : Connection) (s : PlainSegment) → SafeConn m steady c → Due c s → (d : Connection) (sent : Option PlainSegment) (repeated : Bool) → d.iss ≡ c.iss → d.acked ≡ c.acked → StepReports m steady AnyLength (low_text m) c d sent repeated → is_live d.state ≡ true → Due d s
+  older_due : (c : Connection) (s : PlainSegment) → SafeConn m steady c → Due c s → (d : Connection) (sent : Option PlainSegment)
+      (repeated : Bool) → d.iss ≡ c.iss → d.acked ≡ c.acked → StepReports m steady AnyLength (low_text m) c d sent repeated → is_live d.state ≡ true → Due d s
   older_due c s safe h d sent repeated iss same t l =
       let k = (t.onto l).kept h.len same in
-      record { len = k.0; seq = h.seq ∙ ap wrap (let z : c.iss + c.acked ≡ d.iss + d.acked = omega (arith, iss, same) in z); alike = alike_trans s _ _ h.alike (alike_sym _ _ k.1) }
+      record {
+        len = k.0;
+        seq = h.seq ∙ ap wrap (let z : c.iss + c.acked ≡ d.iss + d.acked = omega (arith, iss, same) in z);
+        alike = alike_trans s _ _ h.alike (alike_sym _ _ k.1);
+      }
 
   due_same : (st : State) (c : Connection) → Alike (due m st (grows_older c)) (due m st c)
   due_same Closed c = record { flags = refl; text = refl }
@@ -287,7 +338,9 @@ module _ (m : AppSpec) (steady : IsSteady m) (ports : ℕ → Bool) (p : Sockets
   older_safe : (c : Connection) → SafeConn m steady c → SafeConn m steady (grows_older c)
   older_safe c h = record { mss = h.mss; initial = h.initial; state = safe_same c.state c h.state }
 
-  beat_does : (at : Connection → Now) (b : Beat) (c : Connection) (s : PlainSegment) (numbers : List ℕ) → is_live c.state ≡ true → SafeConn m steady c → Due c s → (let o : Outcome = by_beat m b c numbers in OutReports m steady AnyLength (low_text m) c o.connection o.step → Beats c s b (asked m at o))
+  beat_does : (at : Connection → Now) (b : Beat) (c : Connection) (s : PlainSegment) (numbers : List ℕ) → is_live c.state ≡ true
+      → SafeConn m steady c → Due c s → (let o : Outcome = by_beat m b c numbers in OutReports m steady AnyLength (low_text m) c
+      o.connection o.step → Beats c s b (asked m at o))
   beat_does at Beat.Wait c s numbers l safe h t = older refl refl (t.safe l) (older_due c s safe h (grows_older c) None false refl refl t l)
   beat_does at Beat.Again c s numbers l safe h t =
       let d : Connection = grows_older c in
@@ -333,17 +386,20 @@ module _ (m : AppSpec) (steady : IsSteady m) (ports : ℕ → Bool) (p : Sockets
     beats : beat_at (limit_of c.state) at ≡ Beat.Wait → ⊥
 
   -- the numbers of the application are changed
-  changed_represents : (change : List ℕ → List ℕ) (n : AbstractNode) (session : List Exchange) → Representing n session → Representing (changed change n) session
+  changed_represents : (change : List ℕ → List ℕ) (n : AbstractNode) (session : List Exchange) → Representing n session
+      → Representing (changed change n) session
   changed_represents change n session s = elim s [
     | incarnations v ↦ incarnations record { i = v.i; c = v.c; there = v.there; own = v.own; safe = v.safe; young = v.young; out = v.out }
     | gone dead out ↦ gone dead out
   ]
 
   module _ (own : Addr) (s : PlainSegment) where
-    retries : (es : List LineStep) (n : AbstractNode) (i at : ℕ) (c : Connection) → All (IsStep own) es → Good n → Waits n s i at c → at ≤ c.age + calls_of i (trace_over m ports es n) → NoneComes (trace_over m ports es n) → IsRetriedIn p s (trace_over m ports es n)
+    retries : (es : List LineStep) (n : AbstractNode) (i at : ℕ) (c : Connection) → All (IsStep own) es → Good n → Waits n s i at c
+        → at ≤ c.age + calls_of i (trace_over m ports es n) → NoneComes (trace_over m ports es n) → IsRetriedIn p s (trace_over m ports es n)
     retries [] n i at c l g w few none = absurd (let z = w.later in omega (arith, z, few))
     retries (Changes change ∷ es) n i at c l g w few none =
-        retries es (changed change n) i at c (All-tail (IsStep own) (Changes change) es l) (changed_good own change es n l g) record { there = w.there; own = w.own; safe = w.safe; due_now = w.due_now; later = w.later; beats = w.beats } few none
+        retries es (changed change n) i at c (All-tail (IsStep own) (Changes change) es l) (changed_good own change es n l g)
+        record { there = w.there; own = w.own; safe = w.safe; due_now = w.due_now; later = w.later; beats = w.beats } few none
     retries (OfNode e ∷ es) n i at c l g w few none =
         let r : NodeStep = step m ports n e in
         let t : TraceEntry = record { event = e; sent = r.sent } in
@@ -360,7 +416,9 @@ module _ (m : AppSpec) (steady : IsSteady m) (ports : ℕ → Bool) (p : Sockets
               let by : on_tick m c n.numbers ≡ by_beat m b c n.numbers = ticks_are m steady AnyLength (low_text m) c n.numbers w.safe.state w.due_now.len in
               let o : Outcome = asked m at_call (on_tick m c n.numbers) in
               let did : Beats c s b o = subst (λ (z : Outcome). Beats c s b (asked m at_call z)) (sym by)
-              (beat_does at_call b c s n.numbers (live_own c w.own) w.safe w.due_now (subst (λ (z : Outcome). OutReports m steady AnyLength (low_text m) c z.connection z.step) by (tick_reports m steady AnyLength (low_text m) c n.numbers w.safe))) in
+              (beat_does at_call b c s n.numbers (live_own c w.own) w.safe w.due_now
+              (subst (λ (z : Outcome). OutReports m steady AnyLength (low_text m) c z.connection z.step) by
+              (tick_reports m steady AnyLength (low_text m) c n.numbers w.safe))) in
               elim did [
                 | older waits_on same safe due_now ↦
                     (let not_yet : c.age + 1 ≡ at → ⊥ = λ z. w.beats (ap (beat_at (limit_of c.state)) (sym z) ∙ waits_on) in
@@ -375,18 +433,29 @@ module _ (m : AppSpec) (steady : IsSteady m) (ports : ℕ → Bool) (p : Sockets
                       beats = w.beats;
                     } (omega (arith, few, one)) none'))
                 | again u output marked seq alike ↦ at_once s t rest
-                    (sent_again a.id u (a.sent ∙ ap (λ z. option_map (λ y. TcpReply p a.id (is_again o.step) y) z) output ∙ ap (λ z. Some (TcpReply p a.id z u)) marked) seq alike)
+                    (sent_again a.id u (a.sent ∙ ap (λ z. option_map (λ y. TcpReply p a.id (is_again o.step) y) z) output
+                    ∙ ap (λ z. Some (TcpReply p a.id z u)) marked) seq alike)
                 | ended u output marked reset ↦ at_once s t rest
-                    (given_up a.id u (a.sent ∙ ap (λ z. option_map (λ y. TcpReply p a.id (is_again o.step) y) z) output ∙ ap (λ z. Some (TcpReply p a.id z u)) marked) reset)
+                    (given_up a.id u (a.sent ∙ ap (λ z. option_map (λ y. TcpReply p a.id (is_again o.step) y) z) output
+                    ∙ ap (λ z. Some (TcpReply p a.id z u)) marked) reset)
               ])
           | is_met s' f a ↦ absurd (let z : None ≡ Some s' = sym quiet_here ∙ ap (λ y. y.received) a.exchanged in cc)
           | is_apart far x at_i ↦
               (let same : calls_of i (t ∷ rest) ≡ calls_of i rest = calls_same i t rest far in
-              later_on s t rest (retries es r.node i at c l' g' record { there = at_i; own = w.own; safe = w.safe; due_now = w.due_now; later = w.later; beats = w.beats } (omega (arith, few, same)) none'))
+              later_on s t rest (retries es r.node i at c l' g' record {
+                there = at_i;
+                own = w.own;
+                safe = w.safe;
+                due_now = w.due_now;
+                later = w.later;
+                beats = w.beats;
+              } (omega (arith, few, same)) none'))
           | makes_room x rested_so free_now ↦ absurd (no_wait m steady AnyLength (low_text m) c c.state w.safe.state w.due_now.len rested_so)
         ]
 
-    at_end : (n : AbstractNode) (es : List LineStep) (session : List Exchange) → All (IsStep own) es → Good n → Representing n session → IsOutstanding session s → NoneComes (trace_over m ports es n) → ((slot : ℕ) → slot < 10 → 49 ≤ calls_of slot (trace_over m ports es n)) → IsRetriedIn p s (trace_over m ports es n)
+    at_end : (n : AbstractNode) (es : List LineStep) (session : List Exchange) → All (IsStep own) es → Good n → Representing n session
+        → IsOutstanding session s → NoneComes (trace_over m ports es n)
+        → ((slot : ℕ) → slot < 10 → 49 ≤ calls_of slot (trace_over m ports es n)) → IsRetriedIn p s (trace_over m ports es n)
     at_end n es session l g st out none calls = elim st [
       | gone dead over ↦ absurd (over s out)
       | incarnations v ↦
@@ -395,25 +464,39 @@ module _ (m : AppSpec) (steady : IsSteady m) (ports : ℕ → Bool) (p : Sockets
           let inside : v.i < 10 = (let z = get_short n.connections v.i v.c v.there in let y = g.fit.size in omega (arith, z, y)) in
           let enough = calls v.i inside in
           let soon = next.soon in
-          retries es n v.i next.at v.c l g record { there = v.there; own = v.own; safe = v.safe; due_now = due_now; later = next.later; beats = next.beats } (omega (arith, enough, soon)) none)
+          retries es n v.i next.at v.c l g record {
+            there = v.there;
+            own = v.own;
+            safe = v.safe;
+            due_now = due_now;
+            later = next.later;
+            beats = next.beats;
+          } (omega (arith, enough, soon)) none)
     ]
 
-    from_before : (before waiting : List TraceEntry) (es : List LineStep) (n : AbstractNode) (session : List Exchange) → trace_over m ports es n ≡ before ++ waiting → All (IsStep own) es → Good n → Representing n session → IsOutstanding (exchanges_onto p before session) s → NoneComes waiting → ((slot : ℕ) → slot < 10 → 49 ≤ calls_of slot waiting) → IsRetriedIn p s waiting
+    from_before : (before waiting : List TraceEntry) (es : List LineStep) (n : AbstractNode) (session : List Exchange)
+        → trace_over m ports es n ≡ before ++ waiting → All (IsStep own) es → Good n → Representing n session
+        → IsOutstanding (exchanges_onto p before session) s → NoneComes waiting → ((slot : ℕ) → slot < 10 → 49 ≤ calls_of slot waiting)
+        → IsRetriedIn p s waiting
     from_before [] waiting es n session q l g st out none calls =
-        subst (λ ts. IsRetriedIn p s ts) q (at_end n es session l g st out (subst NoneComes (sym q) none) (subst (λ ts. (slot : ℕ) → slot < 10 → 49 ≤ calls_of slot ts) (sym q) calls))
+        subst (λ ts. IsRetriedIn p s ts) q (at_end n es session l g st out (subst NoneComes (sym q) none)
+        (subst (λ ts. (slot : ℕ) → slot < 10 → 49 ≤ calls_of slot ts) (sym q) calls))
     from_before (t ∷ before) waiting [] n session q l g st out none calls = absurd (cc)
     from_before (t ∷ before) waiting (Changes change ∷ es) n session q l g st out none calls =
-        from_before (t ∷ before) waiting es (changed change n) session q (All-tail (IsStep own) (Changes change) es l) (changed_good own change es n l g) (changed_represents change n session st) out none calls
+        from_before (t ∷ before) waiting es (changed change n) session q (All-tail (IsStep own) (Changes change) es l)
+        (changed_good own change es n l g) (changed_represents change n session st) out none calls
     from_before (t ∷ before) waiting (OfNode e ∷ es) n session q l g st out none calls =
         let r : NodeStep = step m ports n e in
         let turn : TraceEntry = record { event = e; sent = r.sent } in
         let head : turn ≡ t = cc in
         let tail : trace_over m ports es r.node ≡ before ++ waiting = cc in
         let is : IsEvent e = event_first own e es l in
-        from_before before waiting es r.node (exchange p e r.sent ∷ session) tail (All-tail (IsStep own) (OfNode e) es l) (good_on m steady ports n e is g) (represents_on n e g session is st)
+        from_before before waiting es r.node (exchange p e r.sent ∷ session) tail (All-tail (IsStep own) (OfNode e) es l)
+        (good_on m steady ports n e is g) (represents_on n e g session is st)
         (subst (λ z. IsOutstanding (exchanges_onto p before (z ∷ session)) s) (ap (λ z. exchange p z.event z.sent) (sym head)) out) none calls
 
-pub retries_over_steps : (m : AppSpec) → IsSteady m → (ports : ℕ → Bool) (own : Addr) (numbers : List ℕ) → All IsU32 numbers → (steps : List LineStep) → All (IsStep own) steps
+pub retries_over_steps : (m : AppSpec) → IsSteady m → (ports : ℕ → Bool) (own : Addr) (numbers : List ℕ) → All IsU32 numbers
+    → (steps : List LineStep) → All (IsStep own) steps
     → RetriesIn (trace_over m ports steps (initial_node own numbers))
 retries_over_steps m steady ports own numbers words steps of p s before waiting later split out none calls =
     let front = cut m ports own steps (initial_node own numbers) (before ++ waiting) later of (split ∙ sym (append_assoc before waiting later)) in
@@ -423,4 +506,5 @@ retries_over_steps m steady ports own numbers words steps of p s before waiting 
 
 pub retransmits_or_resets : RetransmitsOrResets
 retransmits_or_resets m steady ports own addr numbers words events of =
-    subst RetriesIn (turns_happen m ports events (initial_node own numbers)) (retries_over_steps m steady ports own numbers words (map OfNode events) (all_happen own events of))
+    subst RetriesIn (turns_happen m ports events (initial_node own numbers)) (retries_over_steps m steady ports own numbers words
+    (map OfNode events) (all_happen own events of))

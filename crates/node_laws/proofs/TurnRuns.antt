@@ -1,5 +1,6 @@
 -- The trace of a node beside its run.
-use Rattle.node_laws.proofs.Prelude.{◌≡◌, ℕ, Bool, List, [], ◌∷◌, map, refl, ap, ◌∙◌, Option, Some, None, AppSpec, Event, Reply, AbstractNode, joined, run, step, replies_of, with_first, trace_of}
+use Rattle.node_laws.proofs.Prelude.{◌≡◌, ℕ, Bool, List, [], ◌∷◌, map, refl, ap, ◌∙◌, Option, Some, None, AppSpec, Event, Reply}
+use Rattle.node_laws.proofs.Prelude.{AbstractNode, joined, run, step, replies_of, with_first, trace_of}
 
 same_first : (sent : Option Reply) (replies : List Reply) → with_first sent replies ≡ joined sent replies
 same_first None replies = refl

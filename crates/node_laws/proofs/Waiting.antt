@@ -1,5 +1,8 @@
 -- The age of what awaits an acknowledgement, by the retransmissions that the exchanges show.
-use Rattle.node_laws.proofs.Prelude.{option_map_or, ◌≡◌, ℕ, zero, suc, ◌+◌, ◌<◌, ◌≤◌, Bool, true, false, if◌then◌else◌, ◌&&◌, ◌⊎◌, inl, inr, List, [], ◌∷◌, refl, sym, ap, ◌∙◌, subst, arith, Option, Some, None, is_some, take, eqb, eq-eqb, cases_lt, list_any, PlainSegment, ages, beat_at, give_up_age, Beat, occupies_sequence_space, choose, eqb-eq, both_ways, Exchange, awaits_ack, in_handshake, retransmissions, retransmission_limit}
+use Rattle.node_laws.proofs.Prelude.{option_map_or, ◌≡◌, ℕ, zero, suc, ◌+◌, ◌<◌, ◌≤◌, Bool, true, false, if◌then◌else◌, ◌&&◌, ◌⊎◌, inl, inr}
+use Rattle.node_laws.proofs.Prelude.{List, [], ◌∷◌, refl, sym, ap, ◌∙◌, subst, arith, Option, Some, None, is_some, take, eqb, eq-eqb}
+use Rattle.node_laws.proofs.Prelude.{cases_lt, list_any, PlainSegment, ages, beat_at, give_up_age, Beat, occupies_sequence_space, choose}
+use Rattle.node_laws.proofs.Prelude.{eqb-eq, both_ways, Exchange, awaits_ack, in_handshake, retransmissions, retransmission_limit}
 use Rattle.node_laws.proofs.Lines.{quiet, met}
 
 -- Something awaits an acknowledgement. Before the last retransmission its age is below that of the next one.
@@ -94,12 +97,14 @@ given_up_at limit age n e =
 pub timed_quiet : (limit : ℕ) (incarnation : List Exchange) (age : ℕ) → Timed limit incarnation age → Timed limit (quiet ∷ incarnation) age
 timed_quiet limit incarnation age h = record { awaits = h.awaits; early = h.early }
 
-pub goes_on_in_time : (limit : ℕ) (incarnation : List Exchange) (age : ℕ) → IsLimit limit → retransmissions incarnation < limit → Timed limit incarnation age → beat_at limit (age + 1) ≡ Beat.GiveUp → ⊥
+pub goes_on_in_time : (limit : ℕ) (incarnation : List Exchange) (age : ℕ) → IsLimit limit → retransmissions incarnation < limit
+    → Timed limit incarnation age → beat_at limit (age + 1) ≡ Beat.GiveUp → ⊥
 goes_on_in_time limit incarnation age is l h e =
     given_up_at limit (age + 1)
     (λ q. (let y = h.early l in let z = below_last limit (retransmissions incarnation) is l in omega (arith, q, y, z))) e
 
-pub timed_waits : (limit : ℕ) (incarnation : List Exchange) (age : ℕ) → IsLimit limit → Timed limit incarnation age → beat_at limit (age + 1) ≡ Beat.Wait → Timed limit (quiet ∷ incarnation) (age + 1)
+pub timed_waits : (limit : ℕ) (incarnation : List Exchange) (age : ℕ) → IsLimit limit → Timed limit incarnation age
+    → beat_at limit (age + 1) ≡ Beat.Wait → Timed limit (quiet ∷ incarnation) (age + 1)
 timed_waits limit incarnation age is h e = record {
   awaits = h.awaits;
   early = λ l. elim (cases_lt (age + 1) (give_up_age (retransmissions incarnation))) [
@@ -111,10 +116,13 @@ timed_waits limit incarnation age is h e = record {
 }
 
 -- what is sent again occupies sequence space
-counts_again : (s : PlainSegment) (older : List Exchange) → occupies_sequence_space s ≡ true → awaits_ack older ≡ true → retransmissions (met None (Some s) ∷ older) ≡ retransmissions older + 1
-counts_again s older o w = ap (λ b. if b && awaits_ack older then retransmissions older + 1 else retransmissions older) o ∙ ap (λ b. if b then retransmissions older + 1 else retransmissions older) w
+counts_again : (s : PlainSegment) (older : List Exchange) → occupies_sequence_space s ≡ true → awaits_ack older ≡ true
+    → retransmissions (met None (Some s) ∷ older) ≡ retransmissions older + 1
+counts_again s older o w = ap (λ b. if b && awaits_ack older then retransmissions older + 1 else retransmissions older) o
+    ∙ ap (λ b. if b then retransmissions older + 1 else retransmissions older) w
 
-pub timed_again : (limit : ℕ) (s : PlainSegment) (older : List Exchange) (age : ℕ) → IsLimit limit → occupies_sequence_space s ≡ true → Timed limit older age → Timed limit (met None (Some s) ∷ older) (age + 1)
+pub timed_again : (limit : ℕ) (s : PlainSegment) (older : List Exchange) (age : ℕ) → IsLimit limit → occupies_sequence_space s ≡ true
+    → Timed limit older age → Timed limit (met None (Some s) ∷ older) (age + 1)
 timed_again limit s older age is o h =
     let n : ℕ = retransmissions older in
     let more : retransmissions (met None (Some s) ∷ older) ≡ n + 1 = counts_again s older o h.awaits in
@@ -126,7 +134,8 @@ timed_again limit s older age is o h =
     }
 
 -- when it is first sent
-pub timed_first : (received : Option PlainSegment) (s : PlainSegment) (older : List Exchange) → occupies_sequence_space s ≡ true → Timed 8 (met received (Some s) ∷ older) 0
+pub timed_first : (received : Option PlainSegment) (s : PlainSegment) (older : List Exchange) → occupies_sequence_space s ≡ true
+    → Timed 8 (met received (Some s) ∷ older) 0
 timed_first received s older o = record { awaits = o; early = λ l. (rises (retransmissions (met received (Some s) ∷ older)) l).0 }
 
 -- the SYN-ACK

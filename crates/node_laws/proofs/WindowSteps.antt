@@ -1,5 +1,11 @@
 -- What a step of a connection does to the longest text that may be sent.
-use Rattle.node_laws.proofs.Prelude.{◌≡◌, ℕ, ◌≤◌, min, Bool, true, false, not, ◌&&◌, ◌⊎◌, inl, inr, List, refl, sym, ap, ◌∙◌, arith, eqb, ltb, if◌then◌else◌, PlainSegment, has_fin, has_rst, Beat, AppSpec, Now, State, Closed, SynRcvd, Established, CloseWait, FinWait1, FinWait2, Closing, TimeWait, LastAck, Want, Nothing, Send, Close, Abort, Connection, Outcome, leaves, closes, after_own_fin, peer_has_closed, idles, does_as_wanted, prepared, asked, is_out_of_order, is_acked, rests, has_text, with_part, peer_closes, stays_established, in_established, fin_acked, fin_waits, by_state, on_segment, outstanding, by_beat, on_tick, Step, choose, eqb-eq, is_open, asked_by, by_own_fin, is_ask, on_tick_by}
+use Rattle.node_laws.proofs.Prelude.{◌≡◌, ℕ, ◌≤◌, min, Bool, true, false, not, ◌&&◌, ◌⊎◌, inl, inr, List, refl, sym, ap, ◌∙◌, arith, eqb}
+use Rattle.node_laws.proofs.Prelude.{ltb, if◌then◌else◌, PlainSegment, has_fin, has_rst, Beat, AppSpec, Now, State, Closed, SynRcvd}
+use Rattle.node_laws.proofs.Prelude.{Established, CloseWait, FinWait1, FinWait2, Closing, TimeWait, LastAck, Want, Nothing, Send, Close}
+use Rattle.node_laws.proofs.Prelude.{Abort, Connection, Outcome, leaves, closes, after_own_fin, peer_has_closed, idles, does_as_wanted}
+use Rattle.node_laws.proofs.Prelude.{prepared, asked, is_out_of_order, is_acked, rests, has_text, with_part, peer_closes, stays_established}
+use Rattle.node_laws.proofs.Prelude.{in_established, fin_acked, fin_waits, by_state, on_segment, outstanding, by_beat, on_tick, Step}
+use Rattle.node_laws.proofs.Prelude.{choose, eqb-eq, is_open, asked_by, by_own_fin, is_ask, on_tick_by}
 
 -- ---- the first text
 
@@ -48,18 +54,21 @@ module _ (m : AppSpec) where
   wanted_short Close fresh c numbers = λ e. absurd (cc)
   wanted_short (Send n) fresh c numbers = λ e. omega arith
   wanted_short Nothing fresh c numbers =
-      choose NewIsShort (peer_has_closed c.state) (leaves (closes c) numbers Step.Reset) (if fresh then leaves c numbers Step.Ack else leaves c numbers Step.Drop) (λ e f. absurd (cc))
+      choose NewIsShort (peer_has_closed c.state) (leaves (closes c) numbers Step.Reset) (if fresh then leaves c numbers Step.Ack else
+      leaves c numbers Step.Drop) (λ e f. absurd (cc))
       (λ e. choose NewIsShort fresh (leaves c numbers Step.Ack) (leaves c numbers Step.Drop) (λ g f. absurd (cc)) (λ g f. absurd (cc)))
 
   pub asked_short : (at : Connection → Now) (o : Outcome) → NoNew o → NewIsShort (asked m at o)
   asked_short at o none =
-      asked_by m NewIsShort at o (λ a fresh. (let b : Connection = prepared m (at o.connection) o.connection o.numbers in wanted_short (m.want o.numbers b.part) fresh b o.numbers)) (λ e. absurd (cc))
+      asked_by m NewIsShort at o (λ a fresh. (let b : Connection = prepared m (at o.connection) o.connection o.numbers in
+      wanted_short (m.want o.numbers b.part) fresh b o.numbers)) (λ e. absurd (cc))
 
   -- ---- the application is asked, or not
 
   pub data AskedSo (o r : Outcome) : Type 0 where
     unasked : r ≡ o → AskedSo o r
-    spoke : is_open o.connection.state ≡ true → (is_open r.connection.state ≡ true → r.connection.mss ≡ o.connection.mss) → (r.connection.state ≡ SynRcvd → ⊥) → AskedSo o r
+    spoke : is_open o.connection.state ≡ true → (is_open r.connection.state ≡ true → r.connection.mss ≡ o.connection.mss)
+        → (r.connection.state ≡ SynRcvd → ⊥) → AskedSo o r
 
   record WantedOn (c d : Connection) : Type 0 where
     mss : is_open d.state ≡ true → d.mss ≡ c.mss
@@ -78,7 +87,8 @@ module _ (m : AppSpec) where
   wanted_on (Send k) fresh c numbers n = record { mss = λ e. refl; not_syn = n }
   wanted_on Nothing fresh c numbers n =
       let same : WantedOn c c = record { mss = λ e. refl; not_syn = n } in
-      choose (λ (o : Outcome). WantedOn c o.connection) (peer_has_closed c.state) (leaves (closes c) numbers Step.Reset) (if fresh then leaves c numbers Step.Ack else leaves c numbers Step.Drop)
+      choose (λ (o : Outcome). WantedOn c o.connection) (peer_has_closed c.state) (leaves (closes c) numbers Step.Reset)
+      (if fresh then leaves c numbers Step.Ack else leaves c numbers Step.Drop)
       (λ e. record { mss = λ f. absurd (cc); not_syn = λ f. cc })
       (λ e. choose (λ (o : Outcome). WantedOn c o.connection) fresh (leaves c numbers Step.Ack) (leaves c numbers Step.Drop) (λ f. same) (λ f. same))
 
@@ -105,7 +115,8 @@ module _ (m : AppSpec) where
   by_state_new Closed acked c numbers s = refl
   by_state_new SynRcvd true c numbers s = refl
   by_state_new SynRcvd false c numbers s = refl
-  by_state_new Established true c numbers s = established_new true (with_part (m.acked numbers c.part c.len).part (rests c)) (m.acked numbers c.part c.len).numbers s
+  by_state_new Established true c numbers s = established_new true (with_part (m.acked numbers c.part c.len).part (rests c))
+      (m.acked numbers c.part c.len).numbers s
   by_state_new Established false c numbers s = established_new false c numbers s
   by_state_new CloseWait true c numbers s = refl
   by_state_new CloseWait false c numbers s = refl
@@ -121,7 +132,8 @@ module _ (m : AppSpec) where
   pub segment_new : (c : Connection) (numbers : List ℕ) (s : PlainSegment) → NoNew (on_segment m c numbers s)
   unfolding on_segment
   segment_new c numbers s =
-      choose NoNew (has_rst s.flags) _ _ (λ e. refl) (λ e. choose NoNew (is_out_of_order c s) _ _ (λ f. refl) (λ f. by_state_new c.state (is_acked c s) c numbers s))
+      choose NoNew (has_rst s.flags) _ _ (λ e. refl) (λ e. choose NoNew (is_out_of_order c s) _ _ (λ f. refl)
+      (λ f. by_state_new c.state (is_acked c s) c numbers s))
 
   established_bounds : (flag : Bool) (c b : Connection) (numbers ns : List ℕ) (s : PlainSegment) → Bounds c numbers s (in_established m flag b ns s)
   unfolding in_established peer_closes stays_established
@@ -131,20 +143,24 @@ module _ (m : AppSpec) where
       (λ e. choose (Bounds c numbers s) (not flag && not (has_text s)) _ _ (λ f. bounds (by_window s.window b.initial_mss))
       (λ f. choose (Bounds c numbers s) (ltb 0 b.len) _ _ (λ g. bounds (by_window s.window b.initial_mss)) (λ g. bounds (by_window s.window b.initial_mss))))
 
-  by_state_bounds : (st : State) (acked : Bool) (c : Connection) (numbers : List ℕ) (s : PlainSegment) → c.state ≡ st → is_acked c s ≡ acked → Bounds c numbers s (by_state m st acked c numbers s)
+  by_state_bounds : (st : State) (acked : Bool) (c : Connection) (numbers : List ℕ) (s : PlainSegment) → c.state ≡ st → is_acked c s ≡ acked
+      → Bounds c numbers s (by_state m st acked c numbers s)
   unfolding fin_acked fin_waits
   by_state_bounds Closed acked c numbers s e a = speaks_no_more (ap is_open e)
   by_state_bounds SynRcvd true c numbers s e a = connects_it e a
   by_state_bounds SynRcvd false c numbers s e a = speaks_no_more (ap is_open e)
-  by_state_bounds Established true c numbers s e a = established_bounds true c (with_part (m.acked numbers c.part c.len).part (rests c)) numbers (m.acked numbers c.part c.len).numbers s
+  by_state_bounds Established true c numbers s e a = established_bounds true c (with_part (m.acked numbers c.part c.len).part (rests c))
+      numbers (m.acked numbers c.part c.len).numbers s
   by_state_bounds Established false c numbers s e a = established_bounds false c c numbers numbers s
   by_state_bounds CloseWait true c numbers s e a = bounds (by_window s.window c.initial_mss)
   by_state_bounds CloseWait false c numbers s e a = bounds (by_window s.window c.initial_mss)
   by_state_bounds FinWait1 true c numbers s e a = choose (Bounds c numbers s) (has_fin s.flags) _ _ (λ f. speaks_no_more refl) (λ f. speaks_no_more refl)
   by_state_bounds FinWait1 false c numbers s e a =
-      choose (Bounds c numbers s) (has_fin s.flags) _ _ (λ f. speaks_no_more refl) (λ f. choose (Bounds c numbers s) (has_text s) _ _ (λ g. speaks_no_more (ap is_open e)) (λ g. speaks_no_more (ap is_open e)))
+      choose (Bounds c numbers s) (has_fin s.flags) _ _ (λ f. speaks_no_more refl) (λ f. choose (Bounds c numbers s) (has_text s) _ _
+      (λ g. speaks_no_more (ap is_open e)) (λ g. speaks_no_more (ap is_open e)))
   by_state_bounds FinWait2 acked c numbers s e a =
-      choose (Bounds c numbers s) (has_fin s.flags) _ _ (λ f. speaks_no_more refl) (λ f. choose (Bounds c numbers s) (has_text s) _ _ (λ g. speaks_no_more (ap is_open e)) (λ g. speaks_no_more (ap is_open e)))
+      choose (Bounds c numbers s) (has_fin s.flags) _ _ (λ f. speaks_no_more refl) (λ f. choose (Bounds c numbers s) (has_text s) _ _
+      (λ g. speaks_no_more (ap is_open e)) (λ g. speaks_no_more (ap is_open e)))
   by_state_bounds Closing true c numbers s e a = speaks_no_more refl
   by_state_bounds Closing false c numbers s e a = speaks_no_more (ap is_open e)
   by_state_bounds LastAck true c numbers s e a = speaks_no_more refl
@@ -165,26 +181,32 @@ module _ (m : AppSpec) where
   not_syn : (c : Connection) (st : State) → c.state ≡ st → (st ≡ SynRcvd → ⊥) → c.state ≡ SynRcvd → ⊥
   not_syn c st e n h = n (sym e ∙ h)
 
-  established_syn : (flag : Bool) (c b : Connection) (numbers ns : List ℕ) (s : PlainSegment) → (b.state ≡ SynRcvd → ⊥) → AtSynStill c numbers s (in_established m flag b ns s)
+  established_syn : (flag : Bool) (c b : Connection) (numbers ns : List ℕ) (s : PlainSegment) → (b.state ≡ SynRcvd → ⊥)
+      → AtSynStill c numbers s (in_established m flag b ns s)
   unfolding in_established peer_closes stays_established
   established_syn flag c b numbers ns s n =
       choose (AtSynStill c numbers s) (has_fin s.flags) _ _ (λ e. choose (AtSynStill c numbers s) (ltb 0 b.len) _ _ (λ f h. absurd (cc)) (λ f h. absurd (cc)))
-      (λ e. choose (AtSynStill c numbers s) (not flag && not (has_text s)) _ _ (λ f h. absurd (n h)) (λ f. choose (AtSynStill c numbers s) (ltb 0 b.len) _ _ (λ g h. absurd (n h)) (λ g h. absurd (n h))))
+      (λ e. choose (AtSynStill c numbers s) (not flag && not (has_text s)) _ _ (λ f h. absurd (n h))
+      (λ f. choose (AtSynStill c numbers s) (ltb 0 b.len) _ _ (λ g h. absurd (n h)) (λ g h. absurd (n h))))
 
-  by_state_syn : (st : State) (acked : Bool) (c : Connection) (numbers : List ℕ) (s : PlainSegment) → c.state ≡ st → is_acked c s ≡ acked → AtSynStill c numbers s (by_state m st acked c numbers s)
+  by_state_syn : (st : State) (acked : Bool) (c : Connection) (numbers : List ℕ) (s : PlainSegment) → c.state ≡ st → is_acked c s ≡ acked
+      → AtSynStill c numbers s (by_state m st acked c numbers s)
   unfolding fin_acked fin_waits
   by_state_syn Closed acked c numbers s e a = λ h. absurd (let z = sym e ∙ h in cc)
   by_state_syn SynRcvd true c numbers s e a = λ h. absurd (cc)
   by_state_syn SynRcvd false c numbers s e a = λ h. record { before = e; same = refl; none = inr (a, refl) }
-  by_state_syn Established true c numbers s e a = established_syn true c (with_part (m.acked numbers c.part c.len).part (rests c)) numbers (m.acked numbers c.part c.len).numbers s (not_syn c Established e (λ z. cc))
+  by_state_syn Established true c numbers s e a = established_syn true c (with_part (m.acked numbers c.part c.len).part (rests c)) numbers
+      (m.acked numbers c.part c.len).numbers s (not_syn c Established e (λ z. cc))
   by_state_syn Established false c numbers s e a = established_syn false c c numbers numbers s (not_syn c Established e (λ z. cc))
   by_state_syn CloseWait true c numbers s e a = λ h. absurd (let z = sym e ∙ h in cc)
   by_state_syn CloseWait false c numbers s e a = λ h. absurd (let z = sym e ∙ h in cc)
   by_state_syn FinWait1 true c numbers s e a = choose (AtSynStill c numbers s) (has_fin s.flags) _ _ (λ f h. absurd (cc)) (λ f h. absurd (cc))
   by_state_syn FinWait1 false c numbers s e a =
-      choose (AtSynStill c numbers s) (has_fin s.flags) _ _ (λ f h. absurd (cc)) (λ f. choose (AtSynStill c numbers s) (has_text s) _ _ (λ g h. absurd (let z = sym e ∙ h in cc)) (λ g h. absurd (let z = sym e ∙ h in cc)))
+      choose (AtSynStill c numbers s) (has_fin s.flags) _ _ (λ f h. absurd (cc)) (λ f. choose (AtSynStill c numbers s) (has_text s) _ _
+      (λ g h. absurd (let z = sym e ∙ h in cc)) (λ g h. absurd (let z = sym e ∙ h in cc)))
   by_state_syn FinWait2 acked c numbers s e a =
-      choose (AtSynStill c numbers s) (has_fin s.flags) _ _ (λ f h. absurd (cc)) (λ f. choose (AtSynStill c numbers s) (has_text s) _ _ (λ g h. absurd (let z = sym e ∙ h in cc)) (λ g h. absurd (let z = sym e ∙ h in cc)))
+      choose (AtSynStill c numbers s) (has_fin s.flags) _ _ (λ f h. absurd (cc)) (λ f. choose (AtSynStill c numbers s) (has_text s) _ _
+      (λ g h. absurd (let z = sym e ∙ h in cc)) (λ g h. absurd (let z = sym e ∙ h in cc)))
   by_state_syn Closing true c numbers s e a = λ h. absurd (cc)
   by_state_syn Closing false c numbers s e a = λ h. absurd (let z = sym e ∙ h in cc)
   by_state_syn LastAck true c numbers s e a = λ h. absurd (cc)
@@ -208,7 +230,12 @@ module _ (m : AppSpec) where
 
   beat_on : (b : Beat) (c : Connection) (numbers : List ℕ) → TicksOn c (by_beat m b c numbers)
   beat_on Beat.Wait c numbers = record { new = refl; mss = λ e. (refl, e); at_syn = λ e. (e, inl refl); numbers_same = (refl, refl) }
-  beat_on Beat.Again c numbers = record { new = again_not_new c.state; mss = λ e. (refl, e); at_syn = λ e. (e, inr (ap (outstanding true) e)); numbers_same = (refl, refl) }
+  beat_on Beat.Again c numbers = record {
+    new = again_not_new c.state;
+    mss = λ e. (refl, e);
+    at_syn = λ e. (e, inr (ap (outstanding true) e));
+    numbers_same = (refl, refl);
+  }
   beat_on Beat.GiveUp c numbers = record { new = refl; mss = λ e. absurd (cc); at_syn = λ e. absurd (cc); numbers_same = (refl, refl) }
 
   pub tick_on : (c : Connection) (numbers : List ℕ) → TicksOn c (on_tick m c numbers)

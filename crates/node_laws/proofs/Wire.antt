@@ -1,5 +1,11 @@
 -- What bytes decode to fits its types.
-use Rattle.node_laws.proofs.Prelude.{All, option_map_or, ℕ, zero, suc, ◌+◌, ◌-◌, ◌%◌, ◌<◌, not, ◌||◌, List, [], ◌∷◌, ◌++◌, length, take, drop, refl, sym, subst, arith, Option, Some, None, Result, eqb, ltb, bytes_eq, slice_index, All-take, All-drop, address_at, checksum_of, word_at, long_at, Addr, proto_of, head_by, head_or_fate, payload_of, IpHead, IpFate, Proto, Icmp, echo_fate, IcmpFate, header_len, segment_in, pseudo_header, TcpFate, Segment, IsAddr, IsByte, by_head, by_proto, by_segment, event_of, Event, IpRefused, IcmpRefused, TcpRefused, EchoAsked, Arrived, Overlong, Periodic, IsEvent, choose, all_nil, all_cons, IsOfLine, of_bytes, of_overlong, of_call}
+use Rattle.node_laws.proofs.Prelude.{All, option_map_or, ℕ, zero, suc, ◌+◌, ◌-◌, ◌%◌, ◌<◌, not, ◌||◌, List, [], ◌∷◌, ◌++◌, length, take}
+use Rattle.node_laws.proofs.Prelude.{drop, refl, sym, subst, arith, Option, Some, None, Result, eqb, ltb, bytes_eq, slice_index, All-take}
+use Rattle.node_laws.proofs.Prelude.{All-drop, address_at, checksum_of, word_at, long_at, Addr, proto_of, head_by, head_or_fate, payload_of}
+use Rattle.node_laws.proofs.Prelude.{IpHead, IpFate, Proto, Icmp, echo_fate, IcmpFate, header_len, segment_in, pseudo_header, TcpFate}
+use Rattle.node_laws.proofs.Prelude.{Segment, IsAddr, IsByte, by_head, by_proto, by_segment, event_of, Event, IpRefused, IcmpRefused}
+use Rattle.node_laws.proofs.Prelude.{TcpRefused, EchoAsked, Arrived, Overlong, Periodic, IsEvent, choose, all_nil, all_cons, IsOfLine}
+use Rattle.node_laws.proofs.Prelude.{of_bytes, of_overlong, of_call}
 use Rattle.uip_ipv4.specs.declared.proto.Proto.TheVariants.{Tcp}
 
 -- what a segment that came has
@@ -29,14 +35,17 @@ long_low xs at h = (let a = word_low xs at h in let b = word_low xs (at + 2) h i
 addr_fits : (xs : List ℕ) (at : ℕ) → All IsByte xs → IsAddr (record { 0 = address_at xs at })
 addr_fits xs at h = record {
   four = refl;
-  all_bytes = (let a : ℕ = slice_index xs at in let b : ℕ = slice_index xs (at + 1) in let c : ℕ = slice_index xs (at + 2) in let d : ℕ = slice_index xs (at + 3) in
-      all_cons IsByte a (b ∷ c ∷ d ∷ []) (index_low xs at h) (all_cons IsByte b (c ∷ d ∷ []) (index_low xs (at + 1) h) (all_cons IsByte c (d ∷ []) (index_low xs (at + 2) h) (all_cons IsByte d [] (index_low xs (at + 3) h) (all_nil IsByte)))));
+  all_bytes = (let a : ℕ = slice_index xs at in let b : ℕ = slice_index xs (at + 1) in let c : ℕ = slice_index xs (at + 2) in
+      let d : ℕ = slice_index xs (at + 3) in
+      all_cons IsByte a (b ∷ c ∷ d ∷ []) (index_low xs at h) (all_cons IsByte b (c ∷ d ∷ []) (index_low xs (at + 1) h)
+      (all_cons IsByte c (d ∷ []) (index_low xs (at + 2) h) (all_cons IsByte d [] (index_low xs (at + 3) h) (all_nil IsByte)))));
 }
 
 payload_low : (head : IpHead) (bytes : List ℕ) → All IsByte bytes → All IsByte (payload_of head bytes)
 payload_low head bytes h = All-take IsByte (head.total - 20) (drop 20 bytes) (All-drop IsByte 20 bytes h)
 
-segment_wire : (head : IpHead) (bytes payload : List ℕ) (source target : List ℕ) → IsAddr head.source → All IsByte bytes → All IsByte payload → IsWire (by_segment head bytes (segment_in source target payload))
+segment_wire : (head : IpHead) (bytes payload : List ℕ) (source target : List ℕ) → IsAddr head.source → All IsByte bytes
+    → All IsByte payload → IsWire (by_segment head bytes (segment_in source target payload))
 unfolding segment_in
 segment_wire head bytes payload source target a are h =
     let at : ℕ = 20 + header_len payload in
@@ -45,7 +54,13 @@ segment_wire head bytes payload source target a are h =
     choose P (ltb (length payload) 20) _ _ (λ e. tt)
     (λ e. choose P (ltb (header_len payload) 20 || ltb (length payload) (header_len payload)) _ _ (λ f. tt)
     (λ f. choose P (not (eqb (checksum_of (pseudo_header source target (length payload) ++ payload)) 0)) _ _ (λ g. tt)
-    (λ g. (a, word_low payload 0 h, word_low payload 2 h, long_low payload 8 h, All-take IsByte (at + size - at) (drop at bytes) (All-drop IsByte at bytes are)))))
+    (λ g. (
+      a,
+      word_low payload 0 h,
+      word_low payload 2 h,
+      long_low payload 8 h,
+      All-take IsByte (at + size - at) (drop at bytes) (All-drop IsByte at bytes are),
+    ))))
 
 echo_wire : (fate : Option IcmpFate) (request : List ℕ) → IsWire (option_map_or IcmpRefused fate (EchoAsked request))
 echo_wire None request = tt
@@ -58,7 +73,12 @@ proto_wire Tcp head bytes a h = segment_wire head bytes (payload_of head bytes) 
 head_wire : (proto : Option Proto) (bytes : List ℕ) → All IsByte bytes → IsWire (by_head bytes (head_by proto bytes))
 head_wire None bytes h = tt
 head_wire (Some proto) bytes h =
-    proto_wire proto (record { total = word_at bytes 2; proto = proto; source = record { 0 = address_at bytes 12 }; target = record { 0 = address_at bytes 16 } }) bytes (addr_fits bytes 12 h) h
+    proto_wire proto (record {
+      total = word_at bytes 2;
+      proto = proto;
+      source = record { 0 = address_at bytes 12 };
+      target = record { 0 = address_at bytes 16 };
+    }) bytes (addr_fits bytes 12 h) h
 
 pub bytes_wire : (own : Addr) (bytes : List ℕ) → All IsByte bytes → IsWire (event_of own bytes)
 unfolding head_or_fate

@@ -1,5 +1,12 @@
 -- The guarantee alone excludes wrong incarnations.
-use Rattle.node_laws.proofs.Prelude.{◌≡◌, ◌+◌, ◌<◌, ◌≤◌, ◌⊎◌, ℕ, zero, suc, Bool, true, false, List, [], ◌∷◌, ◌++◌, length, take, refl, sym, ap, ◌∙◌, subst, arith, inl, inr, Some, if◌then◌else◌, wrap, PlainSegment, hello, fixed_text, some_received, EchoAsked, only_some, prefix_length, prefix_refl, IsPrefixOf, OutputModel, Paged, Interactive, Free, CarriesByte, IsReceived, received_at, sent_at, IsEchoed, Account, Opening, IsSelection, AccountHolds, IncarnationConforms, NumbersGiveOffsets, IsAcknowledged, Pages, Exchange, IsPrefixOfPage, TextConforms, SpeaksBy, hello_pages, mirror_pages, opened, segment, cut_again, ends_early, repeats_byte, acknowledges_refused, two_under_way, reports_another, echoes_before, WrongIncarnationsFall}
+use Rattle.node_laws.proofs.Prelude.{◌≡◌, ◌+◌, ◌<◌, ◌≤◌, ◌⊎◌, ℕ, zero, suc, Bool, true, false, List, [], ◌∷◌, ◌++◌, length, take, refl, sym}
+use Rattle.node_laws.proofs.Prelude.{ap, ◌∙◌, subst, arith, inl, inr, Some, if◌then◌else◌, wrap, PlainSegment, hello, fixed_text}
+use Rattle.node_laws.proofs.Prelude.{some_received, EchoAsked, only_some, prefix_length, prefix_refl, IsPrefixOf, OutputModel, Paged}
+use Rattle.node_laws.proofs.Prelude.{Interactive, Free, CarriesByte, IsReceived, received_at, sent_at, IsEchoed, Account, Opening}
+use Rattle.node_laws.proofs.Prelude.{IsSelection, AccountHolds, IncarnationConforms, NumbersGiveOffsets, IsAcknowledged, Pages, Exchange}
+use Rattle.node_laws.proofs.Prelude.{IsPrefixOfPage, TextConforms, SpeaksBy, hello_pages, mirror_pages, opened, segment, cut_again}
+use Rattle.node_laws.proofs.Prelude.{ends_early, repeats_byte, acknowledges_refused, two_under_way, reports_another, echoes_before}
+use Rattle.node_laws.proofs.Prelude.{WrongIncarnationsFall}
 use Rattle.node_laws.proofs.Texts.{element, get_inside, most_or_more}
 
 -- where the life begins
@@ -61,8 +68,10 @@ cut_resend model k =
 -- what was sent is of a page of something that was taken
 of_some_page : (pages : Pages) (model : OutputModel) (incarnation : List Exchange) (a : Account) → SpeaksBy pages model → TextConforms model incarnation a
     → (delivered : List ℕ) × IsPrefixOf delivered a.input × IsPrefixOfPage pages delivered incarnation a
-of_some_page pages model incarnation a (inl e) h = (let g : TextConforms (Paged pages) incarnation a = subst (λ z. TextConforms z incarnation a) e h in (a.input, prefix_refl a.input, g.0))
-of_some_page pages model incarnation a (inr e) h = (let g : TextConforms (Interactive pages) incarnation a = subst (λ z. TextConforms z incarnation a) e h in g.0)
+of_some_page pages model incarnation a (inl e) h = (let g : TextConforms (Paged pages) incarnation a = subst
+    (λ z. TextConforms z incarnation a) e h in (a.input, prefix_refl a.input, g.0))
+of_some_page pages model incarnation a (inr e) h = (let g : TextConforms (Interactive pages) incarnation a = subst
+    (λ z. TextConforms z incarnation a) e h in g.0)
 
 early_fin : (model : OutputModel) → SpeaksBy hello_pages model → IncarnationConforms model ends_early → ⊥
 early_fin model by k =
@@ -102,7 +111,8 @@ second_segment model k =
 opening_taken : (n : ℕ) (text : List ℕ) (ended : Bool) → n ≡ 1000 → IsSelection n (opened ∷ []) text ended → (text ≡ []) × (ended ≡ false)
 opening_taken n text ended e h = elim h [
   | inl g ↦ g
-  | inr t ↦ absurd (let a : 1000 ≡ wrap (n + 1 + length t.earlier) = only_some (λ s. s.seq ≡ wrap (n + 1 + length t.earlier) → 1000 ≡ wrap (n + 1 + length t.earlier)) (segment 1000 0 2 []) t.segment t.received (λ q. q) t.seq in
+  | inr t ↦ absurd (let a : 1000 ≡ wrap (n + 1 + length t.earlier) = only_some (λ s. s.seq ≡ wrap (n + 1 + length t.earlier)
+      → 1000 ≡ wrap (n + 1 + length t.earlier)) (segment 1000 0 2 []) t.segment t.received (λ q. q) t.seq in
       let b : length t.earlier ≡ 0 = ap length t.before.0 in omega (arith, a, b, e))
 ]
 
@@ -110,7 +120,8 @@ opening_taken n text ended e h = elim h [
 refused_taken : (n : ℕ) (text : List ℕ) (ended : Bool) → n ≡ 1000 → IsSelection n acknowledges_refused text ended → (text ≡ []) × (ended ≡ false)
 refused_taken n text ended e h = elim h [
   | inl g ↦ opening_taken n text ended e g
-  | inr t ↦ absurd (let a : 1005 ≡ wrap (n + 1 + length t.earlier) = only_some (λ s. s.seq ≡ wrap (n + 1 + length t.earlier) → 1005 ≡ wrap (n + 1 + length t.earlier)) (segment 1005 1 16 (120 ∷ [])) t.segment t.received (λ q. q) t.seq in
+  | inr t ↦ absurd (let a : 1005 ≡ wrap (n + 1 + length t.earlier) = only_some (λ s. s.seq ≡ wrap (n + 1 + length t.earlier)
+      → 1005 ≡ wrap (n + 1 + length t.earlier)) (segment 1005 1 16 (120 ∷ [])) t.segment t.received (λ q. q) t.seq in
       let b : length t.earlier ≡ 0 = ap length (opening_taken n t.earlier false e t.before).0 in omega (arith, a, b, e))
 ]
 
@@ -122,14 +133,16 @@ refused model k =
     let a = g.acknowledges 0 _ refl refl in
     let t = refused_taken (k.account 0).irs a.selected a.counts_fin p a.is in
     let l : length a.selected ≡ 0 = ap length t.0 in
-    let q : 1006 ≡ wrap ((k.account 0).irs + 1 + length a.selected + 0) = a.ack ∙ ap (λ b. wrap ((k.account 0).irs + 1 + length a.selected + (if b then 1 else 0))) t.1 in
+    let q : 1006 ≡ wrap ((k.account 0).irs + 1 + length a.selected + 0) = a.ack
+    ∙ ap (λ b. wrap ((k.account 0).irs + 1 + length a.selected + (if b then 1 else 0))) t.1 in
     omega (arith, l, p, q)
 
 -- a segment without text adds none
 nothing_taken : (n : ℕ) (text : List ℕ) (ended : Bool) → n ≡ 1000 → IsSelection n reports_another text ended → text ≡ []
 nothing_taken n text ended e h = elim h [
   | inl g ↦ (opening_taken n text ended e g).0
-  | inr t ↦ t.joined ∙ ap (λ l. l ++ t.segment.text) (opening_taken n t.earlier false e t.before).0 ∙ only_some (λ s. s.text ≡ []) (segment 1001 1 16 []) t.segment t.received refl
+  | inr t ↦ t.joined ∙ ap (λ l. l ++ t.segment.text) (opening_taken n t.earlier false e t.before).0 ∙ only_some (λ s. s.text ≡ [])
+      (segment 1001 1 16 []) t.segment t.received refl
 ]
 
 other_page : (model : OutputModel) → SpeaksBy mirror_pages model → IncarnationConforms model reports_another → ⊥

@@ -1,5 +1,11 @@
 -- What the calls of a connection do to the states that its value represents.
-use Rattle.own_app.proofs.Prelude.{All, All-head, All-tail, AppState, Bool, CanSupply, IsByte, IsRepresented, List, Now, OwnApp, OwnRepresents, OwnState, PlainMessage, Snapshot, StateRepresents, after_capture, after_input, ap, arith, bytes_taken, drop, drop-append-le, drop-drop, eq-eqb, eqb-true, false, false≢true, has_last, if◌then◌else◌, is_due, is_next_message, is_overrun, le-ltb, le_prop, leb-false, leb-true, left_of_value, len_left, length, length-append, length-drop, lt-ltb, ltb-false, ltb-true, map, message_in, messages_text, messages_text_more, nat_le, ne_eqb, not, numbers_of, own_spec, pending, refl, state_of, sym, true, with_message, ∥∥₁_elim, ◌%◌, ◌&&◌, ◌++◌, ◌+◌, ◌-◌, ◌<◌, ◌==◌, ◌||◌, ◌∙◌, ◌∷◌, ◌≡◌, ◌≤◌, ℕ, []}
+use Rattle.own_app.proofs.Prelude.{All, All-head, All-tail, AppState, Bool, CanSupply, IsByte, IsRepresented, List, Now, OwnApp}
+use Rattle.own_app.proofs.Prelude.{OwnRepresents, OwnState, PlainMessage, Snapshot, StateRepresents, after_capture, after_input, ap, arith}
+use Rattle.own_app.proofs.Prelude.{bytes_taken, drop, drop-append-le, drop-drop, eq-eqb, eqb-true, false, false≢true, has_last}
+use Rattle.own_app.proofs.Prelude.{if◌then◌else◌, is_due, is_next_message, is_overrun, le-ltb, le_prop, leb-false, leb-true, left_of_value}
+use Rattle.own_app.proofs.Prelude.{len_left, length, length-append, length-drop, lt-ltb, ltb-false, ltb-true, map, message_in}
+use Rattle.own_app.proofs.Prelude.{messages_text, messages_text_more, nat_le, ne_eqb, not, numbers_of, own_spec, pending, refl, state_of}
+use Rattle.own_app.proofs.Prelude.{sym, true, with_message, ∥∥₁_elim, ◌%◌, ◌&&◌, ◌++◌, ◌+◌, ◌-◌, ◌<◌, ◌==◌, ◌||◌, ◌∙◌, ◌∷◌, ◌≡◌, ◌≤◌, ℕ, []}
 use Rattle.std.proofs.lemmas.Bool.Decides.{nat_tests}
 use Rattle.own_app.specs.declared.TheConstants.{RECEIVED_ROOM}
 
@@ -13,7 +19,13 @@ same_bytes (b ∷ text) h =
 
 pub message_back : (opened : ℕ) (s : PlainMessage) → All IsByte s.text → message_in (numbers_of opened s) ≡ s
 message_back opened s h =
-    elim s.last as (λ b. record { to = s.to; number = s.number; taken = s.taken; last = (if b then 1 else 0) == 1; text = map (λ c. c % 256) s.text } ≡ record s { last = b }) [
+    elim s.last as (λ b. record {
+      to = s.to;
+      number = s.number;
+      taken = s.taken;
+      last = (if b then 1 else 0) == 1;
+      text = map (λ c. c % 256) s.text;
+    } ≡ record s { last = b }) [
       | true ↦ ap (λ l. record { to = s.to; number = s.number; taken = s.taken; last = true; text = l }) (same_bytes s.text h)
       | false ↦ ap (λ l. record { to = s.to; number = s.number; taken = s.taken; last = false; text = l }) (same_bytes s.text h)
     ]
@@ -58,21 +70,28 @@ and_none : (b : Bool) → (b && false) ≡ false
 and_none true = refl
 and_none false = refl
 
-by_overrun : (overrun first ended left x y : Bool) → (overrun ≡ false → x ≡ y) → (first && not overrun && ended && left && x) ≡ (first && not overrun && ended && left && y)
+by_overrun : (overrun first ended left x y : Bool) → (overrun ≡ false → x ≡ y) → (first && not overrun && ended && left && x)
+    ≡ (first && not overrun && ended && left && y)
 by_overrun false first ended left x y same = ap (λ z. first && true && ended && left && z) (same refl)
 by_overrun true first ended left x y same = gone (first && false) ended left x y (and_none first)
 
 -- the value shows whether a message is the next of the state
 pub due_is : (a : OwnState) (p : AppState) (s : PlainMessage) → StateRepresents a p → is_due a s ≡ is_next_message s p
 due_is a p s represents =
-    ap (λ n. s.to == n && s.number == a.count && not a.overrun && not a.ended && a.at == length a.sending && nat_le s.taken (length a.received)) represents.ticket
-    ∙ ap (λ n. s.to == p.own && s.number == n && not a.overrun && not a.ended && a.at == length a.sending && nat_le s.taken (length a.received)) represents.count
-    ∙ ap (λ b. s.to == p.own && s.number == length p.snapshots % 4294967296 && not a.overrun && not b && a.at == length a.sending && nat_le s.taken (length a.received)) represents.ended
-    ∙ ap (λ b. s.to == p.own && s.number == length p.snapshots % 4294967296 && not a.overrun && not (has_last p.snapshots) && b && nat_le s.taken (length a.received))
+    ap (λ n. s.to == n && s.number == a.count && not a.overrun && not a.ended && a.at == length a.sending && nat_le s.taken
+    (length a.received)) represents.ticket
+    ∙ ap (λ n. s.to == p.own && s.number == n && not a.overrun && not a.ended && a.at == length a.sending && nat_le s.taken
+    (length a.received)) represents.count
+    ∙ ap (λ b. s.to == p.own && s.number == length p.snapshots % 4294967296 && not a.overrun && not b && a.at == length a.sending
+    && nat_le s.taken (length a.received)) represents.ended
+    ∙ ap (λ b. s.to == p.own && s.number == length p.snapshots % 4294967296 && not a.overrun && not (has_last p.snapshots) && b
+    && nat_le s.taken (length a.received))
     (nothing_left a p represents)
-    ∙ by_overrun a.overrun (s.to == p.own && s.number == length p.snapshots % 4294967296) (not (has_last p.snapshots)) (len_left p == 0) (nat_le s.taken (length a.received)) (nat_le s.taken (length (pending p)))
+    ∙ by_overrun a.overrun (s.to == p.own && s.number == length p.snapshots % 4294967296) (not (has_last p.snapshots)) (len_left p == 0)
+    (nat_le s.taken (length a.received)) (nat_le s.taken (length (pending p)))
     (λ e. ap (λ l. nat_le s.taken (length l)) (represents.received e))
-    ∙ ap (λ b. s.to == p.own && s.number == length p.snapshots % 4294967296 && not b && not (has_last p.snapshots) && len_left p == 0 && nat_le s.taken (length (pending p))) represents.overrun
+    ∙ ap (λ b. s.to == p.own && s.number == length p.snapshots % 4294967296 && not b && not (has_last p.snapshots) && len_left p == 0
+    && nat_le s.taken (length (pending p))) represents.overrun
 
 -- the same of the message in the numbers
 pub is_next_by_value : (a : OwnState) (p : AppState) (opened : ℕ) (s : PlainMessage) → All IsByte s.text → StateRepresents a p
@@ -95,22 +114,26 @@ due_parts a s e = record {
 }
 
 -- a capture
-pub capture_represents : (a : OwnState) (p : AppState) (s : PlainMessage) (numbers : List ℕ) (now : Now) → s ≡ message_in numbers → StateRepresents a p → is_due a s ≡ true
+pub capture_represents : (a : OwnState) (p : AppState) (s : PlainMessage) (numbers : List ℕ) (now : Now) → s ≡ message_in numbers
+    → StateRepresents a p → is_due a s ≡ true
     → StateRepresents (after_capture a s) (with_message numbers p now)
 capture_represents a p s numbers now is represents e =
     let due = due_parts a s e in
     let k : Snapshot = record { numbers = numbers; now = now } in
     let received = represents.received due.stored in
-    let taken : bytes_taken (p.snapshots ++ k ∷ []) ≡ bytes_taken p.snapshots + s.taken = taken_more p.snapshots k ∙ ap (λ (x : PlainMessage). bytes_taken p.snapshots + x.taken) (sym is) in
+    let taken : bytes_taken (p.snapshots ++ k ∷ []) ≡ bytes_taken p.snapshots + s.taken = taken_more p.snapshots k
+    ∙ ap (λ (x : PlainMessage). bytes_taken p.snapshots + x.taken) (sym is) in
     let rest : drop s.taken a.received ≡ drop (bytes_taken (p.snapshots ++ k ∷ [])) p.input =
     ap (λ l. drop s.taken l) received ∙ drop-drop s.taken (bytes_taken p.snapshots) p.input ∙ ap (λ n. drop n p.input) (sym taken) in
     let size : length a.received ≡ length p.input - bytes_taken p.snapshots = ap (λ l. length l) received ∙ length-drop (bytes_taken p.snapshots) p.input in
     let small : length a.received ≤ RECEIVED_ROOM =
-    ap-le (length a.received) (length (pending p)) (ap (λ l. length l) received) (ltb-false RECEIVED_ROOM (length (pending p)) (sym represents.overrun ∙ due.stored)) in
+    ap-le (length a.received) (length (pending p)) (ap (λ l. length l) received) (ltb-false RECEIVED_ROOM (length (pending p))
+    (sym represents.overrun ∙ due.stored)) in
     record {
       ticket = represents.ticket;
       taken = (let there = due.there in omega (arith, taken, size, there, represents.taken));
-      overrun = due.stored ∙ sym (le-ltb RECEIVED_ROOM (length (drop (bytes_taken (p.snapshots ++ k ∷ [])) p.input)) (omega (arith, ap (λ l. length l) rest, length-drop s.taken a.received, small)));
+      overrun = due.stored ∙ sym (le-ltb RECEIVED_ROOM (length (drop (bytes_taken (p.snapshots ++ k ∷ [])) p.input))
+          (omega (arith, ap (λ l. length l) rest, length-drop s.taken a.received, small)));
       received = λ f. rest;
       before = messages_text p.snapshots;
       sending = messages_text_more p.snapshots k (sym represents.ended ∙ due.more) ∙ ap (λ (x : PlainMessage). messages_text p.snapshots ++ x.text) (sym is);
@@ -125,18 +148,24 @@ capture_represents a p s numbers now is represents e =
     ap-le x y e h = omega (arith, e, h)
 
 -- a piece
-pub input_represents : (a : OwnState) (p : AppState) (piece : List ℕ) → StateRepresents a p → StateRepresents (after_input a piece) (record p { input = p.input ++ piece; polls = 0 })
+pub input_represents : (a : OwnState) (p : AppState) (piece : List ℕ) → StateRepresents a p → StateRepresents (after_input a piece)
+    (record p { input = p.input ++ piece; polls = 0 })
 input_represents a p piece represents =
-    elim a.overrun as (λ b. a.overrun ≡ b → StateRepresents (if b then record a { polls = 0 } else if nat_le (length a.received + length piece) RECEIVED_ROOM then record a { received = a.received ++ piece; polls = 0 } else record a { overrun = true; polls = 0 }) q) [
+    elim a.overrun as (λ b. a.overrun ≡ b → StateRepresents (if b then record a { polls = 0 } else if nat_le
+    (length a.received + length piece) RECEIVED_ROOM then record a { received = a.received ++ piece; polls = 0 } else record a
+    { overrun = true; polls = 0 }) q) [
       | true ↦ λ e. overrun_represents (record a { polls = 0 }) refl refl refl refl refl refl e
-          (sym (lt-ltb RECEIVED_ROOM (length (pending q)) (let over = ltb-true RECEIVED_ROOM (length (pending p)) (sym represents.overrun ∙ e) in omega (arith, over, size, length-append (pending p) piece))))
+          (sym (lt-ltb RECEIVED_ROOM (length (pending q)) (let over = ltb-true RECEIVED_ROOM (length (pending p)) (sym represents.overrun
+          ∙ e) in omega (arith, over, size, length-append (pending p) piece))))
       | false ↦ λ e.
-          elim (nat_le (length a.received + length piece) RECEIVED_ROOM) as (λ b. nat_le (length a.received + length piece) RECEIVED_ROOM ≡ b → StateRepresents (if b then record a { received = a.received ++ piece; polls = 0 } else record a { overrun = true; polls = 0 }) q) [
+          elim (nat_le (length a.received + length piece) RECEIVED_ROOM) as (λ b. nat_le (length a.received + length piece) RECEIVED_ROOM
+          ≡ b → StateRepresents (if b then record a { received = a.received ++ piece; polls = 0 } else record a { overrun = true; polls = 0 }) q) [
             | true ↦ λ f.
                 record {
                   ticket = represents.ticket;
                   taken = more;
-                  overrun = e ∙ sym (le-ltb RECEIVED_ROOM (length (pending q)) (let fits = leb-true (length a.received + length piece) RECEIVED_ROOM f in omega (arith, fits, size, length-append (pending p) piece, ap (λ l. length l) (represents.received e))));
+                  overrun = e ∙ sym (le-ltb RECEIVED_ROOM (length (pending q)) (let fits = leb-true (length a.received + length piece)
+                      RECEIVED_ROOM f in omega (arith, fits, size, length-append (pending p) piece, ap (λ l. length l) (represents.received e))));
                   received = λ g. ap (λ l. l ++ piece) (represents.received e) ∙ sym rest;
                   before = represents.before;
                   sending = represents.sending;
@@ -148,7 +177,8 @@ input_represents a p piece represents =
                 }
             | false ↦ λ f.
                 overrun_represents (record a { overrun = true; polls = 0 }) refl refl refl refl refl refl refl
-                (sym (lt-ltb RECEIVED_ROOM (length (pending q)) (let over = leb-false (length a.received + length piece) RECEIVED_ROOM f in omega (arith, over, size, length-append (pending p) piece, ap (λ l. length l) (represents.received e)))))
+                (sym (lt-ltb RECEIVED_ROOM (length (pending q)) (let over = leb-false (length a.received + length piece) RECEIVED_ROOM f in
+                omega (arith, over, size, length-append (pending p) piece, ap (λ l. length l) (represents.received e)))))
           ] refl
     ] refl
   where
@@ -164,7 +194,8 @@ input_represents a p piece represents =
     size : length (pending q) ≡ length (pending p ++ piece)
     size = ap (λ l. length l) rest
 
-    overrun_represents : (b : OwnState) → b.ticket ≡ a.ticket → b.sending ≡ a.sending → b.at ≡ a.at → b.count ≡ a.count → b.ended ≡ a.ended → b.polls ≡ 0 → b.overrun ≡ true → true ≡ is_overrun q → StateRepresents b q
+    overrun_represents : (b : OwnState) → b.ticket ≡ a.ticket → b.sending ≡ a.sending → b.at ≡ a.at → b.count ≡ a.count → b.ended ≡ a.ended
+        → b.polls ≡ 0 → b.overrun ≡ true → true ≡ is_overrun q → StateRepresents b q
     overrun_represents b same_ticket same_sending same_at same_count same_end none is over = record {
       ticket = same_ticket ∙ represents.ticket;
       taken = more;

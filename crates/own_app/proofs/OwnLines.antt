@@ -1,5 +1,12 @@
 -- What the application owes the laws of a trace, and the trace of a node with it.
-use Rattle.own_app.proofs.Prelude.{All, All-append, All-cons, All-drop, All-head, All-nil, All-tail, AppState, Bool, FollowsPagesAt, IsByte, IsMessage, IsOwnStep, IsPrefixOf, IsSteady, IsU32, List, [], MayWant, Now, AbstractNode, OwnSpeaksOnLines, OwnStep, OwnTraceConforms, Happens, Writes, PlainMessage, SendsBytes, Snapshot, TraceConforms, TraceEntry, IsDecoded, Addr, Nothing, Send, Close, Abort, ap, append-nil, append_assoc, arith, drop, false, false≢true, has_last, if◌then◌else◌, initial_node, inl, is_next_message, is_overrun, len_left, length, ltb-false, map, message_in, messages_text, nat_lt, next_ticket, opened_in, own_lawful, own_output_model, own_sessions, own_spec, own_trace, own_want, refl, step, subst, sym, true, with_message, with_written, write_message, ◌%◌, ◌++◌, ◌==◌, ◌||◌, ◌∙◌, ◌∷◌, ◌≡◌, ◌≤◌, ℕ}
+use Rattle.own_app.proofs.Prelude.{All, All-append, All-cons, All-drop, All-head, All-nil, All-tail, AppState, Bool, FollowsPagesAt, IsByte}
+use Rattle.own_app.proofs.Prelude.{IsMessage, IsOwnStep, IsPrefixOf, IsSteady, IsU32, List, [], MayWant, Now, AbstractNode}
+use Rattle.own_app.proofs.Prelude.{OwnSpeaksOnLines, OwnStep, OwnTraceConforms, Happens, Writes, PlainMessage, SendsBytes, Snapshot}
+use Rattle.own_app.proofs.Prelude.{TraceConforms, TraceEntry, IsDecoded, Addr, Nothing, Send, Close, Abort, ap, append-nil, append_assoc}
+use Rattle.own_app.proofs.Prelude.{arith, drop, false, false≢true, has_last, if◌then◌else◌, initial_node, inl, is_next_message, is_overrun}
+use Rattle.own_app.proofs.Prelude.{len_left, length, ltb-false, map, message_in, messages_text, nat_lt, next_ticket, opened_in, own_lawful}
+use Rattle.own_app.proofs.Prelude.{own_output_model, own_sessions, own_spec, own_trace, own_want, refl, step, subst, sym, true}
+use Rattle.own_app.proofs.Prelude.{with_message, with_written, write_message, ◌%◌, ◌++◌, ◌==◌, ◌||◌, ◌∙◌, ◌∷◌, ◌≡◌, ◌≤◌, ℕ}
 use Rattle.own_app.specs.declared.TheConstants.{MOST_SILENT_POLLS}
 use Rattle.app_pair.specs.Lemmas.PairLaws.{either_branch}
 use Rattle.node_laws.proofs.EveryTraceConforms.{every_step}
@@ -15,7 +22,8 @@ grows (k ∷ ks) later = by_last (message_in k.numbers).last (message_in k.numbe
 
 stays : (ks later : List Snapshot) → has_last ks ≡ true → messages_text (ks ++ later) ≡ messages_text ks
 stays [] later e = absurd (false≢true e)
-stays (k ∷ ks) later e = by_last (message_in k.numbers).last (has_last ks) (message_in k.numbers).text (messages_text ks) (messages_text (ks ++ later)) e (λ f. stays ks later f)
+stays (k ∷ ks) later e = by_last (message_in k.numbers).last (has_last ks) (message_in k.numbers).text (messages_text ks)
+    (messages_text (ks ++ later)) e (λ f. stays ks later f)
   where
     by_last : (b c : Bool) (here xs ys : List ℕ) → (b || c) ≡ true → (c ≡ true → ys ≡ xs) → here ++ (if b then [] else ys) ≡ here ++ (if b then [] else xs)
     by_last true c here xs ys f same = refl
@@ -46,7 +54,8 @@ message_bytes (a ∷ b ∷ c ∷ d ∷ e ∷ text) = low_bytes text
 messages_bytes : (ks : List Snapshot) → All IsByte (messages_text ks)
 messages_bytes [] = All-nil IsByte
 messages_bytes (k ∷ ks) =
-    All-append IsByte (message_in k.numbers).text (if (message_in k.numbers).last then [] else messages_text ks) (message_bytes k.numbers) (by_last (message_in k.numbers).last (messages_text ks) (messages_bytes ks))
+    All-append IsByte (message_in k.numbers).text (if (message_in k.numbers).last then [] else messages_text ks) (message_bytes k.numbers)
+    (by_last (message_in k.numbers).last (messages_text ks) (messages_bytes ks))
   where
     by_last : (b : Bool) (xs : List ℕ) → All IsByte xs → All IsByte (if b then [] else xs)
     by_last true xs h = All-nil IsByte
@@ -86,7 +95,8 @@ own_steady = record {
 
 -- ---- sessions
 
-closes_so : (overrun some ended : Bool) (left : ℕ) → (if overrun then Abort else if some then Send left else if ended then Close else Nothing) ≡ Close → (some ≡ false) × (ended ≡ true)
+closes_so : (overrun some ended : Bool) (left : ℕ) → (if overrun then Abort else if some then Send left else if ended then Close else
+    Nothing) ≡ Close → (some ≡ false) × (ended ≡ true)
 closes_so true some ended left e = absurd (cc e)
 closes_so false true ended left e = absurd (cc e)
 closes_so false false true left e = (refl, refl)

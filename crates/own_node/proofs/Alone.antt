@@ -1,5 +1,8 @@
 -- `OwnApp` alone contains itself: a message that is written, and the periodic call of its slot.
-use Rattle.own_node.proofs.Prelude.{All, ◌≡◌, ℕ, zero, suc, ◌<◌, ◌==◌, Bool, true, if◌then◌else◌, List, [], ◌∷◌, ◌++◌, length, nat_le, refl, sym, arith, and_parts, false≢true, slice_index_or, AppState, IsByte, IsU32, Connection, closed, is_open, AbstractNode, connection_in, periodic, own_can_pair, HasCaptured, can_write_at, can_write_in, is_ready_at, next_message, All-nil}
+use Rattle.own_node.proofs.Prelude.{All, ◌≡◌, ℕ, zero, suc, ◌<◌, ◌==◌, Bool, true, if◌then◌else◌, List, [], ◌∷◌, ◌++◌, length, nat_le, refl}
+use Rattle.own_node.proofs.Prelude.{sym, arith, and_parts, false≢true, slice_index_or, AppState, IsByte, IsU32, Connection, closed, is_open}
+use Rattle.own_node.proofs.Prelude.{AbstractNode, connection_in, periodic, own_can_pair, HasCaptured, can_write_at, can_write_in}
+use Rattle.own_node.proofs.Prelude.{is_ready_at, next_message, All-nil}
 use Rattle.own_app.specs.Prelude.{IsMessage, no_message, numbers_of, own_spec, pending as pending_of, with_written, write_message}
 use Rattle.own_app.proofs.OwnLines.{written_u32}
 use Rattle.own_node.proofs.CaptureLaws.{captures_ready}
@@ -50,7 +53,8 @@ View n = view_node any_port same_part same_numbers n
 seen_in : (n : AbstractNode) (slot : ℕ) → connection_in slot (View n) ≡ connection_in slot n
 seen_in n slot = view_in any_port same_part same_numbers refl n slot
 
-module _ (n : AbstractNode) (at taken : ℕ) (text : List ℕ) (last : Bool) (f : Follows any_port same_part same_numbers own_spec alone n) (bytes : All IsByte text) (can : can_write_in at taken n ≡ true) where
+module _ (n : AbstractNode) (at taken : ℕ) (text : List ℕ) (last : Bool) (f : Follows any_port same_part same_numbers own_spec alone n)
+    (bytes : All IsByte text) (can : can_write_in at taken n ≡ true) where
   abbrev wrote : AbstractNode
   wrote = (periodic own_spec (with_written (next_message at taken text last n) n) at).node
 
@@ -59,12 +63,14 @@ module _ (n : AbstractNode) (at taken : ℕ) (text : List ℕ) (last : Bool) (f 
 
   pub alone_message : IsMessage (next_message at taken text last n)
   alone_message =
-      message_seen any_port same_part same_numbers own_spec alone n at taken text last (write_message (next_message at taken text last n)) (connection_in at n) (connection_in at wrote) (seen_in n at) (seen_in wrote at) f bytes can
+      message_seen any_port same_part same_numbers own_spec alone n at taken text last (write_message (next_message at taken text last n))
+      (connection_in at n) (connection_in at wrote) (seen_in n at) (seen_in wrote at) f bytes can
 
   pub alone_wrote : (count slot : ℕ) (before : List ℕ) → Holds any_port same_part same_numbers own_spec alone n count slot before
       → HoldsAfter any_port same_part same_numbers own_spec alone wrote count slot (before ++ (if at == slot then text else []))
   alone_wrote =
-      wrote_seen any_port same_part same_numbers own_spec alone n at taken text last (write_message (next_message at taken text last n)) (connection_in at n) (connection_in at wrote) (seen_in n at) (seen_in wrote at) f bytes can
+      wrote_seen any_port same_part same_numbers own_spec alone n at taken text last (write_message (next_message at taken text last n))
+      (connection_in at n) (connection_in at wrote) (seen_in n at) (seen_in wrote at) f bytes can
       refl alone_captured
 
 -- the numbers at first

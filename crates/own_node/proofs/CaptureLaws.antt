@@ -1,8 +1,18 @@
 -- The periodic call of its slot captures a message that was written to a connection that is ready.
-use Rattle.own_node.proofs.Prelude.{All, ◌≡◌, ℕ, ◌<◌, ◌+◌, ◌%◌, ◌&&◌, Bool, true, false, List, [], ◌∷◌, ◌++◌, drop, length, nat_le, nat_lt, not, refl, sym, ap, ◌∙◌, if◌then◌else◌, and_from, and_parts, eq-eqb, false≢true, After, AppSpec, AppState, IsByte, Snapshot, Now, State, Established, Want, Nothing, Send, Close, Abort, Connection, Outcome, asked, closed, does_as_wanted, idles, on_tick, peer_has_closed, polls, prepared, tick_by, ticks_established, waits_for_ack, choose, change_own, own_numbers, CanBePaired, own_part, pair_spec, own_back, two_applications, own_can_pair, message_back, taken_more, HasCaptured, PairsCaptureReadyMessages, ReadyMessagesAreCaptured, called_after, called_in_pair, can_write_at, is_open_state, is_ready_at, next_message, next_message_at, own_connection, with_change, drop-drop, index_of}
+use Rattle.own_node.proofs.Prelude.{All, ◌≡◌, ℕ, ◌<◌, ◌+◌, ◌%◌, ◌&&◌, Bool, true, false, List, [], ◌∷◌, ◌++◌, drop, length, nat_le, nat_lt}
+use Rattle.own_node.proofs.Prelude.{not, refl, sym, ap, ◌∙◌, if◌then◌else◌, and_from, and_parts, eq-eqb, false≢true, After, AppSpec}
+use Rattle.own_node.proofs.Prelude.{AppState, IsByte, Snapshot, Now, State, Established, Want, Nothing, Send, Close, Abort, Connection}
+use Rattle.own_node.proofs.Prelude.{Outcome, asked, closed, does_as_wanted, idles, on_tick, peer_has_closed, polls, prepared, tick_by}
+use Rattle.own_node.proofs.Prelude.{ticks_established, waits_for_ack, choose, change_own, own_numbers, CanBePaired, own_part, pair_spec}
+use Rattle.own_node.proofs.Prelude.{own_back, two_applications, own_can_pair, message_back, taken_more, HasCaptured}
+use Rattle.own_node.proofs.Prelude.{PairsCaptureReadyMessages, ReadyMessagesAreCaptured, called_after, called_in_pair, can_write_at}
+use Rattle.own_node.proofs.Prelude.{is_open_state, is_ready_at, next_message, next_message_at, own_connection, with_change, drop-drop}
+use Rattle.own_node.proofs.Prelude.{index_of}
 use Rattle.uip_node.specs.Prelude.{AbstractNode, Periodic, connection_in, happened, periodic, snapshot}
 use Rattle.uip_node.proofs.Settling.{get_set}
-use Rattle.own_app.specs.Prelude.{PlainMessage, bytes_taken, is_next_message, is_own_port, has_last, message_in, messages_text, messages_text_more, numbers_of, opened_in, own_spec, pending as pending_of, with_message, with_written, write_message}
+use Rattle.own_app.specs.Prelude.{PlainMessage, bytes_taken, is_next_message, is_own_port, has_last, message_in, messages_text}
+use Rattle.own_app.specs.Prelude.{messages_text_more, numbers_of, opened_in, own_spec, pending as pending_of, with_message, with_written}
+use Rattle.own_app.specs.Prelude.{write_message}
 use Rattle.own_node.proofs.ReadingLaws.{IsReady, ready_has}
 
 -- ---- the part of the connection after the application was asked
@@ -54,12 +64,14 @@ captured message opened c new now bytes goes_on is =
     let back : message_in (numbers_of opened message) ≡ message = message_back opened message bytes in
     let captures : new.part.snapshots ≡ c.part.snapshots ++ k ∷ [] = ap (λ (p : AppState). p.snapshots) is in
     let taken : bytes_taken new.part.snapshots ≡ bytes_taken c.part.snapshots + message.taken =
-    ap (λ (l : List Snapshot). bytes_taken l) captures ∙ taken_more c.part.snapshots k ∙ ap (λ (x : PlainMessage). bytes_taken c.part.snapshots + x.taken) back in
+    ap (λ (l : List Snapshot). bytes_taken l) captures ∙ taken_more c.part.snapshots k
+    ∙ ap (λ (x : PlainMessage). bytes_taken c.part.snapshots + x.taken) back in
     record {
       capture = k;
       numbers = back;
       snapshots = captures;
-      text = ap (λ (l : List Snapshot). messages_text l) captures ∙ messages_text_more c.part.snapshots k goes_on ∙ ap (λ (x : PlainMessage). messages_text c.part.snapshots ++ x.text) back;
+      text = ap (λ (l : List Snapshot). messages_text l) captures ∙ messages_text_more c.part.snapshots k goes_on
+          ∙ ap (λ (x : PlainMessage). messages_text c.part.snapshots ++ x.text) back;
       pending =
           ap (λ (p : AppState). drop (bytes_taken p.snapshots) p.input) is
           ∙ ap (λ (t : ℕ). drop t c.part.input) (sym (ap (λ (l : List Snapshot). bytes_taken l) captures) ∙ taken)
@@ -76,7 +88,8 @@ captures_next numbers taken text last c new now bytes can is =
     let ready : IsReady c = ready_has c parts.0 in
     let l : List ℕ = write_message message numbers in
     let q : AppState = (own_spec.polled l c.part).part in
-    let next : is_next_message (message_in l) q ≡ true = ap (λ (x : PlainMessage). is_next_message x q) (message_back (opened_in numbers) message bytes) ∙ is_next ready parts.1 in
+    let next : is_next_message (message_in l) q ≡ true = ap (λ (x : PlainMessage). is_next_message x q)
+    (message_back (opened_in numbers) message bytes) ∙ is_next ready parts.1 in
     captured message (opened_in numbers) c new now bytes ready.goes_on (is ∙ ap (λ (b : Bool). if b then with_message l q now else q) next)
   where
     is_next : IsReady c → nat_le taken (length (pending_of c.part)) ≡ true → is_next_message (next_message_at taken text last c) c.part ≡ true
@@ -100,12 +113,14 @@ module _ (m : AppSpec) (first : CanBePaired m) where
 
   -- the second application sees its own poll and its own capture in those of the pair
   sees_asked : (numbers own : List ℕ) (p : AppState) (now : Now) → is_own_port p.port ≡ true → own_numbers true numbers ≡ own
-      → own_part true (pair.prepare (pair.polled numbers p).numbers (pair.polled numbers p).part now) ≡ own_spec.prepare own (own_spec.polled own (own_part true p)).part now
+      → own_part true (pair.prepare (pair.polled numbers p).numbers (pair.polled numbers p).part now) ≡ own_spec.prepare own
+      (own_spec.polled own (own_part true p)).part now
   sees_asked numbers own p now port is =
       let q : After = pair.polled numbers p in
       let again : CanBePaired pair = two_applications.again is_own_port m own_spec first own_can_pair in
       let at_p = (two_applications.second is_own_port m own_spec first own_can_pair p port).polled numbers in
-      let at_q = (two_applications.second is_own_port m own_spec first own_can_pair q.part (ap (λ (n : ℕ). is_own_port n) (again.port.polled numbers p) ∙ port)).prepare q.numbers now in
+      let at_q = (two_applications.second is_own_port m own_spec first own_can_pair q.part
+      (ap (λ (n : ℕ). is_own_port n) (again.port.polled numbers p) ∙ port)).prepare q.numbers now in
       at_q
       ∙ ap (λ (l : List ℕ). own_spec.prepare l (own_part true q.part) now) (at_p.numbers.its_own ∙ is)
       ∙ ap (λ (x : AppState). own_spec.prepare own x now) at_p.part
@@ -129,7 +144,8 @@ module _ (m : AppSpec) (first : CanBePaired m) where
       (ap (λ (x : AppState). own_part true x) part.1
       ∙ sees_asked after.numbers own c.part part.0 (its_port (is_own_port c.part.port) ready.opened is) (own_back true own n.numbers))
     where
-      its_port : (port : Bool) → is_open_state (connection_in slot n).state ≡ true → (is_open_state (connection_in slot n).state && not port) ≡ false → port ≡ true
+      its_port : (port : Bool) → is_open_state (connection_in slot n).state ≡ true
+          → (is_open_state (connection_in slot n).state && not port) ≡ false → port ≡ true
       its_port true e f = refl
       its_port false e f = absurd (false≢true (sym f ∙ ap (λ (b : Bool). b && true) e))
 

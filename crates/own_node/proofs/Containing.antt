@@ -1,5 +1,7 @@
 -- An application of which `OwnApp` is all, or one part: what `OwnApp` sees of the connections and numbers of a node.
-use Rattle.own_node.proofs.Prelude.{◌≡◌, ◌∙◌, ℕ, zero, suc, Bool, true, false, List, [], ◌∷◌, drop, if◌then◌else◌, map, refl, sym, ap, slice_index_or, slice_set, After, AppSpec, AppState, Ending, Now, State, SynRcvd, Connection, closed, is_open, AbstractNode, connection_in, next_ticket, own_spec, is_accepted}
+use Rattle.own_node.proofs.Prelude.{◌≡◌, ◌∙◌, ℕ, zero, suc, Bool, true, false, List, [], ◌∷◌, drop, if◌then◌else◌, map, refl, sym, ap}
+use Rattle.own_node.proofs.Prelude.{slice_index_or, slice_set, After, AppSpec, AppState, Ending, Now, State, SynRcvd, Connection, closed}
+use Rattle.own_node.proofs.Prelude.{is_open, AbstractNode, connection_in, next_ticket, own_spec, is_accepted}
 
 module _ (mine : ℕ → Bool) (seen : AppState → AppState) (own : List ℕ → List ℕ) where
   -- A call leaves the port; at a port of `OwnApp` also its ticket and its captures; and the numbers of `OwnApp`.
@@ -34,7 +36,8 @@ module _ (mine : ℕ → Bool) (seen : AppState → AppState) (own : List ℕ �
     pub polled : (numbers : List ℕ) (p : AppState) → Keeps p numbers (m.polled numbers p)
     pub ended : (numbers : List ℕ) (p : AppState) (how : Ending) → own (m.ended numbers p how) ≡ own numbers
     pub prepare_port : (numbers : List ℕ) (p : AppState) (now : Now) → (m.prepare numbers p now).port ≡ p.port
-    pub prepare : (numbers : List ℕ) (p : AppState) (now : Now) → mine p.port ≡ true → seen (m.prepare numbers p now) ≡ own_spec.prepare (own numbers) (seen p) now
+    pub prepare : (numbers : List ℕ) (p : AppState) (now : Now) → mine p.port ≡ true → seen (m.prepare numbers p now) ≡ own_spec.prepare
+        (own numbers) (seen p) now
     -- a connection that was only accepted
     pub fresh_ticket : (at : ℕ) → (seen (record closed.part { port = at })).own ≡ 0
     pub fresh_captures : (at : ℕ) → (seen (record closed.part { port = at })).snapshots ≡ []

@@ -1,5 +1,9 @@
 -- A call that first brings the RST of a connection that is given up: by the RST nothing is captured, and no connection opens.
-use Rattle.own_node.proofs.Prelude.{◌≡◌, ◌∙◌, ℕ, ◌+◌, ◌<◌, ◌&&◌, ◌⊎◌, inl, inr, Bool, true, false, List, [], ◌∷◌, ◌++◌, append-nil, if◌then◌else◌, Option, Some, None, refl, sym, ap, subst, arith, both_ways, position, PlainSegment, has_rst, AppSpec, AppState, Snapshot, State, Closed, SynRcvd, Established, CloseWait, Connection, Outcome, Sockets, asked, is_plain_syn, on_segment, reported_end, serves, AbstractNode, Event, NodeStep, Arrived, arrives_at, connection_in, happened, run, snapshot, step, is_accepted}
+use Rattle.own_node.proofs.Prelude.{◌≡◌, ◌∙◌, ℕ, ◌+◌, ◌<◌, ◌&&◌, ◌⊎◌, inl, inr, Bool, true, false, List, [], ◌∷◌, ◌++◌, append-nil}
+use Rattle.own_node.proofs.Prelude.{if◌then◌else◌, Option, Some, None, refl, sym, ap, subst, arith, both_ways, position, PlainSegment}
+use Rattle.own_node.proofs.Prelude.{has_rst, AppSpec, AppState, Snapshot, State, Closed, SynRcvd, Established, CloseWait, Connection}
+use Rattle.own_node.proofs.Prelude.{Outcome, Sockets, asked, is_plain_syn, on_segment, reported_end, serves, AbstractNode, Event, NodeStep}
+use Rattle.own_node.proofs.Prelude.{Arrived, arrives_at, connection_in, happened, run, snapshot, step, is_accepted}
 use Rattle.app_events.specs.declared.ending.Ending.TheVariants.{Reset}
 use Rattle.own_app.specs.Prelude.{messages_text, opened_in}
 use Rattle.own_node.proofs.Containing.{Contains, view_accepted}
@@ -10,7 +14,8 @@ use Rattle.tcp_machine.specs.Ask.{closes, leaves}
 use Rattle.tcp_machine.specs.declared.step.Step.{Step}
 use Rattle.uip_node.proofs.Stepping.{stranger_passes}
 
-resets : (m : AppSpec) (c : Connection) (numbers : List ℕ) (s : PlainSegment) → has_rst s.flags ≡ true → on_segment m c numbers s ≡ leaves (closes c) (reported_end m Reset c.state c.part numbers) Step.Drop
+resets : (m : AppSpec) (c : Connection) (numbers : List ℕ) (s : PlainSegment) → has_rst s.flags ≡ true → on_segment m c numbers s
+    ≡ leaves (closes c) (reported_end m Reset c.state c.part numbers) Step.Drop
 unfolding on_segment
 resets m c numbers s h = cc
 
@@ -31,7 +36,8 @@ module _ (mine : ℕ → Bool) (seen : AppState → AppState) (own : List ℕ �
     abbrev Quiet : NodeStep → Type 0
     Quiet r = (own r.node.numbers ≡ own n.numbers) × ((slot : ℕ) → (connection_in slot r.node).state ≡ SynRcvd → (connection_in slot n).state ≡ SynRcvd)
 
-    shut : (event : Event) (slot : ℕ) (c : Connection) (numbers : List ℕ) → own numbers ≡ own n.numbers → Quiet (happened m n event slot c (leaves (closes c) numbers Step.Drop))
+    shut : (event : Event) (slot : ℕ) (c : Connection) (numbers : List ℕ) → own numbers ≡ own n.numbers
+        → Quiet (happened m n event slot c (leaves (closes c) numbers Step.Drop))
     unfolding happened
     shut event slot c numbers same = (
       same,
@@ -41,7 +47,8 @@ module _ (mine : ℕ → Bool) (seen : AppState → AppState) (own : List ℕ �
       ],
     )
 
-    reset_at : (served : ℕ → Bool) (p : Sockets) (s : PlainSegment) (o : Option ℕ) → is_plain_syn s ≡ false → has_rst s.flags ≡ true → Quiet (arrives_at m served n p s o)
+    reset_at : (served : ℕ → Bool) (p : Sockets) (s : PlainSegment) (o : Option ℕ) → is_plain_syn s ≡ false → has_rst s.flags ≡ true
+        → Quiet (arrives_at m served n p s o)
     reset_at served p s None plain rst =
         subst (λ (r : NodeStep). Quiet r) (stranger_passes m served n p s (ap (λ (b : Bool). b && served p.own_port.0) plain) rst) (refl, λ at e. e)
     reset_at served p s (Some slot) plain rst =
@@ -69,7 +76,8 @@ module _ (mine : ℕ → Bool) (seen : AppState → AppState) (own : List ℕ �
 
   -- after the RST as before it
   holds_after : (n after : AbstractNode) (count slot : ℕ) (text : List ℕ) → own after.numbers ≡ own n.numbers
-      → ((connection_in slot after).state ≡ SynRcvd → (connection_in slot n).state ≡ SynRcvd) → HoldsAt n count slot text → HoldsNext after count slot (text ++ []) → HoldsAt after count slot text
+      → ((connection_in slot after).state ≡ SynRcvd → (connection_in slot n).state ≡ SynRcvd) → HoldsAt n count slot text
+      → HoldsNext after count slot (text ++ []) → HoldsAt after count slot text
   holds_after n after count slot text same accepted h next =
       let settled = next.settled in
       let few = h.settled.few in
@@ -87,7 +95,8 @@ module _ (mine : ℕ → Bool) (seen : AppState → AppState) (own : List ℕ �
             (λ e. subst (λ (l : List ℕ). HasWrittenText (seen_at slot after) l) (ap (λ (b : Bool). if b then [] else text ++ []) e ∙ append-nil text) next.has);
       }
 
-  pub few_leave : (served : ℕ → Bool) (events : List Event) → IsFew events → (n : AbstractNode) → Follows mine seen own m contains n → (count slot : ℕ) (text : List ℕ) → count + 1 < 4294967296
+  pub few_leave : (served : ℕ → Bool) (events : List Event) → IsFew events → (n : AbstractNode) → Follows mine seen own m contains n
+      → (count slot : ℕ) (text : List ℕ) → count + 1 < 4294967296
       → HoldsAt n count slot text → HoldsNext (run m served events n).node count slot (text ++ [])
   few_leave served events (inl none) n f count slot text low h = events_leave mine seen own m contains served events (inl none) n f count slot text low h
   few_leave served events (inr (inl one)) n f count slot text low h = events_leave mine seen own m contains served events (inr one) n f count slot text low h
@@ -97,7 +106,9 @@ module _ (mine : ℕ → Bool) (seen : AppState → AppState) (own : List ℕ �
       let e : Event = it.2 in
       let after : AbstractNode = (step m served n (Arrived p s)).node in
       let quiet : Quiet n (step m served n (Arrived p s)) = quiet_after n served p s it.3 it.4 in
-      let first : HoldsNext after count slot (text ++ []) = events_leave mine seen own m contains served (Arrived p s ∷ []) (inr (Arrived p s, refl)) n f count slot text low h in
+      let first : HoldsNext after count slot (text ++ []) = events_leave mine seen own m contains served (Arrived p s ∷ [])
+      (inr (Arrived p s, refl)) n f count slot text low h in
       let between : HoldsAt after count slot text = holds_after n after count slot text quiet.0 (quiet.1 slot) h first in
       subst (λ (l : List Event). HoldsNext (run m served l n).node count slot (text ++ [])) (sym it.5)
-      (events_leave mine seen own m contains served (e ∷ []) (inr (e, refl)) after (step_follows mine seen own m contains served (Arrived p s) n f) count slot text low between)
+      (events_leave mine seen own m contains served (e ∷ []) (inr (e, refl)) after (step_follows mine seen own m contains served
+      (Arrived p s) n f) count slot text low between)

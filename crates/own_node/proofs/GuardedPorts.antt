@@ -1,5 +1,8 @@
 -- The lens of a guard leaves the port of a datagram as it is.
-use Rattle.own_node.proofs.Prelude.{◌≡◌, ◌∙◌, ℕ, ◌≤◌, ◌<◌, ◌==◌, ◌+◌, ◌++◌, Bool, true, false, List, drop, length, length-append, length-drop, length-take, take, Option, Some, None, refl, sym, arith, and_parts, if◌then◌else◌, get_or-take, is_open_port, Arrived, EchoAsked, IcmpRefused, IpRefused, Overlong, Periodic, TcpRefused, Event, Addr}
+use Rattle.own_node.proofs.Prelude.{◌≡◌, ◌∙◌, ℕ, ◌≤◌, ◌<◌, ◌==◌, ◌+◌, ◌++◌, Bool, true, false, List, drop, length, length-append}
+use Rattle.own_node.proofs.Prelude.{length-drop, length-take, take, Option, Some, None, refl, sym, arith, and_parts, if◌then◌else◌}
+use Rattle.own_node.proofs.Prelude.{get_or-take, is_open_port, Arrived, EchoAsked, IcmpRefused, IpRefused, Overlong, Periodic, TcpRefused}
+use Rattle.own_node.proofs.Prelude.{Event, Addr}
 use Rattle.std.proofs.lemmas.Grind.{common_steps}
 use Rattle.std.proofs.lemmas.List.{get_or_append_left}
 use Rattle.std.specs.Prelude.{nat_le, slice_index}
@@ -19,7 +22,14 @@ kept_at bytes part at i low long =
 
 same_length : (bytes part : List ℕ) (at : ℕ) → at + length part ≤ length bytes → length (written bytes at part) ≡ length bytes
 same_length bytes part at room =
-    omega (arith, room, length-append (take at bytes ++ part) (drop (at + length part) bytes), length-append (take at bytes) part, length-take at bytes, length-drop (at + length part) bytes)
+    omega (
+      arith,
+      room,
+      length-append (take at bytes ++ part) (drop (at + length part) bytes),
+      length-append (take at bytes) part,
+      length-take at bytes,
+      length-drop (at + length part) bytes,
+    )
 
 -- what the port of a segment is read from
 record SamePort (old new : List ℕ) : Type 0 where
@@ -34,7 +44,8 @@ number_same bytes number long =
     let first : length sum ≡ length bytes = same_length bytes (word_bytes check) 36 (omega (arith, long)) in
     record {
       long = same_length sum (long_bytes number) 28 (omega (arith, long, first)) ∙ first;
-      each = λ i low. kept_at sum (long_bytes number) 28 i (omega (arith, low)) (omega (arith, long, first)) ∙ kept_at bytes (word_bytes check) 36 i (omega (arith, low)) (omega (arith, long));
+      each = λ i low. kept_at sum (long_bytes number) 28 i (omega (arith, low)) (omega (arith, long, first))
+          ∙ kept_at bytes (word_bytes check) 36 i (omega (arith, low)) (omega (arith, long));
     }
 
 long_enough : (a b : ℕ) → nat_le a b ≡ true → a ≤ b
@@ -68,4 +79,5 @@ pub arriving_at : (key : Option Key) (own : Addr) (ports frame : List ℕ) → w
     → IsAt (is_open_port ports) (event_of own (arriving key (drop 14 frame)))
 arriving_at key own ports frame kind kept =
     let wire : List ℕ = arriving key (drop 14 frame) in
-    event_at ports frame (event_of own wire) kind kept (same_to (drop 14 frame) wire (event_of own wire) (arriving_same key (drop 14 frame)) (bytes_to own wire))
+    event_at ports frame (event_of own wire) kind kept (same_to (drop 14 frame) wire (event_of own wire) (arriving_same key (drop 14 frame))
+    (bytes_to own wire))

@@ -1,17 +1,27 @@
 -- What a step of a connection does to the ticket and to the captures of `OwnApp`.
-use Rattle.own_node.proofs.Prelude.{◌≡◌, ◌∙◌, ℕ, ◌&&◌, ◌⊎◌, inl, inr, Bool, true, false, not, List, [], ◌∷◌, ◌+◌, drop, length, nat_lt, refl, sym, ap, subst, false≢true, PlainSegment, has_fin, has_rst, After, AppSpec, AppState, Ending, Now, State, Closed, SynRcvd, Established, CloseWait, FinWait1, FinWait2, Closing, TimeWait, LastAck, Want, Nothing, Send, Close, Abort, Connection, Outcome, Sockets, asked, by_beat, by_state, does_as_wanted, fin_acked, fin_waits, has_text, delivers_text, idles, in_established, in_state, is_acked, is_open, is_out_of_order, on_segment, on_tick, peer_closes, peer_has_closed, prepared, rests, stays_established, takes, reported_end, with_part, both_ways, choose, Unmoved, asked_by, by_own_fin, is_ask, no_ask_again, on_tick_by, wanted_unmoved, next_ticket, own_spec}
+use Rattle.own_node.proofs.Prelude.{◌≡◌, ◌∙◌, ℕ, ◌&&◌, ◌⊎◌, inl, inr, Bool, true, false, not, List, [], ◌∷◌, ◌+◌, drop, length, nat_lt}
+use Rattle.own_node.proofs.Prelude.{refl, sym, ap, subst, false≢true, PlainSegment, has_fin, has_rst, After, AppSpec, AppState, Ending, Now}
+use Rattle.own_node.proofs.Prelude.{State, Closed, SynRcvd, Established, CloseWait, FinWait1, FinWait2, Closing, TimeWait, LastAck, Want}
+use Rattle.own_node.proofs.Prelude.{Nothing, Send, Close, Abort, Connection, Outcome, Sockets, asked, by_beat, by_state, does_as_wanted}
+use Rattle.own_node.proofs.Prelude.{fin_acked, fin_waits, has_text, delivers_text, idles, in_established, in_state, is_acked, is_open}
+use Rattle.own_node.proofs.Prelude.{is_out_of_order, on_segment, on_tick, peer_closes, peer_has_closed, prepared, rests, stays_established}
+use Rattle.own_node.proofs.Prelude.{takes, reported_end, with_part, both_ways, choose, Unmoved, asked_by, by_own_fin, is_ask, no_ask_again}
+use Rattle.own_node.proofs.Prelude.{on_tick_by, wanted_unmoved, next_ticket, own_spec}
 use Rattle.rexmit_timer.specs.declared.timer.Beat.{Beat}
 use Rattle.app_events.specs.declared.ending.Ending.TheVariants.{Reset, TimedOut}
 use Rattle.tcp_machine.specs.declared.step.Step.{Step}
-use Rattle.own_node.proofs.Containing.{Contains, Keeps, elsewhere, elsewhere_part, elsewhere_shut, elsewhere_syn, own_view, still, then_keeps, view, view_other, view_own}
+use Rattle.own_node.proofs.Containing.{Contains, Keeps, elsewhere, elsewhere_part, elsewhere_shut, elsewhere_syn, own_view, still}
+use Rattle.own_node.proofs.Containing.{then_keeps, view, view_other, view_own}
 
 -- ---- as `OwnApp` sees them
 
 -- The ticket and the captures stay; or the connection opens, with the next ticket.
 pub data OutParts (c : Connection) (numbers : List ℕ) (o : Outcome) : Type 0 where
-  same : o.connection.part.own ≡ c.part.own → o.connection.part.snapshots ≡ c.part.snapshots → o.numbers ≡ numbers → (is_open o.connection.state ≡ true → is_open c.state ≡ true)
+  same : o.connection.part.own ≡ c.part.own → o.connection.part.snapshots ≡ c.part.snapshots → o.numbers ≡ numbers
+      → (is_open o.connection.state ≡ true → is_open c.state ≡ true)
       → (is_ask o.step ≡ true → is_open c.state ≡ true) → (o.connection.state ≡ SynRcvd → c.state ≡ SynRcvd) → OutParts c numbers o
-  opened : c.state ≡ SynRcvd → o.connection.state ≡ Established → o.connection.part.own ≡ next_ticket numbers → o.connection.part.snapshots ≡ [] → o.numbers ≡ next_ticket numbers ∷ drop 1 numbers
+  opened : c.state ≡ SynRcvd → o.connection.state ≡ Established → o.connection.part.own ≡ next_ticket numbers → o.connection.part.snapshots
+      ≡ [] → o.numbers ≡ next_ticket numbers ∷ drop 1 numbers
       → OutParts c numbers o
 
 -- It may capture a message.
@@ -55,7 +65,8 @@ module _ (mine : ℕ → Bool) (seen : AppState → AppState) (own : List ℕ �
   kept : (c : Connection) (numbers : List ℕ) → Keeps mine seen own c.part numbers (record { part = c.part; numbers = numbers })
   kept c numbers = still mine seen own c.part numbers
 
-  reported_kept : (how : Ending) (st : State) (p : AppState) (numbers : List ℕ) → Keeps mine seen own p numbers (record { part = p; numbers = reported_end m how st p numbers })
+  reported_kept : (how : Ending) (st : State) (p : AppState) (numbers : List ℕ)
+      → Keeps mine seen own p numbers (record { part = p; numbers = reported_end m how st p numbers })
   reported_kept how st p numbers = record { port = refl; ticket = λ e. refl; snapshots = λ e. refl; own_numbers = by_state_reported st }
     where
       by_state_reported : (st : State) → own (reported_end m how st p numbers) ≡ own numbers
@@ -69,10 +80,12 @@ module _ (mine : ℕ → Bool) (seen : AppState → AppState) (own : List ℕ �
 
   -- ESTABLISHED, after the application may have been notified of an acknowledgement
   established_moves : (acked : Bool) (c b : Connection) (first numbers : List ℕ) (s : PlainSegment) → b.sockets ≡ c.sockets → b.state ≡ c.state
-      → Keeps mine seen own c.part first (record { part = b.part; numbers = numbers }) → is_open c.state ≡ true → OutMoves c first (in_established m acked b numbers s)
+      → Keeps mine seen own c.part first (record { part = b.part; numbers = numbers }) → is_open c.state ≡ true
+      → OutMoves c first (in_established m acked b numbers s)
   unfolding in_established peer_closes stays_established
   established_moves acked c b first numbers s sockets state keeps opens =
-      let k = then_keeps mine seen own c.part first (record { part = b.part; numbers = numbers }) (delivers_text m numbers b.part s.text) keeps (heard numbers b.part s.text) in
+      let k = then_keeps mine seen own c.part first (record { part = b.part; numbers = numbers }) (delivers_text m numbers b.part s.text)
+      keeps (heard numbers b.part s.text) in
       choose (λ (o : Outcome). OutMoves c first o) (has_fin s.flags) _ _
       (λ e. choose (λ (o : Outcome). OutMoves c first o) (nat_lt 0 b.len) _ _
       (λ f. goes_on sockets k (λ z. opens) (λ z. opens) (λ z. absurd (cc)))
@@ -87,28 +100,34 @@ module _ (mine : ℕ → Bool) (seen : AppState → AppState) (own : List ℕ �
   fin_acked_moves : (c : Connection) (numbers : List ℕ) (s : PlainSegment) → OutMoves c numbers (fin_acked c numbers s)
   unfolding fin_acked
   fin_acked_moves c numbers s =
-      choose (λ (o : Outcome). OutMoves c numbers o) (has_fin s.flags) _ _ (λ e. goes_on refl (kept c numbers) (λ z. absurd (cc)) (λ z. absurd (cc)) (λ z. absurd (cc)))
+      choose (λ (o : Outcome). OutMoves c numbers o) (has_fin s.flags) _ _ (λ e. goes_on refl (kept c numbers) (λ z. absurd (cc))
+      (λ z. absurd (cc)) (λ z. absurd (cc)))
       (λ e. goes_on refl (kept c numbers) (λ z. absurd (cc)) (λ z. absurd (cc)) (λ z. absurd (cc)))
 
-  fin_waits_moves : (d c : Connection) (numbers : List ℕ) (s : PlainSegment) → d.sockets ≡ c.sockets → d.part ≡ c.part → is_open d.state ≡ false → (d.state ≡ SynRcvd → ⊥)
+  fin_waits_moves : (d c : Connection) (numbers : List ℕ) (s : PlainSegment) → d.sockets ≡ c.sockets → d.part ≡ c.part
+      → is_open d.state ≡ false → (d.state ≡ SynRcvd → ⊥)
       → OutMoves c numbers (fin_waits d c numbers s)
   unfolding fin_waits
   fin_waits_moves d c numbers s sockets part shut not_syn =
       choose (λ (o : Outcome). OutMoves c numbers o) (has_fin s.flags) _ _
       (λ e. goes_on sockets (subst (λ (p : AppState). Keeps mine seen own c.part numbers (record { part = p; numbers = numbers })) (sym part) (kept c numbers))
       (λ z. absurd (false≢true (sym shut ∙ z))) (λ z. absurd (cc)) (λ z. absurd (not_syn z)))
-      (λ e. choose (λ (o : Outcome). OutMoves c numbers o) (has_text s) _ _ (λ f. goes_on refl (kept c numbers) (λ z. z) (λ z. absurd (cc)) (λ z. z)) (λ f. goes_on refl (kept c numbers) (λ z. z) (λ z. absurd (cc)) (λ z. z)))
+      (λ e. choose (λ (o : Outcome). OutMoves c numbers o) (has_text s) _ _ (λ f. goes_on refl (kept c numbers) (λ z. z) (λ z. absurd (cc))
+      (λ z. z)) (λ f. goes_on refl (kept c numbers) (λ z. z) (λ z. absurd (cc)) (λ z. z)))
 
-  by_state_moves : (st : State) (acked : Bool) (c : Connection) (numbers : List ℕ) (s : PlainSegment) → c.state ≡ st → OutMoves c numbers (by_state m st acked c numbers s)
+  by_state_moves : (st : State) (acked : Bool) (c : Connection) (numbers : List ℕ) (s : PlainSegment) → c.state ≡ st
+      → OutMoves c numbers (by_state m st acked c numbers s)
   by_state_moves SynRcvd true c numbers s q =
       connects refl q refl (heard (start c numbers).numbers (start c numbers).part s.text)
   by_state_moves Established true c numbers s q =
-      established_moves true c (with_part (m.acked numbers c.part c.len).part (rests c)) numbers (m.acked numbers c.part c.len).numbers s refl refl (contains.acked numbers c.part c.len) (ap (λ (v : State). is_open v) q)
+      established_moves true c (with_part (m.acked numbers c.part c.len).part (rests c)) numbers (m.acked numbers c.part c.len).numbers
+      s refl refl (contains.acked numbers c.part c.len) (ap (λ (v : State). is_open v) q)
   by_state_moves Established false c numbers s q = established_moves false c c numbers numbers s refl refl (kept c numbers) (ap (λ (v : State). is_open v) q)
   by_state_moves CloseWait true c numbers s q = goes_on refl (contains.acked numbers c.part c.len) (λ z. z) (λ z. ap (λ (v : State). is_open v) q) (λ z. z)
   by_state_moves FinWait1 true c numbers s q = fin_acked_moves c numbers s
   by_state_moves FinWait1 false c numbers s q = fin_waits_moves (in_state Closing (takes (length s.text + 1) c)) c numbers s refl refl refl (λ z. absurd (cc))
-  by_state_moves FinWait2 acked c numbers s q = fin_waits_moves (record (in_state TimeWait (takes (length s.text + 1) c)) { age = 0 }) c numbers s refl refl refl (λ z. absurd (cc))
+  by_state_moves FinWait2 acked c numbers s q = fin_waits_moves (record (in_state TimeWait (takes (length s.text + 1) c)) { age = 0 }) c
+      numbers s refl refl refl (λ z. absurd (cc))
   by_state_moves Closing true c numbers s q = goes_on refl (kept c numbers) (λ z. absurd (cc)) (λ z. absurd (cc)) (λ z. absurd (cc))
   by_state_moves LastAck true c numbers s q = goes_on refl (kept c numbers) (λ z. absurd (cc)) (λ z. absurd (cc)) (λ z. absurd (cc))
   by_state_moves CloseWait false c numbers s q = goes_on refl (kept c numbers) (λ z. z) (λ z. absurd (cc)) (λ z. z)
@@ -121,8 +140,10 @@ module _ (mine : ℕ → Bool) (seen : AppState → AppState) (own : List ℕ �
   segment_moves : (c : Connection) (numbers : List ℕ) (s : PlainSegment) → OutMoves c numbers (on_segment m c numbers s)
   unfolding on_segment
   segment_moves c numbers s =
-      choose (λ (o : Outcome). OutMoves c numbers o) (has_rst s.flags) _ _ (λ e. goes_on refl (reported_kept Reset c.state c.part numbers) (λ z. absurd (cc)) (λ z. absurd (cc)) (λ z. absurd (cc)))
-      (λ e. choose (λ (o : Outcome). OutMoves c numbers o) (is_out_of_order c s) _ _ (λ f. goes_on refl (kept c numbers) (λ z. z) (λ z. absurd (cc)) (λ z. z)) (λ f. by_state_moves c.state (is_acked c s) c numbers s refl))
+      choose (λ (o : Outcome). OutMoves c numbers o) (has_rst s.flags) _ _ (λ e. goes_on refl (reported_kept Reset c.state c.part numbers)
+      (λ z. absurd (cc)) (λ z. absurd (cc)) (λ z. absurd (cc)))
+      (λ e. choose (λ (o : Outcome). OutMoves c numbers o) (is_out_of_order c s) _ _ (λ f. goes_on refl (kept c numbers) (λ z. z)
+      (λ z. absurd (cc)) (λ z. z)) (λ f. by_state_moves c.state (is_acked c s) c numbers s refl))
 
   by_beat_moves : (b : Beat) (c : Connection) (numbers : List ℕ) → OutMoves c numbers (by_beat m b c numbers)
   by_beat_moves Beat.Wait c numbers = goes_on refl (kept c numbers) (λ z. z) (λ z. absurd (cc)) (λ z. z)
@@ -143,7 +164,8 @@ module _ (mine : ℕ → Bool) (seen : AppState → AppState) (own : List ℕ �
   idles_numbers : (fresh : Bool) (c : Connection) (numbers : List ℕ) → (idles fresh c numbers).numbers ≡ numbers
   unfolding idles
   idles_numbers fresh c numbers =
-      choose (λ (o : Outcome). o.numbers ≡ numbers) (peer_has_closed c.state) _ _ (λ e. refl) (λ e. choose (λ (o : Outcome). o.numbers ≡ numbers) fresh _ _ (λ f. refl) (λ f. refl))
+      choose (λ (o : Outcome). o.numbers ≡ numbers) (peer_has_closed c.state) _ _ (λ e. refl)
+      (λ e. choose (λ (o : Outcome). o.numbers ≡ numbers) fresh _ _ (λ f. refl) (λ f. refl))
 
   wanted_numbers : (w : Want) (fresh : Bool) (c : Connection) (numbers : List ℕ) → (does_as_wanted w fresh c numbers).numbers ≡ numbers
   wanted_numbers Abort fresh c numbers = refl
@@ -184,13 +206,15 @@ module _ (mine : ℕ → Bool) (seen : AppState → AppState) (own : List ℕ �
         numbers = wanted_numbers w fresh b o.numbers;
         part = inr (a, (at o.connection, u.part));
         opens = λ z. wanted_before (λ v. is_open v ≡ true) (λ y. false≢true y) (λ y. false≢true y) (λ y. false≢true y) w fresh b o.numbers z;
-        syn = λ z. wanted_before (λ v. v ≡ SynRcvd) (λ (y : Closed ≡ SynRcvd). absurd (cc)) (λ (y : FinWait1 ≡ SynRcvd). absurd (cc)) (λ (y : LastAck ≡ SynRcvd). absurd (cc)) w fresh b o.numbers z;
+        syn = λ z. wanted_before (λ v. v ≡ SynRcvd) (λ (y : Closed ≡ SynRcvd). absurd (cc)) (λ (y : FinWait1 ≡ SynRcvd). absurd (cc))
+            (λ (y : LastAck ≡ SynRcvd). absurd (cc)) w fresh b o.numbers z;
       }))
       record { sockets = refl; numbers = refl; part = inl refl; opens = λ z. z; syn = λ z. z }
 
   -- ---- what `OwnApp` sees of it
 
-  port_after : (c : Connection) (numbers : List ℕ) (o : Outcome) → IsAtPort c → OutMoves c numbers o → (o.connection.part.port ≡ c.part.port) × (o.connection.sockets ≡ c.sockets)
+  port_after : (c : Connection) (numbers : List ℕ) (o : Outcome) → IsAtPort c → OutMoves c numbers o
+      → (o.connection.part.port ≡ c.part.port) × (o.connection.sockets ≡ c.sockets)
   port_after c numbers o at moves =
       elim moves [
         | goes_on sockets keeps opens asks syn ↦ (keeps.port, sockets)
@@ -222,12 +246,14 @@ module _ (mine : ℕ → Bool) (seen : AppState → AppState) (own : List ℕ �
         | connects sockets state now keeps ↦
             (let here : mine c.sockets.own_port.0 ≡ true = ap mine (sym at) ∙ there_is in
             let there : mine (start c numbers).part.port ≡ true = ap mine (contains.port numbers c.sockets.own_port.0) ∙ here in
-            opened state now (keeps.ticket there ∙ contains.ticket numbers c.sockets.own_port.0 here) (keeps.snapshots there ∙ contains.snapshots numbers c.sockets.own_port.0 here)
+            opened state now (keeps.ticket there ∙ contains.ticket numbers c.sockets.own_port.0 here) (keeps.snapshots there
+            ∙ contains.snapshots numbers c.sockets.own_port.0 here)
             (keeps.own_numbers ∙ contains.opened numbers c.sockets.own_port.0 here))
       ]
 
   own_asked : (o result : Outcome) → mine o.connection.part.port ≡ true → AskedMoves o result
-      → AskedPart (record { connection = OwnView o.connection; numbers = own o.numbers; step = o.step }) (record { connection = OwnView result.connection; numbers = own result.numbers; step = result.step })
+      → AskedPart (record { connection = OwnView o.connection; numbers = own o.numbers; step = o.step })
+      (record { connection = OwnView result.connection; numbers = own result.numbers; step = result.step })
   own_asked o result there_is a = record {
     numbers = ap own a.numbers;
     part = elim a.part [
@@ -245,7 +271,9 @@ module _ (mine : ℕ → Bool) (seen : AppState → AppState) (own : List ℕ �
       record {
         o = record { connection = OwnView o.connection; numbers = own o.numbers; step = o.step };
         result = record { connection = OwnView result.connection; numbers = own result.numbers; step = result.step };
-        parts = subst (λ (x : Connection). OutParts x (own numbers) (record { connection = OwnView o.connection; numbers = own o.numbers; step = o.step })) (sym (view_own mine seen own c there_is)) (own_parts c numbers o there_is at moves);
+        parts = subst (λ (x : Connection). OutParts x (own numbers)
+            (record { connection = OwnView o.connection; numbers = own o.numbers; step = o.step }))
+            (sym (view_own mine seen own c there_is)) (own_parts c numbers o there_is at moves);
         asked = own_asked o result there a;
         connection = view_own mine seen own result.connection (ap mine (asked_port o result a) ∙ there);
         numbers_are = refl;
@@ -279,7 +307,8 @@ module _ (mine : ℕ → Bool) (seen : AppState → AppState) (own : List ℕ �
         o = o_seen;
         result = result_seen;
         parts = subst (λ (x : Connection). OutParts x (own numbers) o_seen) (sym (view_other mine seen own c elsewhere_is))
-            (same (ap (λ (p : AppState). p.own) (part o.connection.state ∙ sym (part c.state))) (ap (λ (p : AppState). p.snapshots) (part o.connection.state ∙ sym (part c.state))) (other_numbers c numbers o elsewhere_is at moves)
+            (same (ap (λ (p : AppState). p.own) (part o.connection.state ∙ sym (part c.state)))
+            (ap (λ (p : AppState). p.snapshots) (part o.connection.state ∙ sym (part c.state))) (other_numbers c numbers o elsewhere_is at moves)
             (λ z. absurd (false≢true (sym (shut o.connection.state) ∙ z))) (λ z. absurd (false≢true z))
             (λ z. ap (λ (st : State). (Elsewhere st).state) (other_syn c numbers o moves (is_syn o.connection.state z))));
         asked = record {
@@ -299,12 +328,16 @@ module _ (mine : ℕ → Bool) (seen : AppState → AppState) (own : List ℕ �
   stepped : (c : Connection) (numbers : List ℕ) (o result : Outcome) → IsAtPort c → OutMoves c numbers o → AskedMoves o result → Stepped c numbers result
   stepped c numbers o result at moves a =
       let after = port_after c numbers o at moves in (
-        both_ways (mine c.part.port) (λ there_is. own_step c numbers o result there_is at moves a) (λ elsewhere_is. other_step c numbers o result elsewhere_is at moves a),
+        both_ways (mine c.part.port) (λ there_is. own_step c numbers o result there_is at moves a)
+            (λ elsewhere_is. other_step c numbers o result elsewhere_is at moves a),
         asked_port o result a ∙ after.0 ∙ at ∙ sym (ap (λ (s : Sockets). s.own_port.0) (a.sockets ∙ after.1)),
       )
 
-  pub segment_step : (at : Connection → Now) (c : Connection) (numbers : List ℕ) (s : PlainSegment) → IsAtPort c → Stepped c numbers (asked m at (on_segment m c numbers s))
-  segment_step at c numbers s is = stepped c numbers (on_segment m c numbers s) (asked m at (on_segment m c numbers s)) is (segment_moves c numbers s) (asked_moves at (on_segment m c numbers s))
+  pub segment_step : (at : Connection → Now) (c : Connection) (numbers : List ℕ) (s : PlainSegment) → IsAtPort c
+      → Stepped c numbers (asked m at (on_segment m c numbers s))
+  segment_step at c numbers s is = stepped c numbers (on_segment m c numbers s) (asked m at (on_segment m c numbers s)) is
+      (segment_moves c numbers s) (asked_moves at (on_segment m c numbers s))
 
   pub tick_step : (at : Connection → Now) (c : Connection) (numbers : List ℕ) → IsAtPort c → Stepped c numbers (asked m at (on_tick m c numbers))
-  tick_step at c numbers is = stepped c numbers (on_tick m c numbers) (asked m at (on_tick m c numbers)) is (tick_moves c numbers) (asked_moves at (on_tick m c numbers))
+  tick_step at c numbers is = stepped c numbers (on_tick m c numbers) (asked m at (on_tick m c numbers)) is (tick_moves c numbers)
+      (asked_moves at (on_tick m c numbers))

@@ -1,5 +1,10 @@
 -- What is read of a connection by its value is what the definitions give for the abstract one.
-use Rattle.own_node.proofs.Prelude.{◌≡◌, ℕ, ◌&&◌, ◌==◌, not, true, false, Bool, List, [], Option, Some, None, refl, sym, ap, ◌∙◌, subst, arith, if◌then◌else◌, length, nat_le, MatchOption, slice_get, State, Closed, SynRcvd, Established, CloseWait, FinWait1, FinWait2, Closing, TimeWait, LastAck, and_parts, eqb-true, false≢true, Connection, closed, ConnRepresents, is_live, AbstractNode, SlotsRepresent, connection_in, nothing_left, SeesOwn, can_write_at, can_write_by, is_established, is_open_state, is_ready_at, is_ready_by, message_by, next_message_at, pending_at, pending_by, port_at, port_by}
+use Rattle.own_node.proofs.Prelude.{◌≡◌, ℕ, ◌&&◌, ◌==◌, not, true, false, Bool, List, [], Option, Some, None, refl, sym, ap, ◌∙◌, subst}
+use Rattle.own_node.proofs.Prelude.{arith, if◌then◌else◌, length, nat_le, MatchOption, slice_get, State, Closed, SynRcvd, Established}
+use Rattle.own_node.proofs.Prelude.{CloseWait, FinWait1, FinWait2, Closing, TimeWait, LastAck, and_parts, eqb-true, false≢true, Connection}
+use Rattle.own_node.proofs.Prelude.{closed, ConnRepresents, is_live, AbstractNode, SlotsRepresent, connection_in, nothing_left, SeesOwn}
+use Rattle.own_node.proofs.Prelude.{can_write_at, can_write_by, is_established, is_open_state, is_ready_at, is_ready_by, message_by}
+use Rattle.own_node.proofs.Prelude.{next_message_at, pending_at, pending_by, port_at, port_by}
 use Rattle.std.specs.Borrow.{Bor}
 use Rattle.std.proofs.lemmas.Option.{slice_get-get_or, slice_get_within}
 use Rattle.app_events.specs.declared.app.App.{Ghosts}
@@ -22,7 +27,8 @@ module _ {A S : Type 0} (g : Ghosts A S) (seen : Connection → Connection) wher
   Shows app own = (k : g.Config) (a : Connection) → (is_open_state a.state ≡ true → g.represents app k a.part)
       → MatchOption own (is_open_state (seen a).state ≡ false) (λ own. SeesOwn own.now (seen a) a)
 
-  module _ (cs : List (Conn A)) (n : AbstractNode) (slot : ℕ) (c : Conn A) (k : g.Config) (own : Option (Bor OwnApp)) (represents : SlotsRepresent g k cs n.connections)
+  module _ (cs : List (Conn A)) (n : AbstractNode) (slot : ℕ) (c : Conn A) (k : g.Config) (own : Option (Bor OwnApp))
+      (represents : SlotsRepresent g k cs n.connections)
       (at : slice_get cs slot ≡ Some c) (shows : Shows c.app own) where
     -- the connection of the code in a slot represents the abstract one
     conn_in_slot : ConnRepresents g k c (connection_in slot n)
@@ -32,14 +38,16 @@ module _ {A S : Type 0} (g : Ghosts A S) (seen : Connection → Connection) wher
 
     pub none_seen : own ≡ None → is_open_state (seen (connection_in slot n)).state ≡ false
     none_seen is =
-        subst (λ (o : Option (Bor OwnApp)). MatchOption o (is_open_state (seen (connection_in slot n)).state ≡ false) (λ own. SeesOwn own.now (seen (connection_in slot n)) (connection_in slot n)))
+        subst (λ (o : Option (Bor OwnApp)). MatchOption o (is_open_state (seen (connection_in slot n)).state ≡ false)
+        (λ own. SeesOwn own.now (seen (connection_in slot n)) (connection_in slot n)))
         is (shows k (connection_in slot n) conn_in_slot.part)
 
     pub own_seen : (app : Bor OwnApp) → own ≡ Some app → HasOwnConn c.state c.len c.own_port.0 app.now (seen (connection_in slot n))
     own_seen app is =
         let a : Connection = connection_in slot n in
         let sees : SeesOwn app.now (seen a) a =
-        subst (λ (o : Option (Bor OwnApp)). MatchOption o (is_open_state (seen a).state ≡ false) (λ own. SeesOwn own.now (seen a) a)) is (shows k a conn_in_slot.part) in
+        subst (λ (o : Option (Bor OwnApp)). MatchOption o (is_open_state (seen a).state ≡ false) (λ own. SeesOwn own.now (seen a) a)) is
+        (shows k a conn_in_slot.part) in
         subst (λ (b : Connection). HasOwnConn c.state c.len c.own_port.0 app.now b) (sym sees.same) record {
           its_state = conn_in_slot.numbers.state;
           its_len = λ live. (conn_in_slot.numbers.like live).len;
@@ -50,7 +58,8 @@ module _ {A S : Type 0} (g : Ghosts A S) (seen : Connection → Connection) wher
 -- ---- states
 
 -- what holds of each state holds of all
-by_state : (P : State → Type 0) → P Closed → P SynRcvd → P Established → P CloseWait → P FinWait1 → P FinWait2 → P Closing → P TimeWait → P LastAck → (s : State) → P s
+by_state : (P : State → Type 0) → P Closed → P SynRcvd → P Established → P CloseWait → P FinWait1 → P FinWait2 → P Closing → P TimeWait
+    → P LastAck → (s : State) → P s
 by_state P closed syn_rcvd established close_wait fin_wait_1 fin_wait_2 closing time_wait last_ack s = elim s as P [
   | Closed ↦ closed
   | SynRcvd ↦ syn_rcvd
@@ -65,7 +74,8 @@ by_state P closed syn_rcvd established close_wait fin_wait_1 fin_wait_2 closing 
 
 open_live : (s : State) → is_open_state s ≡ true → is_live s ≡ true
 open_live =
-    by_state (λ s. is_open_state s ≡ true → is_live s ≡ true) (λ e. absurd (false≢true e)) (λ e. refl) (λ e. refl) (λ e. refl) (λ e. refl) (λ e. refl) (λ e. refl) (λ e. refl) (λ e. refl)
+    by_state (λ s. is_open_state s ≡ true → is_live s ≡ true) (λ e. absurd (false≢true e)) (λ e. refl) (λ e. refl) (λ e. refl) (λ e. refl)
+    (λ e. refl) (λ e. refl) (λ e. refl) (λ e. refl)
 
 pub established_is : (s : State) → is_established s ≡ true → s ≡ Established
 established_is =
@@ -80,9 +90,11 @@ established_open s e = ap (λ x. is_open_state x) (established_is s e)
 pub pending_is : (state : State) (len port : ℕ) (app : OwnApp) (a : Connection) → HasOwnConn state len port app a → pending_by state app ≡ pending_at a
 pending_is state len port app a has =
     ap (λ v. if is_open_state v && not app.overrun then app.received.items else []) has.its_state
-    ∙ elim (is_open_state a.state) as (λ b. is_open_state a.state ≡ b → (if b && not app.overrun then app.received.items else []) ≡ (if b && not (is_overrun a.part) then pending_of a.part else [])) [
+    ∙ elim (is_open_state a.state) as (λ b. is_open_state a.state ≡ b → (if b && not app.overrun then app.received.items else [])
+    ≡ (if b && not (is_overrun a.part) then pending_of a.part else [])) [
       | true ↦ λ e. (let part : OwnRepresents app a.part = has.part e in
-          elim app.overrun as (λ b. app.overrun ≡ b → (if not b then app.received.items else []) ≡ (if not (is_overrun a.part) then pending_of a.part else [])) [
+          elim app.overrun as (λ b. app.overrun ≡ b → (if not b then app.received.items else [])
+          ≡ (if not (is_overrun a.part) then pending_of a.part else [])) [
             | true ↦ λ f. ap (λ b. if not b then pending_of a.part else []) (sym f ∙ part.overrun)
             | false ↦ λ f. part.received f ∙ ap (λ b. if not b then pending_of a.part else []) (sym f ∙ part.overrun)
           ] refl)
@@ -100,11 +112,13 @@ port_is state len port app a has =
 pub ready_is : (state : State) (len port : ℕ) (app : OwnApp) (a : Connection) → HasOwnConn state len port app a → is_ready_by state len app ≡ is_ready_at a
 ready_is state len port app a has =
     ap (λ v. is_established v && len == 0 && not app.overrun && not app.ended && app.at == length app.sending.items) has.its_state
-    ∙ elim (is_established a.state) as (λ b. is_established a.state ≡ b → (b && len == 0 && not app.overrun && not app.ended && app.at == length app.sending.items)
+    ∙ elim (is_established a.state) as (λ b. is_established a.state ≡ b
+    → (b && len == 0 && not app.overrun && not app.ended && app.at == length app.sending.items)
     ≡ (b && a.len == 0 && not (is_overrun a.part) && not (has_last a.part.snapshots) && len_left a.part == 0)) [
       | true ↦ λ e.
           let part : OwnRepresents app a.part = has.part (established_open a.state e) in
-          ap (λ n. true && n == 0 && not app.overrun && not app.ended && app.at == length app.sending.items) (has.its_len (open_live a.state (established_open a.state e)))
+          ap (λ n. true && n == 0 && not app.overrun && not app.ended && app.at == length app.sending.items)
+          (has.its_len (open_live a.state (established_open a.state e)))
           ∙ ap (λ b. true && a.len == 0 && not b && not app.ended && app.at == length app.sending.items) part.overrun
           ∙ ap (λ b. true && a.len == 0 && not (is_overrun a.part) && not b && app.at == length app.sending.items) part.ended
           ∙ ap (λ b. true && a.len == 0 && not (is_overrun a.part) && not (has_last a.part.snapshots) && b) (nothing_left (state_of app) a.part part)
@@ -135,7 +149,8 @@ ready_has a e =
       all = all.1;
     }
 
-pub can_is : (state : State) (len port : ℕ) (app : OwnApp) (a : Connection) (taken : ℕ) → HasOwnConn state len port app a → can_write_by state len app taken ≡ can_write_at taken a
+pub can_is : (state : State) (len port : ℕ) (app : OwnApp) (a : Connection) (taken : ℕ) → HasOwnConn state len port app a
+    → can_write_by state len app taken ≡ can_write_at taken a
 can_is state len port app a taken conn =
     ap (λ b. b && nat_le taken (length app.received.items)) (ready_is state len port app a conn)
     ∙ elim (is_ready_at a) as (λ b. is_ready_at a ≡ b → (b && nat_le taken (length app.received.items)) ≡ (b && nat_le taken (length (pending_of a.part)))) [
@@ -164,7 +179,8 @@ no_port a e = ap (λ (b : Bool). if b then a.sockets.own_port.0 else 0) (sym e)
 
 not_established : (s : State) → is_open_state s ≡ false → false ≡ is_established s
 not_established =
-    by_state (λ s. is_open_state s ≡ false → false ≡ is_established s) (λ e. refl) (λ e. refl) (λ e. absurd (false≢true (sym e))) (λ e. refl) (λ e. refl) (λ e. refl)
+    by_state (λ s. is_open_state s ≡ false → false ≡ is_established s) (λ e. refl) (λ e. refl) (λ e. absurd (false≢true (sym e)))
+    (λ e. refl) (λ e. refl) (λ e. refl)
     (λ e. refl) (λ e. refl) (λ e. refl)
 
 pub not_ready : (a : Connection) → is_open_state a.state ≡ false → false ≡ is_ready_at a

@@ -1,5 +1,10 @@
 -- What an event does to the slots of a node, as `OwnApp` sees them.
-use Rattle.own_node.proofs.Prelude.{◌≡◌, ◌∙◌, ℕ, zero, suc, ◌&&◌, Bool, true, false, if◌then◌else◌, List, [], ◌∷◌, Option, Some, None, refl, sym, ap, subst, arith, position, replicate, slice_index_or, slice_set, PlainSegment, has_rst, AppSpec, AppState, SynRcvd, Connection, Outcome, Sockets, accepted, asked, closed, is_plain_syn, on_segment, on_tick, serves, Addr, AbstractNode, Event, NodeStep, connection_in, initial_node, step, arrives_at, for_no_connection, happened, opens, opens_in, periodic, slot_for_syn, snapshot, choose, initial_number, Arrived, EchoAsked, IcmpRefused, IpRefused, Overlong, Periodic, TcpRefused}
+use Rattle.own_node.proofs.Prelude.{◌≡◌, ◌∙◌, ℕ, zero, suc, ◌&&◌, Bool, true, false, if◌then◌else◌, List, [], ◌∷◌, Option, Some, None, refl}
+use Rattle.own_node.proofs.Prelude.{sym, ap, subst, arith, position, replicate, slice_index_or, slice_set, PlainSegment, has_rst, AppSpec}
+use Rattle.own_node.proofs.Prelude.{AppState, SynRcvd, Connection, Outcome, Sockets, accepted, asked, closed, is_plain_syn, on_segment}
+use Rattle.own_node.proofs.Prelude.{on_tick, serves, Addr, AbstractNode, Event, NodeStep, connection_in, initial_node, step, arrives_at}
+use Rattle.own_node.proofs.Prelude.{for_no_connection, happened, opens, opens_in, periodic, slot_for_syn, snapshot, choose, initial_number}
+use Rattle.own_node.proofs.Prelude.{Arrived, EchoAsked, IcmpRefused, IpRefused, Overlong, Periodic, TcpRefused}
 use Rattle.own_node.proofs.Containing.{Contains, elsewhere, own_view, view, view_in, view_node, view_set}
 use Rattle.own_node.proofs.Parts.{AskedPart, IsAtPort, OutParts, Stepped, segment_step, tick_step}
 
@@ -7,7 +12,8 @@ use Rattle.own_node.proofs.Parts.{AskedPart, IsAtPort, OutParts, Stepped, segmen
 
 pub data IndexSet (cs : List Connection) (i : ℕ) (new : Connection) (slot : ℕ) : Type 0 where
   new_at : slot ≡ i → slice_index_or (slice_set cs i new) slot closed ≡ new → IndexSet cs i new slot
-  old_at : (slot ≡ i → slice_index_or cs slot closed ≡ closed) → slice_index_or (slice_set cs i new) slot closed ≡ slice_index_or cs slot closed → IndexSet cs i new slot
+  old_at : (slot ≡ i → slice_index_or cs slot closed ≡ closed) → slice_index_or (slice_set cs i new) slot closed ≡ slice_index_or cs slot
+      closed → IndexSet cs i new slot
 
 pub index_set : (cs : List Connection) (i : ℕ) (new : Connection) (slot : ℕ) → IndexSet cs i new slot
 index_set [] i new slot = old_at (λ e. refl) refl
@@ -80,13 +86,15 @@ module _ (mine : ℕ → Bool) (seen : AppState → AppState) (own : List ℕ �
             result = it.result;
             parts = subst (λ (c : Connection). OutParts c (own n.numbers) it.o) (sym (view_in mine seen own contains.fresh n slot)) it.parts;
             asked = it.asked;
-            connections = view_set mine seen own n.connections slot result.connection ∙ ap (λ (d : Connection). slice_set (View n).connections slot d) it.connection;
+            connections = view_set mine seen own n.connections slot result.connection
+                ∙ ap (λ (d : Connection). slice_set (View n).connections slot d) it.connection;
             numbers = it.numbers_are;
           },
           each_set IsAtPort n.connections slot result.connection step.1 at,
         )
 
-    moved : (event : Event) (slot : ℕ) (old : Connection) (result : Outcome) → Stepped mine seen own m contains (connection_in slot n) n.numbers result → Does (happened m n event slot old result)
+    moved : (event : Event) (slot : ℕ) (old : Connection) (result : Outcome) → Stepped mine seen own m contains (connection_in slot n)
+        n.numbers result → Does (happened m n event slot old result)
     moved event slot old result step = let it = took event slot old result step in (moves_slot slot it.0, it.1)
 
     opens_step : (sockets : Sockets) (s : PlainSegment) (slot : Option ℕ) → Does (opens m n sockets s slot)
@@ -108,12 +116,14 @@ module _ (mine : ℕ → Bool) (seen : AppState → AppState) (own : List ℕ �
     arrives_step served sockets s None = stranger_step served sockets s
     arrives_step served sockets s (Some slot) =
         let c : Connection = connection_in slot n in
-        moved (Arrived sockets s) slot c (asked m (snapshot n (Arrived sockets s) slot) (on_segment m c n.numbers s)) (segment_step mine seen own m contains (snapshot n (Arrived sockets s) slot) c n.numbers s (at slot))
+        moved (Arrived sockets s) slot c (asked m (snapshot n (Arrived sockets s) slot) (on_segment m c n.numbers s))
+        (segment_step mine seen own m contains (snapshot n (Arrived sockets s) slot) c n.numbers s (at slot))
 
     pub periodic_step : (slot : ℕ) → MovesSlot (View n) (View (periodic m n slot).node) slot × InEach IsAtPort (periodic m n slot).node.connections
     periodic_step slot =
         let c : Connection = connection_in slot n in
-        took (Periodic slot) slot c (asked m (snapshot n (Periodic slot) slot) (on_tick m c n.numbers)) (tick_step mine seen own m contains (snapshot n (Periodic slot) slot) c n.numbers (at slot))
+        took (Periodic slot) slot c (asked m (snapshot n (Periodic slot) slot) (on_tick m c n.numbers))
+        (tick_step mine seen own m contains (snapshot n (Periodic slot) slot) c n.numbers (at slot))
 
     pub slots_step : (served : ℕ → Bool) (event : Event) → Does (step m served n event)
     slots_step served (IpRefused fate) = (still refl refl, at)

@@ -1,5 +1,7 @@
 -- The ticket of each connection is a number of 32 bits, and so are the numbers of a message that can be written.
-use Rattle.own_node.proofs.Prelude.{All, ◌≡◌, ◌∙◌, ℕ, ◌≤◌, inl, inr, Bool, true, false, List, if◌then◌else◌, length, nat_le, refl, sym, ap, subst, arith, and_parts, leb-true, ltb-false, AppState, IsByte, IsU32, Now, Connection, Outcome, AbstractNode, connection_in, can_write_in, is_ready_at, next_message}
+use Rattle.own_node.proofs.Prelude.{All, ◌≡◌, ◌∙◌, ℕ, ◌≤◌, inl, inr, Bool, true, false, List, if◌then◌else◌, length, nat_le, refl, sym, ap}
+use Rattle.own_node.proofs.Prelude.{subst, arith, and_parts, leb-true, ltb-false, AppState, IsByte, IsU32, Now, Connection, Outcome}
+use Rattle.own_node.proofs.Prelude.{AbstractNode, connection_in, can_write_in, is_ready_at, next_message}
 use Rattle.own_app.specs.Prelude.{IsMessage, is_next_message, message_in, own_spec, pending as pending_of, with_message}
 use Rattle.own_app.specs.declared.TheConstants.{RECEIVED_ROOM}
 use Rattle.own_node.proofs.ReadingLaws.{IsReady, ready_has}
@@ -39,7 +41,8 @@ ticketed_on n m does each =
     elim does [
       | still connections numbers ↦ subst (λ (cs : List Connection). InEach IsTicketed cs) (sym connections) each
       | accepts_slot slot d is connections numbers ↦
-          subst (λ (cs : List Connection). InEach IsTicketed cs) (sym connections) (each_set IsTicketed n.connections slot d (subst (λ (k : ℕ). IsU32 k) (sym is.ticket) (omega arith)) each)
+          subst (λ (cs : List Connection). InEach IsTicketed cs) (sym connections)
+          (each_set IsTicketed n.connections slot d (subst (λ (k : ℕ). IsU32 k) (sym is.ticket) (omega arith)) each)
       | moves_slot slot it ↦
           subst (λ (cs : List Connection). InEach IsTicketed cs) (sym it.connections)
           (each_set IsTicketed n.connections slot it.result.connection
@@ -52,7 +55,8 @@ taken_low : (c : Connection) (taken : ℕ) → IsReady c → taken ≤ length (p
 taken_low c taken ready there =
     let short : length (pending_of c.part) ≤ RECEIVED_ROOM = ltb-false RECEIVED_ROOM (length (pending_of c.part)) ready.kept in omega (arith, there, short)
 
-pub message_fits : (slot taken : ℕ) (text : List ℕ) (last : Bool) (n : AbstractNode) → InEach IsTicketed n.connections → All IsByte text → can_write_in slot taken n ≡ true
+pub message_fits : (slot taken : ℕ) (text : List ℕ) (last : Bool) (n : AbstractNode) → InEach IsTicketed n.connections → All IsByte text
+    → can_write_in slot taken n ≡ true
     → IsMessage (next_message slot taken text last n)
 message_fits slot taken text last n each bytes can =
     let c : Connection = connection_in slot n in

@@ -1,6 +1,13 @@
 -- What a connection of `OwnApp` captured is what the program wrote to it, for fewer than 2^32 calls.
-use Rattle.own_node.proofs.Prelude.{All, ◌≡◌, ◌∙◌, ℕ, ◌+◌, ◌<◌, ◌≤◌, ◌%◌, ◌==◌, ◌⊎◌, inl, inr, Bool, true, false, List, [], ◌∷◌, ◌++◌, append-nil, drop, if◌then◌else◌, length, length-append, nat_le, refl, sym, ap, subst, arith, and_parts, eq-eqb, eqb-true, false≢true, slice_index_or, slice_set, AppSpec, AppState, IsByte, Snapshot, Now, State, Closed, SynRcvd, Established, CloseWait, FinWait1, FinWait2, Closing, TimeWait, LastAck, Connection, Outcome, closed, is_open, Addr, AbstractNode, Event, connection_in, initial_node, run, step, periodic, both_ways, is_ask, message_back, HasCaptured, can_write_at, can_write_in, is_ready_at, next_message, next_message_at, with_change, is_accepted}
-use Rattle.own_app.specs.Prelude.{IsMessage, PlainMessage, is_next_message, message_in, messages_text, next_ticket, no_message, numbers_of, opened_in, own_spec, pending as pending_of, with_message, with_written, write_message}
+use Rattle.own_node.proofs.Prelude.{All, ◌≡◌, ◌∙◌, ℕ, ◌+◌, ◌<◌, ◌≤◌, ◌%◌, ◌==◌, ◌⊎◌, inl, inr, Bool, true, false, List, [], ◌∷◌, ◌++◌}
+use Rattle.own_node.proofs.Prelude.{append-nil, drop, if◌then◌else◌, length, length-append, nat_le, refl, sym, ap, subst, arith, and_parts}
+use Rattle.own_node.proofs.Prelude.{eq-eqb, eqb-true, false≢true, slice_index_or, slice_set, AppSpec, AppState, IsByte, Snapshot, Now}
+use Rattle.own_node.proofs.Prelude.{State, Closed, SynRcvd, Established, CloseWait, FinWait1, FinWait2, Closing, TimeWait, LastAck}
+use Rattle.own_node.proofs.Prelude.{Connection, Outcome, closed, is_open, Addr, AbstractNode, Event, connection_in, initial_node, run, step}
+use Rattle.own_node.proofs.Prelude.{periodic, both_ways, is_ask, message_back, HasCaptured, can_write_at, can_write_in, is_ready_at}
+use Rattle.own_node.proofs.Prelude.{next_message, next_message_at, with_change, is_accepted}
+use Rattle.own_app.specs.Prelude.{IsMessage, PlainMessage, is_next_message, message_in, messages_text, next_ticket, no_message, numbers_of}
+use Rattle.own_app.specs.Prelude.{opened_in, own_spec, pending as pending_of, with_message, with_written, write_message}
 use Rattle.own_node.proofs.ReadingLaws.{IsReady, ready_has}
 use Rattle.own_node.proofs.Parts.{AskedPart, IsAtPort}
 use Rattle.own_node.proofs.Parts.OutParts.{opened, same}
@@ -43,7 +50,8 @@ first_settled n none numbers =
     }
 
 apart_set : (cs : List Connection) (i : ℕ) (new : Connection)
-    → ((j : ℕ) → (j ≡ i → ⊥) → is_open new.state ≡ true → is_open (slice_index_or cs j closed).state ≡ true → new.part.own ≡ (slice_index_or cs j closed).part.own → ⊥)
+    → ((j : ℕ) → (j ≡ i → ⊥) → is_open new.state ≡ true → is_open (slice_index_or cs j closed).state ≡ true
+    → new.part.own ≡ (slice_index_or cs j closed).part.own → ⊥)
     → AreApart cs → AreApart (slice_set cs i new)
 apart_set cs i new alone apart a b ne =
     elim (index_set cs i new a) [
@@ -75,17 +83,20 @@ same_message ticket (a ∷ b ∷ c ∷ d ∷ e ∷ text) = refl
 
 -- ---- an event captures nothing
 
-prepared_none : (numbers : List ℕ) (p : AppState) (now : Now) → ((message_in numbers).to ≡ p.own → (message_in numbers).number ≡ length p.snapshots % 4294967296 → ⊥)
+prepared_none : (numbers : List ℕ) (p : AppState) (now : Now)
+    → ((message_in numbers).to ≡ p.own → (message_in numbers).number ≡ length p.snapshots % 4294967296 → ⊥)
     → (own_spec.prepare numbers p now).snapshots ≡ p.snapshots
 prepared_none numbers p now spent =
-    elim (is_next_message (message_in numbers) p) as (λ b. is_next_message (message_in numbers) p ≡ b → (if b then with_message numbers p now else p).snapshots ≡ p.snapshots) [
+    elim (is_next_message (message_in numbers) p) as (λ b. is_next_message (message_in numbers) p ≡ b
+    → (if b then with_message numbers p now else p).snapshots ≡ p.snapshots) [
       | true ↦ λ e. (let first = and_parts _ _ (and_parts _ _ (and_parts _ _ (and_parts _ _ (and_parts _ _ e).0).0).0).0 in
           absurd (spent (eqb-true (message_in numbers).to p.own first.0) (eqb-true (message_in numbers).number (length p.snapshots % 4294967296) first.1)))
       | false ↦ λ e. refl
     ] refl
 
 asked_none : (o result : Outcome) → AskedPart o result
-    → (is_ask o.step ≡ true → (message_in o.numbers).to ≡ o.connection.part.own → (message_in o.numbers).number ≡ length o.connection.part.snapshots % 4294967296 → ⊥)
+    → (is_ask o.step ≡ true → (message_in o.numbers).to ≡ o.connection.part.own → (message_in o.numbers).number
+    ≡ length o.connection.part.snapshots % 4294967296 → ⊥)
     → result.connection.part.snapshots ≡ o.connection.part.snapshots
 asked_none o result h spent =
     elim h.part [
@@ -107,10 +118,12 @@ pub still_leaves : (n m : AbstractNode) (count : ℕ) → m.connections ≡ n.co
 still_leaves n m count cs ns g = record {
   settled = record {
     few = (let few = g.few in omega (arith, few, ap (λ (l : List ℕ). opened_in l) ns));
-    tickets = subst (λ (l : List Connection). InEach (λ c. c.part.own ≤ opened_in m.numbers) l) (sym cs) (subst (λ (l : List ℕ). InEach (λ c. c.part.own ≤ opened_in l) n.connections) (sym ns) g.tickets);
+    tickets = subst (λ (l : List Connection). InEach (λ c. c.part.own ≤ opened_in m.numbers) l) (sym cs)
+        (subst (λ (l : List ℕ). InEach (λ c. c.part.own ≤ opened_in l) n.connections) (sym ns) g.tickets);
     newest = subst (λ (l : List ℕ). (message_in l).to ≤ opened_in l) (sym ns) g.newest;
     apart = subst AreApart (sym cs) g.apart;
-    spent = subst (λ (l : List Connection). InEach (IsSpent (message_in m.numbers)) l) (sym cs) (subst (λ (l : List ℕ). InEach (IsSpent (message_in l)) n.connections) (sym ns) g.spent);
+    spent = subst (λ (l : List Connection). InEach (IsSpent (message_in m.numbers)) l) (sym cs)
+        (subst (λ (l : List ℕ). InEach (IsSpent (message_in l)) n.connections) (sym ns) g.spent);
   };
   slots = λ slot. (let e : connection_in slot m ≡ connection_in slot n = ap (λ (l : List Connection). slice_index_or l slot closed) cs in
       goes_on (ap (λ (c : Connection). c.part.snapshots) e) (λ z. ap (λ (c : Connection). c.state) (sym e) ∙ z));
@@ -153,7 +166,8 @@ module _ (n m : AbstractNode) (count slot : ℕ) (d : Connection) (cs : m.connec
     few = (let few = g.few in omega (arith, few, ap (λ (l : List ℕ). opened_in l) ns));
     tickets =
         subst (λ (l : List Connection). InEach (λ c. c.part.own ≤ opened_in m.numbers) l) (sym cs)
-        (each_set (λ c. c.part.own ≤ opened_in m.numbers) n.connections slot d (omega (arith, own)) (subst (λ (l : List ℕ). InEach (λ c. c.part.own ≤ opened_in l) n.connections) (sym ns) g.tickets));
+        (each_set (λ c. c.part.own ≤ opened_in m.numbers) n.connections slot d (omega (arith, own))
+        (subst (λ (l : List ℕ). InEach (λ c. c.part.own ≤ opened_in l) n.connections) (sym ns) g.tickets));
     newest = subst (λ (l : List ℕ). (message_in l).to ≤ opened_in l) (sym ns) g.newest;
     apart = subst AreApart (sym cs) (apart_set n.connections slot d (λ j ne o p q. absurd (false≢true (sym shut ∙ o))) g.apart);
     spent =
@@ -173,7 +187,8 @@ module _ (n m : AbstractNode) (count slot : ℕ) (d : Connection) (cs : m.connec
         few = omega (arith, few, now);
         tickets =
             subst (λ (l : List Connection). InEach (λ c. c.part.own ≤ opened_in m.numbers) l) (sym cs)
-            (each_set (λ c. c.part.own ≤ opened_in m.numbers) n.connections slot d (omega (arith, own, next, now)) (λ j. (let l = g.tickets j in omega (arith, l, now))));
+            (each_set (λ c. c.part.own ≤ opened_in m.numbers) n.connections slot d (omega (arith, own, next, now))
+            (λ j. (let l = g.tickets j in omega (arith, l, now))));
         newest = (let newest = g.newest in omega (arith, newest, now, ap (λ (x : PlainMessage). x.to) message));
         apart = subst AreApart (sym cs) (apart_set n.connections slot d (λ j ne o p q. (let l = g.tickets j in omega (arith, l, q, own, next))) g.apart);
         spent =
@@ -198,18 +213,21 @@ moves_leaves n m count slot low it g =
           g.spent slot (asks a) (sym (ap (λ (l : List ℕ). (message_in l).to) numbers_are) ∙ to ∙ own)
           (sym (ap (λ (l : List ℕ). (message_in l).number) numbers_are) ∙ number ∙ ap (λ (l : List Snapshot). length l % 4294967296) captures)) in
           record {
-            settled = settled_same n m count slot d it.connections g numbers (asked_own it.o it.result it.asked ∙ own) (none ∙ captures) (λ o. opens_before (it.asked.opens o));
+            settled = settled_same n m count slot d it.connections g numbers (asked_own it.o it.result it.asked ∙ own) (none ∙ captures)
+                (λ o. opens_before (it.asked.opens o));
             slots = others_stay n m count slot d it.connections g (goes_on (none ∙ captures) (λ z. syn (it.asked.syn z)));
           })
       | opened state now own captures numbers_are ↦
           (let few = g.few in
           let newest = g.newest in
           let next : next_ticket n.numbers ≡ opened_in n.numbers + 1 = omega (arith, few, low) in
-          let message : message_in it.o.numbers ≡ message_in n.numbers = ap (λ (l : List ℕ). message_in l) numbers_are ∙ same_message (next_ticket n.numbers) n.numbers in
+          let message : message_in it.o.numbers ≡ message_in n.numbers = ap (λ (l : List ℕ). message_in l) numbers_are
+          ∙ same_message (next_ticket n.numbers) n.numbers in
           let none : d.part.snapshots ≡ it.o.connection.part.snapshots =
           asked_none it.o it.result it.asked (λ a to number. omega (arith, newest, to, own, next, ap (λ (x : PlainMessage). x.to) message)) in
           record {
-            settled = settled_opened n m count slot d it.connections g low (it.numbers ∙ it.asked.numbers ∙ numbers_are) (asked_own it.o it.result it.asked ∙ own);
+            settled = settled_opened n m count slot d it.connections g low (it.numbers ∙ it.asked.numbers ∙ numbers_are)
+                (asked_own it.o it.result it.asked ∙ own);
             slots = others_stay n m count slot d it.connections g (opens state (λ z. not_syn it.o.connection now (it.asked.syn z)) (none ∙ captures));
           })
     ]
@@ -237,7 +255,8 @@ next_count : (k : ℕ) → k % 4294967296 ≡ (k + 1) % 4294967296 → ⊥
 next_count k e = omega (arith, e)
 
 pub write_leaves : (n m : AbstractNode) (count slot taken : ℕ) (text : List ℕ) (last : Bool) → All IsByte text → can_write_in slot taken n ≡ true
-    → MovesSlot (with_written (next_message slot taken text last n) n) m slot → HasCaptured (next_message slot taken text last n) (connection_in slot n) (connection_in slot m) → IsSettled n count
+    → MovesSlot (with_written (next_message slot taken text last n) n) m slot → HasCaptured (next_message slot taken text last n)
+    (connection_in slot n) (connection_in slot m) → IsSettled n count
     → WriteLeaves n m (count + 1) slot text
 write_leaves n m count slot taken text last bytes can it has g =
     let message : PlainMessage = next_message slot taken text last n in
@@ -261,19 +280,23 @@ write_leaves n m count slot taken text last bytes can it has g =
             | old_at h v ↦ absurd (false≢true (subst (λ (x : Connection). is_open x.state ≡ true) (h refl) is_open_now))
           ]) in
           let more : length d.part.snapshots ≡ length c.part.snapshots + 1 =
-          ap (λ (x : Connection). length x.part.snapshots) (sym placed) ∙ ap (λ (l : List Snapshot). length l) has.snapshots ∙ length-append c.part.snapshots (has.capture ∷ []) in
+          ap (λ (x : Connection). length x.part.snapshots) (sym placed) ∙ ap (λ (l : List Snapshot). length l) has.snapshots
+          ∙ length-append c.part.snapshots (has.capture ∷ []) in
           record {
             settled = record {
               few = omega (arith, few, count_is);
               tickets =
                   subst (λ (l : List Connection). InEach (λ x. x.part.own ≤ opened_in m.numbers) l) (sym it.connections)
-                  (each_set (λ x. x.part.own ≤ opened_in m.numbers) n.connections slot d (omega (arith, ticket, own_is, count_is)) (λ j. (let l = g.tickets j in omega (arith, l, count_is))));
+                  (each_set (λ x. x.part.own ≤ opened_in m.numbers) n.connections slot d (omega (arith, ticket, own_is, count_is))
+                  (λ j. (let l = g.tickets j in omega (arith, l, count_is))));
               newest = (let to : (message_in m.numbers).to ≡ c.part.own = ap (λ (x : PlainMessage). x.to) newest in omega (arith, to, ticket, count_is));
-              apart = subst AreApart (sym it.connections) (apart_set n.connections slot d (λ j ne o p q. g.apart slot j (λ e. ne (sym e)) is_open_now p (sym own_is ∙ q)) g.apart);
+              apart = subst AreApart (sym it.connections)
+                  (apart_set n.connections slot d (λ j ne o p q. g.apart slot j (λ e. ne (sym e)) is_open_now p (sym own_is ∙ q)) g.apart);
               spent =
                   subst (λ (x : PlainMessage). InEach (IsSpent x) m.connections) (sym newest)
                   (subst (λ (l : List Connection). InEach (IsSpent message) l) (sym it.connections)
-                  (λ j. spent_at n.connections slot d message is_open_now (λ o to number. next_count (length c.part.snapshots) (number ∙ ap (λ (k : ℕ). k % 4294967296) more))
+                  (λ j. spent_at n.connections slot d message is_open_now (λ o to number. next_count (length c.part.snapshots)
+                  (number ∙ ap (λ (k : ℕ). k % 4294967296) more))
                   (λ i ne o to number. g.apart slot i ne is_open_now o to) j));
             };
             here = has.text;
@@ -285,7 +308,8 @@ write_leaves n m count slot taken text last bytes can it has g =
           })
     ]
   where
-    spent_at : (cs : List Connection) (slot : ℕ) (d : Connection) (message : PlainMessage) → is_open (slice_index_or cs slot closed).state ≡ true → IsSpent message d
+    spent_at : (cs : List Connection) (slot : ℕ) (d : Connection) (message : PlainMessage) → is_open (slice_index_or cs slot closed).state
+        ≡ true → IsSpent message d
         → ((j : ℕ) → (slot ≡ j → ⊥) → IsSpent message (slice_index_or cs j closed)) → InEach (IsSpent message) (slice_set cs slot d)
     spent_at cs slot d message there new old j =
         elim (index_set cs slot d j) [
@@ -321,8 +345,10 @@ text_stays c d text after h =
     elim after [
       | goes_on captures syn ↦ record {
         text_is = both_ways (is_accepted d.state)
-            (λ e. ap (λ (l : List Snapshot). messages_text l) (captures ∙ h.none (syn (accepted_is d.state e))) ∙ sym (ap (λ (b : Bool). if b then [] else text ++ []) e))
-            (λ e. ap (λ (l : List Snapshot). messages_text l) captures ∙ h.text_is ∙ sym (append-nil text) ∙ sym (ap (λ (b : Bool). if b then [] else text ++ []) e));
+            (λ e. ap (λ (l : List Snapshot). messages_text l) (captures ∙ h.none (syn (accepted_is d.state e)))
+            ∙ sym (ap (λ (b : Bool). if b then [] else text ++ []) e))
+            (λ e. ap (λ (l : List Snapshot). messages_text l) captures ∙ h.text_is ∙ sym (append-nil text)
+            ∙ sym (ap (λ (b : Bool). if b then [] else text ++ []) e));
         none = λ z. captures ∙ h.none (syn z);
       }
       | opens state not_now captures ↦ record {
@@ -337,7 +363,8 @@ text_stays c d text after h =
     ]
 
 -- after a call that wrote to it
-pub text_grows : (c d : Connection) (text more : List ℕ) → messages_text d.part.snapshots ≡ messages_text c.part.snapshots ++ more → (d.state ≡ SynRcvd → ⊥) → HasWrittenText c text
+pub text_grows : (c d : Connection) (text more : List ℕ) → messages_text d.part.snapshots ≡ messages_text c.part.snapshots ++ more
+    → (d.state ≡ SynRcvd → ⊥) → HasWrittenText c text
     → HasWrittenText d (if is_accepted d.state then [] else text ++ more)
 text_grows c d text more grows not_now h = record {
   text_is = grows ∙ ap (λ (l : List ℕ). l ++ more) h.text_is ∙ sym (ap (λ (b : Bool). if b then [] else text ++ more) (not_accepted d.state not_now));
@@ -408,27 +435,33 @@ module _ (mine : ℕ → Bool) (seen : AppState → AppState) (own : List ℕ �
       subst (λ (b : Bool). HasWrittenText (view_at slot n) (if b then [] else text)) (view_accepted mine seen own (connection_in slot n)) h
 
   -- nothing is written
-  stays_after : (n after : AbstractNode) (count slot : ℕ) (text : List ℕ) → IsSettled (View after) (count + 1) → SlotAfter (connection_in slot (View n)) (connection_in slot (View after)) → Holds n count slot text
+  stays_after : (n after : AbstractNode) (count slot : ℕ) (text : List ℕ) → IsSettled (View after) (count + 1)
+      → SlotAfter (connection_in slot (View n)) (connection_in slot (View after)) → Holds n count slot text
       → HoldsAfter after count slot (text ++ [])
   stays_after n after count slot text settled slots h = record {
     settled = settled;
     has = by_view after slot (text ++ [])
-        (text_stays (view_at slot n) (view_at slot after) text (subst (λ (c : Connection). SlotAfter c (view_at slot after)) (seen_in n slot) (subst (λ (d : Connection). SlotAfter (connection_in slot (View n)) d) (seen_in after slot) slots))
+        (text_stays (view_at slot n) (view_at slot after) text (subst (λ (c : Connection). SlotAfter c (view_at slot after))
+        (seen_in n slot) (subst (λ (d : Connection). SlotAfter (connection_in slot (View n)) d) (seen_in after slot) slots))
         h.has);
   }
 
-  pub events_leave : (served : ℕ → Bool) (events : List Event) → (events ≡ []) ⊎ ((e : Event) × (events ≡ e ∷ [])) → (n : AbstractNode) → Follows n → (count slot : ℕ) (text : List ℕ) → count + 1 < 4294967296
+  pub events_leave : (served : ℕ → Bool) (events : List Event) → (events ≡ []) ⊎ ((e : Event) × (events ≡ e ∷ [])) → (n : AbstractNode)
+      → Follows n → (count slot : ℕ) (text : List ℕ) → count + 1 < 4294967296
       → Holds n count slot text → HoldsAfter (run m served events n).node count slot (text ++ [])
   events_leave served events (inl none) n f count slot text low h =
       let left = still_leaves (View n) (View n) count refl refl h.settled in
-      subst (λ (l : List Event). HoldsAfter (run m served l n).node count slot (text ++ [])) (sym none) (stays_after n n count slot text left.settled (left.slots slot) h)
+      subst (λ (l : List Event). HoldsAfter (run m served l n).node count slot (text ++ [])) (sym none)
+      (stays_after n n count slot text left.settled (left.slots slot) h)
   events_leave served events (inr one) n f count slot text low h =
       let after : AbstractNode = (step m served n one.0).node in
       let left = event_leaves (View n) (View after) count low (slots_step mine seen own m contains n f.at_port served one.0).0 h.settled in
-      subst (λ (l : List Event). HoldsAfter (run m served l n).node count slot (text ++ [])) (sym one.1) (stays_after n after count slot text left.settled (left.slots slot) h)
+      subst (λ (l : List Event). HoldsAfter (run m served l n).node count slot (text ++ [])) (sym one.1)
+      (stays_after n after count slot text left.settled (left.slots slot) h)
 
   -- the numbers of another application change
-  pub change_leaves : (change : List ℕ → List ℕ) (n : AbstractNode) (count slot : ℕ) (text : List ℕ) → own (change n.numbers) ≡ own n.numbers → Holds n count slot text → Holds (with_change change n) count slot text
+  pub change_leaves : (change : List ℕ → List ℕ) (n : AbstractNode) (count slot : ℕ) (text : List ℕ) → own (change n.numbers)
+      ≡ own n.numbers → Holds n count slot text → Holds (with_change change n) count slot text
   change_leaves change n count slot text others h = record {
     settled = subst (λ (l : List ℕ). IsSettled (record (View n) { numbers = l }) count) (sym others) h.settled;
     has = h.has;
@@ -447,34 +480,42 @@ module _ (mine : ℕ → Bool) (seen : AppState → AppState) (own : List ℕ �
         → HoldsAfter wrote count slot (before ++ (if at == slot then text else []))
     wrote_leaves numbers f bytes can captured count slot before h =
         let moves : MovesSlot (with_written message (View n)) (View wrote) at =
-        subst (λ (l : List ℕ). MovesSlot (record (View n) { numbers = l }) (View wrote) at) numbers (periodic_step mine seen own m contains (with_change change n) f.at_port at).0 in
+        subst (λ (l : List ℕ). MovesSlot (record (View n) { numbers = l }) (View wrote) at) numbers
+        (periodic_step mine seen own m contains (with_change change n) f.at_port at).0 in
         let left = write_leaves (View n) (View wrote) count at taken text last bytes can moves captured h.settled in
         both_ways (at == slot)
         (λ e. (let here : at ≡ slot = eqb-true at slot e in
         let grows : messages_text (connection_in slot (View wrote)).part.snapshots ≡ messages_text (connection_in slot (View n)).part.snapshots ++ text =
-        subst (λ (k : ℕ). messages_text (connection_in k (View wrote)).part.snapshots ≡ messages_text (connection_in k (View n)).part.snapshots ++ text) here left.here in
-        let not_now : (connection_in slot (View wrote)).state ≡ SynRcvd → ⊥ = subst (λ (k : ℕ). (connection_in k (View wrote)).state ≡ SynRcvd → ⊥) here left.established in
+        subst (λ (k : ℕ). messages_text (connection_in k (View wrote)).part.snapshots ≡ messages_text
+        (connection_in k (View n)).part.snapshots ++ text) here left.here in
+        let not_now : (connection_in slot (View wrote)).state ≡ SynRcvd
+        → ⊥ = subst (λ (k : ℕ). (connection_in k (View wrote)).state ≡ SynRcvd → ⊥) here left.established in
         record {
           settled = left.settled;
           has = by_view wrote slot (before ++ (if at == slot then text else []))
               (text_grows (view_at slot n) (view_at slot wrote) before (if at == slot then text else [])
-              (ap (λ (c : Connection). messages_text c.part.snapshots) (sym (seen_in wrote slot)) ∙ grows ∙ ap (λ (c : Connection). messages_text c.part.snapshots ++ text) (seen_in n slot)
+              (ap (λ (c : Connection). messages_text c.part.snapshots) (sym (seen_in wrote slot)) ∙ grows
+              ∙ ap (λ (c : Connection). messages_text c.part.snapshots ++ text) (seen_in n slot)
               ∙ ap (λ (b : Bool). messages_text (view_at slot n).part.snapshots ++ (if b then text else [])) (sym e))
               (λ z. not_now (ap (λ (c : Connection). c.state) (seen_in wrote slot) ∙ z)) h.has);
         }))
         (λ e. (let there : slot ≡ at → ⊥ = λ g. false≢true (sym e ∙ eq-eqb at slot (sym g)) in
         subst (λ (l : List ℕ). HoldsAfter wrote count slot (before ++ l)) (ap (λ (b : Bool). if b then text else []) (sym e))
-        (stays_after n wrote count slot before left.settled (same_slot (connection_in slot (View n)) (connection_in slot (View wrote)) (left.others slot there)) h)))
+        (stays_after n wrote count slot before left.settled (same_slot (connection_in slot (View n)) (connection_in slot (View wrote))
+        (left.others slot there)) h)))
 
     -- by the connections that `OwnApp` sees before and after it
-    module _ (c d : Connection) (before : connection_in at (View n) ≡ c) (after : connection_in at (View wrote) ≡ d) (f : Follows n) (bytes : All IsByte text) (can : can_write_at taken c ≡ true) where
+    module _ (c d : Connection) (before : connection_in at (View n) ≡ c) (after : connection_in at (View wrote) ≡ d) (f : Follows n)
+        (bytes : All IsByte text) (can : can_write_at taken c ≡ true) where
       can_here : can_write_in at taken (View n) ≡ true
       can_here = ap (λ (x : Connection). can_write_at taken x) before ∙ can
 
       pub message_seen : IsMessage (next_message_at taken text last c)
-      message_seen = subst (λ (x : Connection). IsMessage (next_message_at taken text last x)) before (message_fits at taken text last (View n) f.ticketed bytes can_here)
+      message_seen = subst (λ (x : Connection). IsMessage (next_message_at taken text last x)) before
+          (message_fits at taken text last (View n) f.ticketed bytes can_here)
 
-      pub wrote_seen : own (change n.numbers) ≡ write_message (next_message_at taken text last c) (own n.numbers) → HasCaptured (next_message_at taken text last c) c d → (count slot : ℕ) (text_before : List ℕ)
+      pub wrote_seen : own (change n.numbers) ≡ write_message (next_message_at taken text last c) (own n.numbers)
+          → HasCaptured (next_message_at taken text last c) c d → (count slot : ℕ) (text_before : List ℕ)
           → Holds n count slot text_before → HoldsAfter wrote count slot (text_before ++ (if at == slot then text else []))
       wrote_seen numbers captured =
           wrote_leaves (numbers ∙ ap (λ (x : Connection). write_message (next_message_at taken text last x) (own n.numbers)) (sym before)) f bytes can_here

@@ -1,6 +1,7 @@
 -- What a pair owes the laws of a trace, and its trace.
 use Rattle.std.specs.List.{All}
-use Rattle.std.proofs.Common.{rules, ◌≡◌, ℕ, ◌==◌, ◌&&◌, ◌≤◌, Bool, true, false, if◌then◌else◌, List, [], ◌∷◌, ◌++◌, length, map, refl, sym, ap, ◌∙◌, subst}
+use Rattle.std.proofs.Common.{rules, ◌≡◌, ℕ, ◌==◌, ◌&&◌, ◌≤◌, Bool, true, false, if◌then◌else◌, List, [], ◌∷◌, ◌++◌, length, map, refl, sym}
+use Rattle.std.proofs.Common.{ap, ◌∙◌, subst}
 use Rattle.std.proofs.lemmas.List.{map-append}
 use Rattle.std.proofs.lemmas.Bool.{and_parts, eq-eqb, eqb-true}
 use Rattle.std.proofs.lemmas.List.Elements.{All-cons, All-head, All-nil, All-tail}
@@ -8,14 +9,17 @@ use Rattle.uip_wire.specs.declared.addr.Addr.{Addr}
 use Rattle.app_events.specs.Prelude.{AppSpec, AppState, IsLawful, IsPrefixOf, IsSnapshot, MayWant, Pages, Snapshot}
 use Rattle.app_events.specs.declared.want.Want.TheVariants.{Close}
 use Rattle.uip_node.specs.Prelude.{AbstractNode, IsSteady, SendsBytes, initial_node, step}
-use Rattle.node_laws.specs.Prelude.{AcceptsPrefix, FollowsModelAt, FollowsPagesAt, IsPagedAt, IsDecoded, LeavesDelivered, OutputModel, TraceConforms, TraceEntry, Free, Interactive, Paged}
+use Rattle.node_laws.specs.Prelude.{AcceptsPrefix, FollowsModelAt, FollowsPagesAt, IsPagedAt, IsDecoded, LeavesDelivered, OutputModel}
+use Rattle.node_laws.specs.Prelude.{TraceConforms, TraceEntry, Free, Interactive, Paged}
 use Rattle.node_laws.proofs.EveryTraceConforms.{every_step}
 use Rattle.node_laws.proofs.Steps.{Changes as ChangesAll, IsStep, LineStep, OfNode, trace_over}
 use Rattle.app_pair.specs.PairNumbers.{change_own, own_numbers}
 use Rattle.app_pair.specs.PairSpec.{KeepsCaptures, StaysAtPort, by_port, one_of_two, own_part, own_snapshot, pair_spec, spec_at}
-use Rattle.pair_laws.specs.PairLines.{Changes, Happens, IsPairStep, PairSpeaksOnLines, PairStep, PairTraceConforms, own_model, own_pages, pair_model, pair_trace, with_changed}
+use Rattle.pair_laws.specs.PairLines.{Changes, Happens, IsPairStep, PairSpeaksOnLines, PairStep, PairTraceConforms, own_model, own_pages}
+use Rattle.pair_laws.specs.PairLines.{pair_model, pair_trace, with_changed}
 use Rattle.app_pair.specs.Lemmas.NumberLaws.{own_u32, with_own_u32}
-use Rattle.app_pair.specs.Lemmas.PairLaws.{at_each_port, at_each_state, at_state, by_port_keeps, by_port_lawful_at, one_captures, one_lawful_at, pair_port, sees_acked, sees_connected, sees_newdata, sees_polled, sees_prepare}
+use Rattle.app_pair.specs.Lemmas.PairLaws.{at_each_port, at_each_state, at_state, by_port_keeps, by_port_lawful_at, one_captures}
+use Rattle.app_pair.specs.Lemmas.PairLaws.{one_lawful_at, pair_port, sees_acked, sees_connected, sees_newdata, sees_polled, sees_prepare}
 
 captures_of : (m : AppSpec) → IsSteady m → KeepsCaptures m
 captures_of m steady = record {
@@ -45,11 +49,16 @@ module _ (second : Bool) (m : AppSpec) where
         prepare_snapshots = keeps.prepare;
         acked_snapshots = keeps.acked;
         polled_snapshots = keeps.polled;
-        connected_numbers = λ numbers port h. with_own_u32 second _ numbers (steady.connected_numbers (own_numbers second numbers) port (own_u32 second numbers h)) h;
-        newdata_numbers = λ numbers p piece h. with_own_u32 second _ numbers (steady.newdata_numbers (own_numbers second numbers) (own_part second p) piece (own_u32 second numbers h)) h;
-        acked_numbers = λ numbers p n h. with_own_u32 second _ numbers (steady.acked_numbers (own_numbers second numbers) (own_part second p) n (own_u32 second numbers h)) h;
-        polled_numbers = λ numbers p h. with_own_u32 second _ numbers (steady.polled_numbers (own_numbers second numbers) (own_part second p) (own_u32 second numbers h)) h;
-        ended_numbers = λ numbers p how h. with_own_u32 second _ numbers (steady.ended_numbers (own_numbers second numbers) (own_part second p) how (own_u32 second numbers h)) h;
+        connected_numbers = λ numbers port h. with_own_u32 second _ numbers (steady.connected_numbers (own_numbers second numbers) port
+            (own_u32 second numbers h)) h;
+        newdata_numbers = λ numbers p piece h. with_own_u32 second _ numbers (steady.newdata_numbers (own_numbers second numbers)
+            (own_part second p) piece (own_u32 second numbers h)) h;
+        acked_numbers = λ numbers p n h. with_own_u32 second _ numbers (steady.acked_numbers (own_numbers second numbers)
+            (own_part second p) n (own_u32 second numbers h)) h;
+        polled_numbers = λ numbers p h. with_own_u32 second _ numbers (steady.polled_numbers (own_numbers second numbers)
+            (own_part second p) (own_u32 second numbers h)) h;
+        ended_numbers = λ numbers p how h. with_own_u32 second _ numbers (steady.ended_numbers (own_numbers second numbers)
+            (own_part second p) how (own_u32 second numbers h)) h;
       }
 
   own_snapshots : (ks : List Snapshot) → All IsSnapshot ks → All IsSnapshot (map (own_snapshot second) ks)
@@ -76,7 +85,8 @@ module _ (second : Bool) (m : AppSpec) where
         let joined = λ (ks later : List Snapshot). sym (map-append (own_snapshot second) ks later) in
         record {
           grows = λ q more k later.
-              subst (λ (l : List Snapshot). IsPrefixOf (pages.page q (seen k)) (pages.page (q ++ more) l)) (joined k later) (h.grows q more (seen k) (seen later));
+              subst (λ (l : List Snapshot). IsPrefixOf (pages.page q (seen k)) (pages.page (q ++ more) l)) (joined k later)
+              (h.grows q more (seen k) (seen later));
           stays = λ q more k later e.
               subst (λ (l : List Snapshot). pages.page (q ++ more) l ≡ pages.page q (seen k)) (joined k later) (h.stays q more (seen k) (seen later) e);
           stays_complete = λ q more k later e.
@@ -163,7 +173,8 @@ module _ (at : ℕ → AppSpec) (keeps : (port : ℕ) → StaysAtPort (at port))
       connected = λ numbers. stays_here h.here _ [] ((keeps port).connected numbers port) (h.connected numbers);
       newdata = λ numbers p piece e.
           let q : AppState = ((by_port at).newdata numbers p piece).part in
-          let a = there (λ (m : AppSpec). AcceptsPrefix h.here h.lost p (m.newdata numbers p piece).part piece) p (port_of h.here p e) (h.newdata numbers p piece (here_of h.here p e)) in
+          let a = there (λ (m : AppSpec). AcceptsPrefix h.here h.lost p (m.newdata numbers p piece).part piece) p (port_of h.here p e)
+          (h.newdata numbers p piece (here_of h.here p e)) in
           record {
             prefix = a.prefix;
             rest = a.rest;
@@ -174,15 +185,18 @@ module _ (at : ℕ → AppSpec) (keeps : (port : ℕ) → StaysAtPort (at port))
           };
       prepare = λ numbers p now e.
           leaves h.here h.lost p ((by_port at).prepare numbers p now) ((keeps p.port).prepare numbers p now ∙ port_of h.here p e)
-          (there (λ (m : AppSpec). LeavesDelivered h.here h.lost p (m.prepare numbers p now)) p (port_of h.here p e) (h.prepare numbers p now (here_of h.here p e)));
+          (there (λ (m : AppSpec). LeavesDelivered h.here h.lost p (m.prepare numbers p now)) p (port_of h.here p e)
+          (h.prepare numbers p now (here_of h.here p e)));
       acked = λ numbers p n e.
           leaves h.here h.lost p ((by_port at).acked numbers p n).part ((keeps p.port).acked numbers p n ∙ port_of h.here p e)
-          (there (λ (m : AppSpec). LeavesDelivered h.here h.lost p (m.acked numbers p n).part) p (port_of h.here p e) (h.acked numbers p n (here_of h.here p e)));
+          (there (λ (m : AppSpec). LeavesDelivered h.here h.lost p (m.acked numbers p n).part) p (port_of h.here p e)
+          (h.acked numbers p n (here_of h.here p e)));
       polled = λ numbers p e.
           leaves h.here h.lost p ((by_port at).polled numbers p).part ((keeps p.port).polled numbers p ∙ port_of h.here p e)
           (there (λ (m : AppSpec). LeavesDelivered h.here h.lost p (m.polled numbers p).part) p (port_of h.here p e) (h.polled numbers p (here_of h.here p e)));
       closes = λ numbers p e.
-          there (λ (m : AppSpec). p.acked ≤ length (m.output p) → m.want numbers p ≡ Close → MayWant pages p Close) p (port_of h.here p e) (h.closes numbers p (here_of h.here p e));
+          there (λ (m : AppSpec). p.acked ≤ length (m.output p) → m.want numbers p ≡ Close → MayWant pages p Close) p (port_of h.here p e)
+          (h.closes numbers p (here_of h.here p e));
     }
 
     by_port_paged : (pages : Pages) → IsPagedAt (at port) port pages → IsPagedAt (by_port at) port pages
@@ -207,7 +221,8 @@ speaks_on_lines second m n firsts seconds x y =
       port = by_port_keeps at keeps;
     }
   where
-    model_at : (port : ℕ) (b : Bool) → FollowsModelAt (if b then one_of_two true n else one_of_two false m) port (if b then own_model true (seconds port) else own_model false (firsts port))
+    model_at : (port : ℕ) (b : Bool) → FollowsModelAt (if b then one_of_two true n else one_of_two false m) port
+        (if b then own_model true (seconds port) else own_model false (firsts port))
     model_at port true = one_model true n (captures_of n y.steady) port (seconds port) (y.speaks port)
     model_at port false = one_model false m (captures_of m x.steady) port (firsts port) (x.speaks port)
 
@@ -239,5 +254,6 @@ pub trace_conforms : PairTraceConforms
 trace_conforms second m n firsts seconds x y served own is numbers words steps are =
     let all = speaks_on_lines second m n firsts seconds x y in
     let model : ℕ → OutputModel = pair_model second firsts seconds in
-    subst (λ (l : List TraceEntry). TraceConforms model served l × All (IsDecoded own) l) (same_trace (pair_spec second m n) served steps (initial_node own numbers))
+    subst (λ (l : List TraceEntry). TraceConforms model served l × All (IsDecoded own) l) (same_trace (pair_spec second m n) served steps
+    (initial_node own numbers))
     (every_step (pair_spec second m n) model all.steady all.bytes all.speaks served own is numbers words (steps_of steps) (all_steps own steps are))

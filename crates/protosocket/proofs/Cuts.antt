@@ -1,5 +1,7 @@
 -- What is before the first element that passes, by its index.
-use Rattle.std.proofs.Common.{◌≡◌, ℕ, ◌+◌, ◌<◌, ◌≤◌, if◌then◌else◌, length-take, subst, refl, Bool, true, false, Some, None, List, ◌++◌, length, take, min, get_or, position, sym, ap, ◌∙◌, inl, inr, arith, cond, is_some, true≢false, Result, Ok, Err, IsOk, OnOk}
+use Rattle.std.proofs.Common.{◌≡◌, ℕ, ◌+◌, ◌<◌, ◌≤◌, if◌then◌else◌, length-take, subst, refl, Bool, true, false, Some, None, List, ◌++◌}
+use Rattle.std.proofs.Common.{length, take, min, get_or, position, sym, ap, ◌∙◌, inl, inr, arith, cond, is_some, true≢false, Result, Ok}
+use Rattle.std.proofs.Common.{Err, IsOk, OnOk}
 use Rattle.std.specs.List.{before_first, list_any, position_or_len}
 use Rattle.std.proofs.lemmas.Bool.{cases_lt, lt-ltb}
 use Rattle.std.proofs.lemmas.List.{take_all}

@@ -2,7 +2,8 @@
 use Rattle.raw_box.proofs.Prelude.{◌≡◌, List, [], ◌∷◌, ◌++◌, refl, ap, Goes-blank, handle_tells, Global, ghosts}
 use lib.Dec.{T}
 use seplogic.Ra.Ura.{Ura}
-use mir.Syntax.{Fn, Callee, Sym, Body, Local, seq, assign, return, place, field, copy, int, w64, rv_opd, aggregate, local, value_local, ty_ptr}
+use mir.Syntax.{Fn, Callee, Sym, Body, Local, seq, assign, return, place, field, copy, int, w64, rv_opd, aggregate, local, value_local}
+use mir.Syntax.{ty_ptr}
 use mir.Val.{Val}
 use base.Logic.{SProp, ent, emp}
 use base.Fml.{Fml, ftrue, fsep}
@@ -27,7 +28,8 @@ use denote.Triple.Walked.{Goes, stay_dropped}
 use Rattle.std.specs.contracts.alloc.Global as heap
 use Rattle.std.proofs.alloc.Global.TheLaws as heap_laws
 use Rattle.raw_box.proofs.Consuming.{HasCode, Proved, consumer, consumes, ensured, required}
-use Rattle.raw_box.proofs.Words.{Owned, Parts, allocator, entered, fields_in, fields_out, pair_of, pair_typed, pointer_typed, two_fields, two_words}
+use Rattle.raw_box.proofs.Words.{Owned, Parts, allocator, entered, fields_in, fields_out, pair_of, pair_typed, pointer_typed, two_fields}
+use Rattle.raw_box.proofs.Words.{two_words}
 
 -- the row of the allocator, and that of the parts of a box
 abbrev pub HeapRow : RattleType
@@ -66,12 +68,14 @@ makes_null to =
 
 abbrev pub opens : Sym → Fn
 opens from =
-    with_one (local (layout HeapRow) value_local ∷ local (pair_of HeapRow from) value_local ∷ local ty_ptr value_local ∷ local (layout HeapRow) value_local ∷ [])
+    with_one (local (layout HeapRow) value_local ∷ local (pair_of HeapRow from) value_local ∷ local ty_ptr value_local
+    ∷ local (layout HeapRow) value_local ∷ [])
     (fields_read (seq (assign (place 0 []) (rv_opd (copy (place 3 [])))) return))
 
 -- ---- its runs
 
-module _ {M : Type 1} {𝓤 : Ura M} {𝓛 : Logic 𝓤} (C : Calls 𝓤 𝓛.H) (Λ : Loops 𝓤 𝓛.H) {K : Type 0} (k : K) (a : Global) (words : List Val) (X : Item 𝓤) (Kf : Val → SProp 𝓤) where
+module _ {M : Type 1} {𝓤 : Ura M} {𝓛 : Logic 𝓤} (C : Calls 𝓤 𝓛.H) (Λ : Loops 𝓤 𝓛.H) {K : Type 0} (k : K) (a : Global) (words : List Val)
+    (X : Item 𝓤) (Kf : Val → SProp 𝓤) where
   converted : (from to : Sym) (p : Ptr) → ((w : Val) → Seq K 𝓛 (‵ (fields_own p a (w ∷ [])) ∷ X ∷ []) (prop (Kf w)))
       → Seq K 𝓛 (‵ (fields_own p a words) ∷ X ∷ []) (prop (WpFn 𝓤 𝓛.H C Λ (converts from to) (words ++ []) Kf))
   converted from to p next =
@@ -138,7 +142,8 @@ module _ {M : Type 1} {𝓤 : Ura M} (𝓛 : Logic 𝓤) (𝓜 : Model 𝓤 𝓛
         → ((v : P.Denot) (g : (c tt (v, tt)).ghost) (x : φ v) → ent 𝓤 (emp 𝓤) (ensured 𝓛 𝓜 𝓡 P Q k c last v g (result v x)))
         → (name : Callee) (from to : Sym) → HasCode 𝓛 𝓜 𝓡 name (converts from to) → Proved 𝓛 𝓜 𝓡 P Q k c last name
     converts_well opened φ heap learns result owned fine name from to closed =
-        consumes 𝓛 𝓜 𝓡 P Q k c last (Goes-blank 𝓛 0 (plain (λ _. P)) k (λ κs x f. nothing_left x f)) name (converts from to) closed (λ K t v words g X Kf finish.
+        consumes 𝓛 𝓜 𝓡 P Q k c last (Goes-blank 𝓛 0 (plain (λ _. P)) k (λ κs x f. nothing_left x f)) name (converts from to) closed
+        (λ K t v words g X Kf finish.
         let o = opened v in
         rewrite t 0 (λ (F : Fml). ‵ F) (o.owned words) refl $ fsplit t $ move t (2 ∷ 1 ∷ []) $ learns K t v g _ _ (λ x.
         move t (0 ∷ 2 ∷ []) $ join t $ move t (1 ∷ []) $
@@ -150,11 +155,13 @@ module _ {M : Type 1} {𝓤 : Ura M} (𝓛 : Logic 𝓤) (𝓜 : Model 𝓤 𝓛
   module _ (R Q : RattleType) (c : Clauses 𝓤 (consumer (PartsRow R) Q k)) (last : (v : (PartsRow R).Denot) → Last ((PartsRow R).exit k) v)
       (nothing_left : LeavesNothing (PartsRow R) k) where
     -- So does one that converts the parts of a box, if the result owns the same.
-    pub takes_parts_well : (result : (PartsRow R).Denot → Q.Denot) → ((v : (PartsRow R).Denot) (words : List Val) → (PartsRow R).own_val v words ≡ Q.own_val (result v) words)
+    pub takes_parts_well : (result : (PartsRow R).Denot → Q.Denot) → ((v : (PartsRow R).Denot) (words : List Val)
+        → (PartsRow R).own_val v words ≡ Q.own_val (result v) words)
         → ((v : (PartsRow R).Denot) (g : (c tt (v, tt)).ghost) → ent 𝓤 (emp 𝓤) (ensured 𝓛 𝓜 𝓡 (PartsRow R) Q k c last v g (result v)))
         → (name : Callee) (from to : Sym) → HasCode 𝓛 𝓜 𝓡 name (converts from to) → Proved 𝓛 𝓜 𝓡 (PartsRow R) Q k c last name
     takes_parts_well result owned fine =
-        converts_well (PartsRow R) Q c last nothing_left (parts_opened R) (λ v. Unit {0}) (λ v _. (parts_opened R v).heap) (λ K t v g Γ G next. drop t $ next tt)
+        converts_well (PartsRow R) Q c last nothing_left (parts_opened R) (λ v. Unit {0}) (λ v _. (parts_opened R v).heap)
+        (λ K t v g Γ G next. drop t $ next tt)
         (λ v _. result v) (λ v _. owned v) (λ v g _. fine v g)
 
   module _ (P R : RattleType) (c : Clauses 𝓤 (consumer P (PartsRow R) k)) (last : (v : P.Denot) → Last (P.exit k) v) (nothing_left : LeavesNothing P k) where
@@ -172,7 +179,8 @@ module _ {M : Type 1} {𝓤 : Ura M} (𝓛 : Logic 𝓤) (𝓜 : Model 𝓤 𝓛
   module _ (Q : RattleType) (c : Clauses 𝓤 (consumer HeapRow Q k)) (last : (a : Global) → Last (HeapRow.exit k) a)
       (goes : Goes 𝓛 0 (plain (λ _. HeapRow)) k (stay_dropped (plain (λ _. HeapRow)) k)) where
     -- So does one that makes a struct of null and an allocator, if the struct owns nothing more.
-    pub makes_null_well : (result : Global → Q.Denot) → ((a : Global) (words : List Val) → fsep (fields_own null_ptr a words) ftrue ≡ Q.own_val (result a) words)
+    pub makes_null_well : (result : Global → Q.Denot) → ((a : Global) (words : List Val) → fsep (fields_own null_ptr a words) ftrue
+        ≡ Q.own_val (result a) words)
         → ((a : Global) (g : (c tt (a, tt)).ghost) → ent 𝓤 (emp 𝓤) (ensured 𝓛 𝓜 𝓡 HeapRow Q k c last a g (result a)))
         → (name : Callee) (to : Sym) → HasCode 𝓛 𝓜 𝓡 name (makes_null to) → Proved 𝓛 𝓜 𝓡 HeapRow Q k c last name
     makes_null_well result owned fine name to closed =
@@ -188,7 +196,8 @@ module _ {M : Type 1} {𝓤 : Ura M} (𝓛 : Logic 𝓤) (𝓜 : Model 𝓤 𝓛
         → ((v : P.Denot) (g : (c tt (v, tt)).ghost) → ent 𝓤 (emp 𝓤) (ensured 𝓛 𝓜 𝓡 P HeapRow k c last v g (opened v).alloc))
         → (name : Callee) (from : Sym) → HasCode 𝓛 𝓜 𝓡 name (opens from) → Proved 𝓛 𝓜 𝓡 P HeapRow k c last name
     opens_well opened fine name from closed =
-        consumes 𝓛 𝓜 𝓡 P HeapRow k c last (Goes-blank 𝓛 0 (plain (λ _. P)) k (λ κs x f. nothing_left x f)) name (opens from) closed (λ K t v words g X Kf finish.
+        consumes 𝓛 𝓜 𝓡 P HeapRow k c last (Goes-blank 𝓛 0 (plain (λ _. P)) k (λ κs x f. nothing_left x f)) name (opens from) closed
+        (λ K t v words g X Kf finish.
         let o = opened v in
         move t (1 ∷ []) $ drop t $ rewrite t 0 (λ (F : Fml). ‵ F) (o.owned words) refl $ fsplit t $ move t (1 ∷ []) $ drop t $
         opened_for_alloc _ _ t o.alloc words X Kf from o.at (λ w.

@@ -10,7 +10,8 @@ use base.Logic.{SProp, ent, never, id⊢, fst∗}
 use base.Fml.{Fml, fex, fsep, feq}
 use prog.Wp.{Calls, Loops, WpFn}
 use types.Logic.{Logic, sem}
-use types.Kit.{Item, Goal, Seq, Step, step, prop, allocs, params', runs, at_ret, ‵, ◌$◌, move, drop, suffices, fsplit, fjoin, fpick, fpack, feq_i, feq_l}
+use types.Kit.{Item, Goal, Seq, Step, step, prop, allocs, params', runs, at_ret, ‵, ◌$◌, move, drop, suffices, fsplit, fjoin, fpick, fpack}
+use types.Kit.{feq_i, feq_l}
 use types.Run.{enter}
 use denote.RattleType.{RattleType, Valss, flat, owns}
 use denote.Builtin.{RawPtr}

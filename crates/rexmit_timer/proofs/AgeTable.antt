@@ -28,7 +28,8 @@ unfoldable pub waits_at : ℕ → ℕ → Bool
 waits_at limit age = is_beat Wait (beat_at limit (age + 1)) && ((count_at (age + 1) == count_at age - 1) && (tries_at (age + 1) == tries_at age))
 
 unfoldable pub repeats_at : ℕ → ℕ → Bool
-repeats_at limit age = is_beat Again (beat_at limit (age + 1)) && ((count_at (age + 1) == 3 * 2 ^ min (tries_at age) 4) && (tries_at (age + 1) == tries_at age + 1))
+repeats_at limit age = is_beat Again (beat_at limit (age + 1)) && ((count_at (age + 1) == 3 * 2 ^ min (tries_at age) 4)
+    && (tries_at (age + 1) == tries_at age + 1))
 
 -- what holds of an age, by whether it is below the last, whether ticks are waited, and whether all retransmissions were used
 abbrev pub fits_by : Bool → Bool → Bool → ℕ → ℕ → Bool
@@ -76,7 +77,8 @@ pub waits : (limit age : ℕ) (t : Timer) → limit ≤ 8 → age < give_up_age 
 unfolding waits_at
 waits limit age t few early at waited =
     let w : nat_lt 0 (count_at age) ≡ true = lt-ltb 0 (count_at age) (let h : 0 < count_at age = omega (arith, at.count) in h) in
-    let e = waits_from (nat_lt age (give_up_age limit)) (nat_lt 0 (count_at age)) (tries_at age == limit) limit age (all_fit_at limit age few early) (lt-ltb age (give_up_age limit) early) w in
+    let e = waits_from (nat_lt age (give_up_age limit)) (nat_lt 0 (count_at age)) (tries_at age == limit) limit age
+    (all_fit_at limit age few early) (lt-ltb age (give_up_age limit) early) w in
     let p = and_parts (is_beat Wait (beat_at limit (age + 1))) ((count_at (age + 1) == count_at age - 1) && (tries_at (age + 1) == tries_at age)) e in
     let q = and_parts (count_at (age + 1) == count_at age - 1) (tries_at (age + 1) == tries_at age) p.1 in
     let counts : count_at (age + 1) ≡ count_at age - 1 = eqb-true (count_at (age + 1)) (count_at age - 1) q.0 in
@@ -90,9 +92,14 @@ unfolding repeats_at
 repeats limit age t few early at none left =
     let w : nat_lt 0 (count_at age) ≡ false = le-ltb 0 (count_at age) (let h : count_at age ≤ 0 = omega (arith, at.count) in h) in
     let u : (tries_at age == limit) ≡ false = ne_eqb (tries_at age) limit (λ h. omega (arith, at.tries, h, left)) in
-    let e = repeats_from (nat_lt age (give_up_age limit)) (nat_lt 0 (count_at age)) (tries_at age == limit) limit age (all_fit_at limit age few early) (lt-ltb age (give_up_age limit) early) w u in
-    let p = and_parts (is_beat Again (beat_at limit (age + 1))) ((count_at (age + 1) == 3 * 2 ^ min (tries_at age) 4) && (tries_at (age + 1) == tries_at age + 1)) e in
+    let e = repeats_from (nat_lt age (give_up_age limit)) (nat_lt 0 (count_at age)) (tries_at age == limit) limit age
+    (all_fit_at limit age few early) (lt-ltb age (give_up_age limit) early) w u in
+    let p = and_parts (is_beat Again (beat_at limit (age + 1))) ((count_at (age + 1) == 3 * 2 ^ min (tries_at age) 4)
+    && (tries_at (age + 1) == tries_at age + 1)) e in
     let q = and_parts (count_at (age + 1) == 3 * 2 ^ min (tries_at age) 4) (tries_at (age + 1) == tries_at age + 1) p.1 in
     let counts : count_at (age + 1) ≡ 3 * 2 ^ min (tries_at age) 4 = eqb-true (count_at (age + 1)) (3 * 2 ^ min (tries_at age) 4) q.0 in
     let tries : tries_at (age + 1) ≡ tries_at age + 1 = eqb-true (tries_at (age + 1)) (tries_at age + 1) q.1 in
-    record { beat = beat_is Again (beat_at limit (age + 1)) p.0; goes_on = record { count = ap (λ n. 3 * 2 ^ min n 4) at.tries ∙ sym counts; tries = omega (arith, at.tries, tries) } }
+    record {
+      beat = beat_is Again (beat_at limit (age + 1)) p.0;
+      goes_on = record { count = ap (λ n. 3 * 2 ^ min n 4) at.tries ∙ sym counts; tries = omega (arith, at.tries, tries) };
+    }

@@ -1,5 +1,7 @@
 -- Bytes that are compared at once: the offset of the first one of a kind, and the first mark.
-use Rattle.script_lang.proofs.Prelude.{◌≡◌, ◌&&◌, ℕ, ◌+◌, ◌≤◌, ◌%◌, ◌^◌, false, not, cond, eqb, List, length, map, replicate, ap, ◌∙◌, sym, arith, prefix_len, bitmask_splat, first_set_mask_l, length-chunk, run_in_chunk_fails, run_in_chunk_le, run_in_chunk_stops, first_place, is_byte, is_directive_mark}
+use Rattle.script_lang.proofs.Prelude.{◌≡◌, ◌&&◌, ℕ, ◌+◌, ◌≤◌, ◌%◌, ◌^◌, false, not, cond, eqb, List, length, map, replicate, ap, ◌∙◌, sym}
+use Rattle.script_lang.proofs.Prelude.{arith, prefix_len, bitmask_splat, first_set_mask_l, length-chunk, run_in_chunk_fails}
+use Rattle.script_lang.proofs.Prelude.{run_in_chunk_le, run_in_chunk_stops, first_place, is_byte, is_directive_mark}
 use lib.Count.{count_trailing_zeros}
 use lib.Lanes.{chunk, mask_l, top, zip2}
 use mir.Syntax.{w8}

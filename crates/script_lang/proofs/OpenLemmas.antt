@@ -1,5 +1,8 @@
 -- What it means that a directive is open at an offset.
-use Rattle.script_lang.proofs.Prelude.{◌≡◌, ℕ, zero, suc, ◌+◌, ◌-◌, ◌<◌, ◌≤◌, Bool, true, false, not, ◌&&◌, List, ap, ◌∙◌, sym, inl, inr, arith, range_with_len, list_any, cases_eq, or_left, or_right, or_cases, and_from, and_parts, false_from_ne_true, not_from_false, not-true, true≢false, places, is_directive_mark, is_line_end, is_inside_directive}
+use Rattle.script_lang.proofs.Prelude.{◌≡◌, ℕ, zero, suc, ◌+◌, ◌-◌, ◌<◌, ◌≤◌, Bool, true, false, not, ◌&&◌, List, ap, ◌∙◌, sym, inl, inr}
+use Rattle.script_lang.proofs.Prelude.{arith, range_with_len, list_any, cases_eq, or_left, or_right, or_cases, and_from, and_parts}
+use Rattle.script_lang.proofs.Prelude.{false_from_ne_true, not_from_false, not-true, true≢false, places, is_directive_mark, is_line_end}
+use Rattle.script_lang.proofs.Prelude.{is_inside_directive}
 
 any-of-range : (test : ℕ → Bool) (n a k : ℕ) → a ≤ k → k < a + n → test k ≡ true → list_any test (range_with_len a n) ≡ true
 any-of-range test zero a k low high t = absurd (omega arith)

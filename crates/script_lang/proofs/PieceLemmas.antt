@@ -1,5 +1,8 @@
 -- Read from offset to offset, `piece_at` gives the pieces of the whole text.
-use Rattle.script_lang.proofs.Prelude.{◌≡◌, ℕ, zero, suc, ◌+◌, ◌-◌, ◌<◌, ◌≤◌, Bool, true, false, ◌||◌, cond, List, [], ◌∷◌, length, min, filter, map, eqb, refl, ap, ◌∙◌, sym, subst, inl, inr, ◌⊎◌, arith, range_with_len, cases_Bool, cond-false, cases_eq, or_left, ne_eqb, eq-eqb, FoundOf, places, Text, is_directive_mark, is_inside_directive, line_end, directive, IsPlace, starts, run_end, piece_by, pieces_by}
+use Rattle.script_lang.proofs.Prelude.{◌≡◌, ℕ, zero, suc, ◌+◌, ◌-◌, ◌<◌, ◌≤◌, Bool, true, false, ◌||◌, cond, List, [], ◌∷◌, length, min}
+use Rattle.script_lang.proofs.Prelude.{filter, map, eqb, refl, ap, ◌∙◌, sym, subst, inl, inr, ◌⊎◌, arith, range_with_len, cases_Bool}
+use Rattle.script_lang.proofs.Prelude.{cond-false, cases_eq, or_left, ne_eqb, eq-eqb, FoundOf, places, Text, is_directive_mark}
+use Rattle.script_lang.proofs.Prelude.{is_inside_directive, line_end, directive, IsPlace, starts, run_end, piece_by, pieces_by}
 use Rattle.script_lang.proofs.PlaceLemmas.{first_place-is, places-first, places-none}
 use Rattle.script_lang.proofs.StartLemmas.{GoesTo, directive-goes, run-goes, run-inside, run-same}
 
@@ -17,7 +20,8 @@ filter-same p q (suc n) a same =
     ∙ ap (λ rest. cond (q a) (a ∷ rest) rest) (filter-same p q n (a + 1) (λ k low high. same k (omega arith) (omega arith)))
 
 -- a range of which no place passes is passed over
-filter-skips : (test : ℕ → Bool) (m n a : ℕ) → ((k : ℕ) → a ≤ k → k < a + m → test k ≡ false) → filter test (range_with_len a (m + n)) ≡ filter test (range_with_len (a + m) n)
+filter-skips : (test : ℕ → Bool) (m n a : ℕ) → ((k : ℕ) → a ≤ k → k < a + m → test k ≡ false) → filter test (range_with_len a (m + n))
+    ≡ filter test (range_with_len (a + m) n)
 filter-skips test zero n a none =
     let e : 0 + n ≡ n = omega arith in
     let f : a ≡ a + 0 = omega arith in
@@ -46,7 +50,8 @@ kept-start text a q h = elim (cases_eq q a) [
   | inr other ↦ kept-other text a q other
 ]
 
-pub pieces_by-step : {F : Type 0} (named : List ℕ → F) (text : List ℕ) (a b : ℕ) → GoesTo text a b → pieces_by named text a ≡ piece_by named text a ∷ pieces_by named text b
+pub pieces_by-step : {F : Type 0} (named : List ℕ → F) (text : List ℕ) (a b : ℕ) → GoesTo text a b → pieces_by named text a ≡ piece_by named
+    text a ∷ pieces_by named text b
 pieces_by-step named text a b goes =
     let after = goes.after in
     let inside = goes.inside in
@@ -73,7 +78,8 @@ next-other : {F : Type 0} (t : Bool) (x y : FoundOf F) → t ≡ false → y.nex
 next-other t x y e = sym (ap (λ b. (cond b x y).next) e)
 
 -- the piece that is read from a place on goes to the next piece
-pub piece-goes : {F : Type 0} (named : List ℕ → F) (text : List ℕ) (a : ℕ) → is_inside_directive text a ≡ false → a < length text → GoesTo text a ((piece_by named text a).next)
+pub piece-goes : {F : Type 0} (named : List ℕ → F) (text : List ℕ) (a : ℕ) → is_inside_directive text a ≡ false → a < length text
+    → GoesTo text a ((piece_by named text a).next)
 piece-goes {F = F} named text a closed lt =
     let mark : FoundOf F = record { piece = directive named text a; next = min (line_end text (a + 2) + 1) (length text) } in
     let run : FoundOf F = record { piece = Text a (run_end text a - a); next = run_end text a } in
@@ -83,7 +89,8 @@ piece-goes {F = F} named text a closed lt =
     ]
 
 -- the same at any place, for the piece that was found there
-pub found-goes : {F : Type 0} (named : List ℕ → F) (text : List ℕ) (a : ℕ) (found : FoundOf F) → IsPlace text a → (a ≡ length text → ⊥) → found ≡ piece_by named text a → GoesTo text a found.next
+pub found-goes : {F : Type 0} (named : List ℕ → F) (text : List ℕ) (a : ℕ) (found : FoundOf F) → IsPlace text a → (a ≡ length text → ⊥)
+    → found ≡ piece_by named text a → GoesTo text a found.next
 found-goes named text a found place before e =
     subst (λ b. GoesTo text a b) (sym (ap (λ f. f.next) e)) (piece-goes named text a (closed place.1) (omega (arith, place.0, before)))
   where
@@ -91,7 +98,8 @@ found-goes named text a found place before e =
     closed (inl c) = c
     closed (inr end) = absurd (before end)
 
-pub found-pieces : {F : Type 0} (named : List ℕ → F) (text : List ℕ) (a : ℕ) (found : FoundOf F) → GoesTo text a found.next → found ≡ piece_by named text a → pieces_by named text a ≡ found ∷ pieces_by named text found.next
+pub found-pieces : {F : Type 0} (named : List ℕ → F) (text : List ℕ) (a : ℕ) (found : FoundOf F) → GoesTo text a found.next
+    → found ≡ piece_by named text a → pieces_by named text a ≡ found ∷ pieces_by named text found.next
 found-pieces named text a found goes e =
     pieces_by-step named text a found.next goes ∙ ap (λ f. f ∷ pieces_by named text found.next) (sym e)
 

@@ -1,5 +1,7 @@
 -- The first offset that passes a test, one offset at a time: the invariant of the search loops.
-use Rattle.script_lang.proofs.Prelude.{◌≡◌, ◌==◌, ℕ, nat_lt, zero, suc, ◌+◌, ◌-◌, ◌<◌, ◌≤◌, Bool, true, false, cond, ◌∷◌, [], List, Some, refl, ap, ◌∙◌, sym, inl, inr, arith, find, unwrap_or, range_with_len, cases_eq, cases_lt, cases_order, eq-eqb, le-ltb, lt-ltb, ne_eqb, true≢false, places, first_place}
+use Rattle.script_lang.proofs.Prelude.{◌≡◌, ◌==◌, ℕ, nat_lt, zero, suc, ◌+◌, ◌-◌, ◌<◌, ◌≤◌, Bool, true, false, cond, ◌∷◌, [], List, Some}
+use Rattle.script_lang.proofs.Prelude.{refl, ap, ◌∙◌, sym, inl, inr, arith, find, unwrap_or, range_with_len, cases_eq, cases_lt}
+use Rattle.script_lang.proofs.Prelude.{cases_order, eq-eqb, le-ltb, lt-ltb, ne_eqb, true≢false, places, first_place}
 
 pub places-first : (a b : ℕ) → a < b → places a b ≡ a ∷ places (a + 1) b
 places-first a b h =
@@ -35,7 +37,8 @@ pub record IsFirst (test : ℕ → Bool) (a b r : ℕ) : Type 0 where
   pub before : (k : ℕ) → a ≤ k → k < r → test k ≡ false
   pub here : r < b → test r ≡ true
 
-IsFirst-step : (test : ℕ → Bool) (a b : ℕ) (rest : List ℕ) (t : Bool) → test a ≡ t → a < b → IsFirst test (a + 1) b (unwrap_or (find test rest) b) → IsFirst test a b (unwrap_or (cond t (Some a) (find test rest)) b)
+IsFirst-step : (test : ℕ → Bool) (a b : ℕ) (rest : List ℕ) (t : Bool) → test a ≡ t → a < b
+    → IsFirst test (a + 1) b (unwrap_or (find test rest) b) → IsFirst test a b (unwrap_or (cond t (Some a) (find test rest)) b)
 IsFirst-step test a b rest true e lt later =
     record { low = omega arith; high = omega arith; before = λ k low high. absurd (omega arith); here = λ _. e }
 IsFirst-step test a b rest false e lt later =
@@ -82,7 +85,8 @@ history-prefix test a n b r s within some one other = elim (cases_eq r (n + 1)) 
 ]
 
 -- a prefix in which no offset passes is skipped
-pub first_place-behind : (test : ℕ → Bool) (a m b : ℕ) → a ≤ m → m ≤ b → ((k : ℕ) → a ≤ k → k < m → test k ≡ false) → first_place test m b ≡ first_place test a b
+pub first_place-behind : (test : ℕ → Bool) (a m b : ℕ) → a ≤ m → m ≤ b → ((k : ℕ) → a ≤ k → k < m → test k ≡ false) → first_place test m b
+    ≡ first_place test a b
 first_place-behind test a m b low high none =
     let rest = first_place-is test m b high in
     same-first test a b (first_place test m b) (first_place test a b)

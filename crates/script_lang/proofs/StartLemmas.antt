@@ -1,5 +1,9 @@
 -- Where the next piece starts, by the two kinds of piece.
-use Rattle.script_lang.proofs.Prelude.{◌≡◌, ℕ, ◌+◌, ◌-◌, ◌<◌, ◌≤◌, true, false, not, ◌||◌, ◌&&◌, List, length, min, nat_lt, eqb, ap, ◌∙◌, sym, inl, inr, ◌⊎◌, arith, slice_index, cases_lt, cases_eq, and_from, and_left, and_right, and_parts, or_from, or_left, or_right, ne_eqb, eqb-true, not_from_true, not_from_false, true≢false, lt-ltb, get_or_past, is_directive_mark, is_line_end, is_inside_directive, begins, ends, line_end, IsPlace, starts, run_end}
+use Rattle.script_lang.proofs.Prelude.{◌≡◌, ℕ, ◌+◌, ◌-◌, ◌<◌, ◌≤◌, true, false, not, ◌||◌, ◌&&◌, List, length, min, nat_lt, eqb, ap, ◌∙◌}
+use Rattle.script_lang.proofs.Prelude.{sym, inl, inr, ◌⊎◌, arith, slice_index, cases_lt, cases_eq, and_from, and_left, and_right, and_parts}
+use Rattle.script_lang.proofs.Prelude.{or_from, or_left, or_right, ne_eqb, eqb-true, not_from_true, not_from_false, true≢false, lt-ltb}
+use Rattle.script_lang.proofs.Prelude.{get_or_past, is_directive_mark, is_line_end, is_inside_directive, begins, ends, line_end, IsPlace}
+use Rattle.script_lang.proofs.Prelude.{starts, run_end}
 use Rattle.script_lang.proofs.PlaceLemmas.{IsFirst, first_place-is, same-first}
 use Rattle.script_lang.proofs.OpenLemmas.{open-by, closed-by, not-opens}
 
@@ -32,7 +36,8 @@ no-end-closed text q o = and_right (nat_lt 0 q && is_line_end text (q - 1)) (is_
 start-begin : (text : List ℕ) (q : ℕ) → is_directive_mark text q ≡ true → is_inside_directive text q ≡ false → starts text q ≡ true
 start-begin text q m o =
     or_left (eqb q 0 || begins text q) (ends text q)
-    (or_right (eqb q 0) (begins text q) (and_from (is_directive_mark text q) (not (is_inside_directive text q)) m (not_from_false (is_inside_directive text q) o)))
+    (or_right (eqb q 0) (begins text q) (and_from (is_directive_mark text q) (not (is_inside_directive text q)) m
+    (not_from_false (is_inside_directive text q) o)))
 
 start-end : (text : List ℕ) (q e : ℕ) → q ≡ e + 1 → is_line_end text e ≡ true → is_inside_directive text e ≡ true → starts text q ≡ true
 start-end text q e is l o =
@@ -62,7 +67,8 @@ mark-bytes text p m =
       second = ne_eqb (slice_index text (p + 1)) 10 (λ e. omega (arith, bang, e));
     }
 
-directive-goes-by : (text : List ℕ) (a e : ℕ) → is_directive_mark text a ≡ true → Mark text a → IsFirst (is_line_end text) (a + 2) (length text) e → GoesTo text a (min (e + 1) (length text))
+directive-goes-by : (text : List ℕ) (a e : ℕ) → is_directive_mark text a ≡ true → Mark text a → IsFirst (is_line_end text) (a + 2)
+    (length text) e → GoesTo text a (min (e + 1) (length text))
 directive-goes-by text a e m mark first =
     let low = first.low in
     let high = first.high in
@@ -104,14 +110,16 @@ directive-goes text a m =
     directive-goes-by text a (line_end text (a + 2)) m mark (first_place-is (is_line_end text) (a + 2) (length text) mark.inside)
 
 -- no directive opens if none is open and there is no `%!`
-still-closed : (text : List ℕ) (a b : ℕ) → a ≤ b → is_inside_directive text a ≡ false → ((k : ℕ) → a ≤ k → k < b → is_directive_mark text k ≡ false) → is_inside_directive text b ≡ false
+still-closed : (text : List ℕ) (a b : ℕ) → a ≤ b → is_inside_directive text a ≡ false
+    → ((k : ℕ) → a ≤ k → k < b → is_directive_mark text k ≡ false) → is_inside_directive text b ≡ false
 still-closed text a b le closed none = closed-by text b (λ q o.
     elim (cases_lt q a) [
       | inl earlier ↦ not-opens text a q closed (record { before = earlier; mark = o.mark; line = λ k low high. o.line k low (omega arith) })
       | inr later ↦ true≢false (sym o.mark ∙ none q later o.before)
     ])
 
-run-goes-by : (text : List ℕ) (a r : ℕ) → is_directive_mark text a ≡ false → is_inside_directive text a ≡ false → a < length text → IsFirst (is_directive_mark text) a (length text) r → GoesTo text a r
+run-goes-by : (text : List ℕ) (a r : ℕ) → is_directive_mark text a ≡ false → is_inside_directive text a ≡ false → a < length text
+    → IsFirst (is_directive_mark text) a (length text) r → GoesTo text a r
 run-goes-by text a r m closed lt first =
     let low = first.low in
     let high = first.high in
@@ -133,7 +141,8 @@ run-goes-by text a r m closed lt first =
     }
 
 -- a text run goes to the next `%!`, or to the text's end
-pub run-goes : (text : List ℕ) (a : ℕ) → is_directive_mark text a ≡ false → is_inside_directive text a ≡ false → a < length text → GoesTo text a (run_end text a)
+pub run-goes : (text : List ℕ) (a : ℕ) → is_directive_mark text a ≡ false → is_inside_directive text a ≡ false → a < length text
+    → GoesTo text a (run_end text a)
 run-goes text a m closed lt =
     run-goes-by text a (run_end text a) m closed lt (first_place-is (is_directive_mark text) a (length text) (omega arith))
 
@@ -148,7 +157,8 @@ run-same text a q le lt in_text =
     whole = first_place-is (is_directive_mark text) a (length text) in_text
 
 -- at any place of a run no directive begins, and none is open
-pub run-inside : (text : List ℕ) (a q : ℕ) → is_inside_directive text a ≡ false → a ≤ q → q < run_end text a → a ≤ length text → (is_directive_mark text q ≡ false) × (is_inside_directive text q ≡ false)
+pub run-inside : (text : List ℕ) (a q : ℕ) → is_inside_directive text a ≡ false → a ≤ q → q < run_end text a → a ≤ length text
+    → (is_directive_mark text q ≡ false) × (is_inside_directive text q ≡ false)
 run-inside text a q closed le lt in_text =
     let whole = first_place-is (is_directive_mark text) a (length text) in_text in
     (whole.before q le lt, still-closed text a q le closed (λ k from below. whole.before k from (omega arith)))

@@ -1,5 +1,8 @@
 -- A serial line decodes to bytes.
-use Rattle.serve_loop.proofs.Prelude.{All, ℕ, ◌<◌, List, [], ◌∷◌, ◌++◌, length, map, sym, subst, arith, eqb, nat_le, append_assoc, append-nil, All-append, All-cons, All-head, All-nil, All-tail, LARGEST_DATAGRAM, IsByte, Frame, Datagram, Overlong, frame_of, meant, open_part, unescaped, open_part-end, open_part-plain, parts-byte, both_ways, choose, BringsBytes, CarriesBytes, came_by, slip_medium}
+use Rattle.serve_loop.proofs.Prelude.{All, ℕ, ◌<◌, List, [], ◌∷◌, ◌++◌, length, map, sym, subst, arith, eqb, nat_le, append_assoc}
+use Rattle.serve_loop.proofs.Prelude.{append-nil, All-append, All-cons, All-head, All-nil, All-tail, LARGEST_DATAGRAM, IsByte, Frame}
+use Rattle.serve_loop.proofs.Prelude.{Datagram, Overlong, frame_of, meant, open_part, unescaped, open_part-end, open_part-plain, parts-byte}
+use Rattle.serve_loop.proofs.Prelude.{both_ways, choose, BringsBytes, CarriesBytes, came_by, slip_medium}
 
 meant_low : (b : ℕ) → b < 256 → meant b < 256
 meant_low b h = choose (λ x. x < 256) (eqb b 220) _ _ (λ e. omega arith) (λ e. choose (λ x. x < 256) (eqb b 221) _ _ (λ f. omega arith) (λ f. h))
@@ -17,7 +20,8 @@ unescaped_low (a ∷ b ∷ rest) h =
 pub open_low : (before : List ℕ) (b : ℕ) → b < 256 → All IsByte (open_part before) → All IsByte (open_part (before ++ b ∷ []))
 open_low before b low h = both_ways (eqb b 192)
     (λ e. subst (λ l. All IsByte l) (sym (open_part-end before b e)) (All-nil IsByte))
-    (λ e. subst (λ l. All IsByte l) (sym (open_part-plain before (b ∷ []) (parts-byte b e))) (All-append IsByte (open_part before) (b ∷ []) h (All-cons IsByte b [] low (All-nil IsByte))))
+    (λ e. subst (λ l. All IsByte l) (sym (open_part-plain before (b ∷ []) (parts-byte b e))) (All-append IsByte (open_part before) (b ∷ [])
+    h (All-cons IsByte b [] low (All-nil IsByte))))
 
 opened_later : (before bytes : List ℕ) → All IsByte (open_part before) → All IsByte bytes → All IsByte (open_part (before ++ bytes))
 opened_later before [] h a = subst (λ l. All IsByte (open_part l)) (sym (append-nil before)) h

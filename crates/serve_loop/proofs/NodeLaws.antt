@@ -1,5 +1,10 @@
 -- One call of the node, for a station that represents it.
-use Rattle.serve_loop.proofs.Prelude.{◌≡◌, ℕ, ◌≤◌, ◌<◌, ◌+◌, ◌-◌, Bool, List, [], ◌∷◌, ◌++◌, Option, Result, OnErr, OnOk, suc, zero, map, refl, sym, ap, ◌∙◌, subst, add-one, add-suc, add-zero, append-nil, append_assoc, arith, Appends, on_err_weaker, on_ok_weaker, Addr, AppSpec, Ghosts, appends_by, Appends-none, Node, Event, Reply, tick, Periodic, AbstractNode, step, IsSent, Represents, Steps, BreaksOff, PrefixWritten, StationEvent, OfMedium, OfNode, Station, AllWritten, station_after_all, station_after, output, reply_text, MediumSpec, all_written, IsHere, IsNode}
+use Rattle.serve_loop.proofs.Prelude.{◌≡◌, ℕ, ◌≤◌, ◌<◌, ◌+◌, ◌-◌, Bool, List, [], ◌∷◌, ◌++◌, Option, Result, OnErr, OnOk, suc, zero, map}
+use Rattle.serve_loop.proofs.Prelude.{refl, sym, ap, ◌∙◌, subst, add-one, add-suc, add-zero, append-nil, append_assoc, arith, Appends}
+use Rattle.serve_loop.proofs.Prelude.{on_err_weaker, on_ok_weaker, Addr, AppSpec, Ghosts, appends_by, Appends-none, Node, Event, Reply}
+use Rattle.serve_loop.proofs.Prelude.{tick, Periodic, AbstractNode, step, IsSent, Represents, Steps, BreaksOff, PrefixWritten, StationEvent}
+use Rattle.serve_loop.proofs.Prelude.{OfMedium, OfNode, Station, AllWritten, station_after_all, station_after, output, reply_text}
+use Rattle.serve_loop.proofs.Prelude.{MediumSpec, all_written, IsHere, IsNode}
 use Rattle.serve_loop.proofs.AddrLaws.{step-addr}
 use Rattle.serve_loop.proofs.RunLaws.{broke_by, broke_more, broke_one, broke_then, wrote_one}
 
@@ -14,7 +19,8 @@ module _ {A S : Type 0} (g : Ghosts A S) where
   node_on m own old new event n same s p =
       record { meant = ap (λ k. g.app_spec k) same ∙ p.meant; address = step-addr m g.served n event ∙ p.address; represented = s }
 
-  pub node_step : (m : AppSpec) (own : Addr) (old new : Node A S) (result : Option ℕ) (event : Event) (n : AbstractNode) → g.config new.shared ≡ g.config old.shared
+  pub node_step : (m : AppSpec) (own : Addr) (old new : Node A S) (result : Option ℕ) (event : Event) (n : AbstractNode)
+      → g.config new.shared ≡ g.config old.shared
       → Steps g new result (step (g.app_spec (g.config old.shared)) g.served n event) → At m own old n
       → At m own new (step m g.served n event).node × IsSent own (step m g.served n event).sent result new.packet
   node_step m own old new result event n same s p =
@@ -29,7 +35,8 @@ module _ {A S : Type 0} (g : Ghosts A S) where
     abbrev pub Here : (List C → Type 0) → AppSpec → Addr → Node A S → Station C → Type 0
     Here d m own node s = IsHere g d m own node s
 
-    pub call_wrote : (m : AppSpec) (own : Addr) (old new : Node A S) (result : Option ℕ) (event : Event) (a b : Option (List ℕ)) → g.config new.shared ≡ g.config old.shared
+    pub call_wrote : (m : AppSpec) (own : Addr) (old new : Node A S) (result : Option ℕ) (event : Event) (a b : Option (List ℕ))
+        → g.config new.shared ≡ g.config old.shared
         → ((n : AbstractNode) → At m own old n → Steps g new result (step (g.app_spec (g.config old.shared)) g.served n event))
         → ((acts : List C) → did acts → did' acts)
         → ((acts : List C) (own : Addr) (reply : Option Reply) → did acts → IsSent own reply result new.packet → Appends a b (reply_text w acts own reply))
@@ -39,7 +46,8 @@ module _ {A S : Type 0} (g : Ghosts A S) where
         (λ s p. let both = node_step m own old new result event s.node same (steps s.node p.represented) p.represented in
         (record { represented = both.0; acted = on s.acts p.acted }, wrote s.acts own (step m g.served s.node event).sent p.acted both.1))
 
-    pub call_broke : (m : AppSpec) (own : Addr) (old new : Node A S) (result : Option ℕ) (event : Event) (a b : Option (List ℕ)) → g.config new.shared ≡ g.config old.shared
+    pub call_broke : (m : AppSpec) (own : Addr) (old new : Node A S) (result : Option ℕ) (event : Event) (a b : Option (List ℕ))
+        → g.config new.shared ≡ g.config old.shared
         → ((n : AbstractNode) → At m own old n → Steps g new result (step (g.app_spec (g.config old.shared)) g.served n event))
         → ((acts : List C) → did acts → did' acts)
         → ((acts : List C) (own : Addr) (reply : Option Reply) → did acts → IsSent own reply result new.packet → BreaksOff [] (reply_text w acts own reply) a b)
@@ -50,16 +58,20 @@ module _ {A S : Type 0} (g : Ghosts A S) where
         (record { represented = both.0; acted = on s.acts p.acted }, wrote s.acts own (step m g.served s.node event).sent p.acted both.1))
 
   -- a call and the writing of what it sends, whose answer this is
-  module _ {T E Set C : Type 0} (r : Result T E) (spec : Set → MediumSpec C) (did did' : Set → List C → Type 0) (old new : Node A S) (result : Option ℕ) (event : Addr → Event) (a b : Option (List ℕ)) where
+  module _ {T E Set C : Type 0} (r : Result T E) (spec : Set → MediumSpec C) (did did' : Set → List C → Type 0) (old new : Node A S)
+      (result : Option ℕ) (event : Addr → Event) (a b : Option (List ℕ)) where
     abbrev Writes : (Option (List ℕ) → Option (List ℕ) → List ℕ → Type 0) → Type 0
-    Writes P = (k : Set) (acts : List C) (own : Addr) (reply : Option Reply) → did k acts → IsSent own reply result new.packet → P a b (reply_text (spec k) acts own reply)
+    Writes P = (k : Set) (acts : List C) (own : Addr) (reply : Option Reply) → did k acts → IsSent own reply result new.packet
+        → P a b (reply_text (spec k) acts own reply)
 
     pub call_reported : g.config new.shared ≡ g.config old.shared
         → ((m : AppSpec) (own : Addr) (n : AbstractNode) → At m own old n → Steps g new result (step (g.app_spec (g.config old.shared)) g.served n (event own)))
         → ((k : Set) (acts : List C) → did k acts → did' k acts)
         → OnOk r (Writes (λ a b text. Appends a b text)) → OnErr r (Writes (λ a b text. BreaksOff [] text a b))
-        → OnOk r ((k : Set) (m : AppSpec) (own : Addr) → AllWritten m g.served (spec k) own (OfNode (event own) ∷ []) (λ s. IsHere g (did k) m own old s) (λ s. IsHere g (did' k) m own new s) a b)
-        × OnErr r ((k : Set) (m : AppSpec) (own : Addr) → PrefixWritten m g.served (spec k) own (OfNode (event own) ∷ []) (λ s. IsHere g (did k) m own old s) (λ s. IsHere g (did' k) m own new s) a b)
+        → OnOk r ((k : Set) (m : AppSpec) (own : Addr) → AllWritten m g.served (spec k) own (OfNode (event own) ∷ [])
+        (λ s. IsHere g (did k) m own old s) (λ s. IsHere g (did' k) m own new s) a b)
+        × OnErr r ((k : Set) (m : AppSpec) (own : Addr) → PrefixWritten m g.served (spec k) own (OfNode (event own) ∷ [])
+        (λ s. IsHere g (did k) m own old s) (λ s. IsHere g (did' k) m own new s) a b)
     call_reported same steps on ok err = (
       on_ok_weaker r (λ wrote k m own. call_wrote (spec k) (did k) (did' k) m own old new result (event own) a b same (steps m own) (on k) (wrote k)) ok,
       on_err_weaker r (λ wrote k m own. call_broke (spec k) (did k) (did' k) m own old new result (event own) a b same (steps m own) (on k) (wrote k)) err,
@@ -103,7 +115,8 @@ calls_from {C = C} zero k = ([], ap (λ i. calls {C = C} i) (add-zero k) ∙ sym
 calls_from {C = C} (suc j) k =
     let more = calls_from {C = C} j k in (
       more.0 ++ OfNode (Periodic (k + j)) ∷ [],
-      ap (λ i. calls {C = C} i) (add-suc k j) ∙ ap (λ l. l ++ OfNode (Periodic (k + j)) ∷ []) more.1 ∙ append_assoc (calls {C = C} k) more.0 (OfNode (Periodic (k + j)) ∷ []),
+      ap (λ i. calls {C = C} i) (add-suc k j) ∙ ap (λ l. l ++ OfNode (Periodic (k + j)) ∷ []) more.1 ∙ append_assoc (calls {C = C} k) more.0
+          (OfNode (Periodic (k + j)) ∷ []),
     )
 
 -- the calls of a tick after the first
@@ -118,7 +131,8 @@ pub calls_after : {C : Type 0} (prefix : List (StationEvent C)) (k : ℕ) → pr
 calls_after {C} prefix k = ap (λ l. prefix ++ l) (calls-next {C = C} k) ∙ sym (append_assoc prefix (calls k) (OfNode (Periodic k) ∷ []))
 
 -- a tick in which the call of a slot broke off, after others
-pub slots_broke : {Set C : Type 0} (served : ℕ → Bool) (spec : Set → MediumSpec C) (prefix : Set → List (StationEvent C)) (P Q R : Set → AppSpec → Addr → Station C → Type 0) (a b c : Option (List ℕ)) (slot : ℕ) → slot < 10
+pub slots_broke : {Set C : Type 0} (served : ℕ → Bool) (spec : Set → MediumSpec C) (prefix : Set → List (StationEvent C)) (P Q R : Set
+    → AppSpec → Addr → Station C → Type 0) (a b c : Option (List ℕ)) (slot : ℕ) → slot < 10
     → ((k : Set) (m : AppSpec) (own : Addr) → AllWritten m served (spec k) own (prefix k ++ calls slot) (P k m own) (Q k m own) a b)
     → ((k : Set) (m : AppSpec) (own : Addr) → PrefixWritten m served (spec k) own (OfNode (Periodic slot) ∷ []) (Q k m own) (R k m own) b c)
     → (k : Set) (m : AppSpec) (own : Addr) → PrefixWritten m served (spec k) own (prefix k ++ map OfNode tick) (P k m own) (R k m own) a c

@@ -1,12 +1,17 @@
 -- The turns of a serving, put together.
-use Rattle.serve_loop.proofs.Prelude.{refl, sym, ◌≡◌, ℕ, ◌+◌, ◌<◌, ◌≤◌, Bool, List, [], ◌++◌, Option, Some, length, arith, All, All-append, Addr, AppSpec, Ghosts, Item, ServeEnd, Consumes, bytes_among, Ended, Consumes-then, taken_within, ends_by, Node, Pacer, IsItem, station_events_after, station_events_of_line, StationEvent, Station, AllWritten, MediumSpec, IsStationed, WrittenAtEnd, ServesOver, IsHere, Turns, IsCalm, LineView, LineUnfailed, EndsBy}
+use Rattle.serve_loop.proofs.Prelude.{refl, sym, ◌≡◌, ℕ, ◌+◌, ◌<◌, ◌≤◌, Bool, List, [], ◌++◌, Option, Some, length, arith, All, All-append}
+use Rattle.serve_loop.proofs.Prelude.{Addr, AppSpec, Ghosts, Item, ServeEnd, Consumes, bytes_among, Ended, Consumes-then, taken_within}
+use Rattle.serve_loop.proofs.Prelude.{ends_by, Node, Pacer, IsItem, station_events_after, station_events_of_line, StationEvent, Station}
+use Rattle.serve_loop.proofs.Prelude.{AllWritten, MediumSpec, IsStationed, WrittenAtEnd, ServesOver, IsHere, Turns, IsCalm, LineView}
+use Rattle.serve_loop.proofs.Prelude.{LineUnfailed, EndsBy}
 use Rattle.uip_edge.specs.declared.serve_end.ServeEnd.TheVariants as ends
 use Rattle.line_medium.specs.declared.medium.Medium.{Ghosts as MediumGhosts}
 use Rattle.serve_loop.proofs.EventLaws.{events-then}
 use Rattle.serve_loop.proofs.RunLaws.{broke_by, broke_then, wrote_by, wrote_then}
 
 -- what was written up to such an end
-written_by : {C : Type 0} (m : AppSpec) (served : ℕ → Bool) (w : MediumSpec C) (own : Addr) (xs ys zs : List (StationEvent C)) (P Q R : Station C → Type 0) (a b c : Option (List ℕ)) (end : ServeEnd)
+written_by : {C : Type 0} (m : AppSpec) (served : ℕ → Bool) (w : MediumSpec C) (own : Addr) (xs ys zs : List (StationEvent C))
+    (P Q R : Station C → Type 0) (a b c : Option (List ℕ)) (end : ServeEnd)
     → zs ≡ xs ++ ys → AllWritten m served w own xs P Q a b → WrittenAtEnd end m served w own ys Q R b c → WrittenAtEnd end m served w own zs P R a c
 written_by m served w own xs ys zs P Q R a b c ends.End e u v = wrote_by m served w own _ _ _ _ _ _ e (wrote_then m served w own xs ys P Q R a b c u v)
 written_by m served w own xs ys zs P Q R a b c ends.LinkFault e u v = wrote_by m served w own _ _ _ _ _ _ e (wrote_then m served w own xs ys P Q R a b c u v)
@@ -34,12 +39,17 @@ module _ {A S : Type 0} (g : Ghosts A S) {C : Type 0} (w : MediumSpec C) where
   leaves did m own node s p = record { represented = p.represented.represented; acted = p.acted }
 
   all_public : (did did' : List C → Type 0) (station_events : List (StationEvent C)) (before after : Node A S) (a b : Option (List ℕ))
-      → AllWritten (g.app_spec (g.config before.shared)) g.served w before.addr station_events (At did (g.app_spec (g.config before.shared)) before.addr before) (At did' (g.app_spec (g.config before.shared)) before.addr after) a b
+      → AllWritten (g.app_spec (g.config before.shared)) g.served w before.addr station_events (At did (g.app_spec (g.config before.shared))
+      before.addr before) (At did' (g.app_spec (g.config before.shared)) before.addr after) a b
       → AllWritten (g.app_spec (g.config before.shared)) g.served w before.addr station_events (IsStationed g did before) (IsStationed g did' after) a b
-  all_public did did' station_events before after a b v = record { each = λ s p. let it = v.each s (enters did before s p) in (leaves did' _ _ after _ it.0, it.1) }
+  all_public did did' station_events before after a b v = record {
+    each = λ s p. let it = v.each s (enters did before s p) in
+        (leaves did' _ _ after _ it.0, it.1);
+  }
 
   public_wrote : (did did' : List C → Type 0) (end : ServeEnd) (station_events : List (StationEvent C)) (before after : Node A S) (a b : Option (List ℕ))
-      → WrittenAtEnd end (g.app_spec (g.config before.shared)) g.served w before.addr station_events (At did (g.app_spec (g.config before.shared)) before.addr before) (At did' (g.app_spec (g.config before.shared)) before.addr after) a b
+      → WrittenAtEnd end (g.app_spec (g.config before.shared)) g.served w before.addr station_events
+      (At did (g.app_spec (g.config before.shared)) before.addr before) (At did' (g.app_spec (g.config before.shared)) before.addr after) a b
       → WrittenAtEnd end (g.app_spec (g.config before.shared)) g.served w before.addr station_events (IsStationed g did before) (IsStationed g did' after) a b
   public_wrote did did' ends.End station_events before after a b v = all_public did did' station_events before after a b v
   public_wrote did did' ends.Budget station_events before after a b v = all_public did did' station_events before after a b v
@@ -53,16 +63,20 @@ module _ {A S : Type 0} (g : Ghosts A S) {C : Type 0} (w : MediumSpec C) where
   -- the output continues with a turn
   pub on_wrote : (did did1 did2 : List C → Type 0) (pace : ℕ) (taken items : List Item) (start node node' : Node A S) (a b c : Option (List ℕ))
       → ((m : AppSpec) (own : Addr) → AllWritten m g.served w own (station_events_of_line w own pace taken) (At did m own start) (At did1 m own node) a b)
-      → ((m : AppSpec) (own : Addr) → AllWritten m g.served w own (station_events_after w own pace (bytes_among taken) items) (At did1 m own node) (At did2 m own node') b c)
-      → (m : AppSpec) (own : Addr) → AllWritten m g.served w own (station_events_of_line w own pace (taken ++ items)) (At did m own start) (At did2 m own node') a c
+      → ((m : AppSpec) (own : Addr) → AllWritten m g.served w own (station_events_after w own pace (bytes_among taken) items)
+      (At did1 m own node) (At did2 m own node') b c)
+      → (m : AppSpec) (own : Addr) → AllWritten m g.served w own (station_events_of_line w own pace (taken ++ items)) (At did m own start)
+      (At did2 m own node') a c
   on_wrote did did1 did2 pace taken items start node node' a b c v t m own =
       wrote_by m g.served w own _ _ _ _ _ _ (events-then w own pace [] taken items)
-      (wrote_then m g.served w own (station_events_of_line w own pace taken) (station_events_after w own pace (bytes_among taken) items) _ (At did1 m own node) _ _ b _ (v m own) (t m own))
+      (wrote_then m g.served w own (station_events_of_line w own pace taken) (station_events_after w own pace (bytes_among taken) items) _
+      (At did1 m own node) _ _ b _ (v m own) (t m own))
 
   -- a serving that took all that it might
   pub spent : (did did1 : List C → Type 0) (pace n : ℕ) (taken : List Item) (start node : Node A S) (old new : LineView)
       → All IsItem taken → Consumes old.link.coming new.link.coming taken → length taken ≡ n → IsCalm old new
-      → ((m : AppSpec) (own : Addr) → AllWritten m g.served w own (station_events_of_line w own pace taken) (At did m own start) (At did1 m own node) old.sink.written new.sink.written)
+      → ((m : AppSpec) (own : Addr) → AllWritten m g.served w own (station_events_of_line w own pace taken) (At did m own start)
+      (At did1 m own node) old.sink.written new.sink.written)
       → ServesOver g w did did1 pace n start node old new ends.Budget
   spent did did1 pace n taken start node old new is c all calm v = record {
     taken = taken;
@@ -82,7 +96,8 @@ module _ {A S M : Type 0} (g : Ghosts A S) (h : MediumGhosts M) (k : h.Config) (
 
   pub stopped : (pace n : ℕ) (taken : List Item) (start node node' : Node A S) (old mid new : LineView) (pacer : Pacer) (room : ℕ) (end : ServeEnd)
       → All IsItem taken → Consumes old.link.coming mid.link.coming taken → length taken < n → room + length taken ≤ n → IsCalm old mid
-      → ((m : AppSpec) (own : Addr) → AllWritten m g.served w own (station_events_of_line w own pace taken) (Here medium0 m own start) (Here medium m own node) old.sink.written mid.sink.written)
+      → ((m : AppSpec) (own : Addr) → AllWritten m g.served w own (station_events_of_line w own pace taken) (Here medium0 m own start)
+      (Here medium m own node) old.sink.written mid.sink.written)
       → Turns g h k pace (bytes_among taken) medium medium' node node' mid new pacer room (Ended end)
       → ServesOver g w (h.did medium0 k) (h.did medium' k) pace n start node' old new end
   stopped pace n taken start node node' old mid new pacer room end is c below fits calm v t =

@@ -1,7 +1,12 @@
 -- An entry without fault is the entry that was written, and what was written is read back; and so for entries in turn.
-use Rattle.site_image.proofs.Prelude.{◌≡◌, ℕ, zero, suc, ◌+◌, ◌^◌, ◌<◌, Bool, true, false, cond, List, [], ◌∷◌, ◌++◌, length, Option, Some, None, Result, Ok, refl, sym, ap, subst, ◌∙◌, append_assoc, flat_map, option_or, append-nil, SiteWhy, Twice, SiteError, Version, One, Two, File, has_name, short_text, long_text, entry, IsFile, text, after_text, content, after_content, long_length, byte_length, name_fault, kind_fault, content_fault, unless, entry_fault, entry_file, after_entry, entries}
+use Rattle.site_image.proofs.Prelude.{◌≡◌, ℕ, zero, suc, ◌+◌, ◌^◌, ◌<◌, Bool, true, false, cond, List, [], ◌∷◌, ◌++◌, length, Option, Some}
+use Rattle.site_image.proofs.Prelude.{None, Result, Ok, refl, sym, ap, subst, ◌∙◌, append_assoc, flat_map, option_or, append-nil, SiteWhy}
+use Rattle.site_image.proofs.Prelude.{Twice, SiteError, Version, One, Two, File, has_name, short_text, long_text, entry, IsFile, text}
+use Rattle.site_image.proofs.Prelude.{after_text, content, after_content, long_length, byte_length, name_fault, kind_fault, content_fault}
+use Rattle.site_image.proofs.Prelude.{unless, entry_fault, entry_file, after_entry, entries}
 use Rattle.site_image.proofs.Rows.{no-else, else-none, twice}
-use Rattle.site_image.proofs.PartLaws.{IsBytes, IsBytes-drop, name-parts, kind-parts, content-parts, name-again, kind-again, content-again, short-text, short-after, long-content, long-after}
+use Rattle.site_image.proofs.PartLaws.{IsBytes, IsBytes-drop, name-parts, kind-parts, content-parts, name-again, kind-again, content-again}
+use Rattle.site_image.proofs.PartLaws.{short-text, short-after, long-content, long-after}
 
 -- what is read of an entry without fault
 pub record Reads (version : Version) (earlier : List File) (bytes : List ℕ) (file : File) (rest : List ℕ) : Type 0 where
@@ -47,7 +52,8 @@ entry-reads Two earlier bytes fits none =
     let rest = after_content last in
     record {
       parts = name.0
-          ∙ ap (λ x. short_text (text bytes) ++ x) (kind.0 ∙ ap (λ x. short_text (text tail) ++ x) body ∙ sym (append_assoc (short_text (text tail)) (long_text (content last)) rest))
+          ∙ ap (λ x. short_text (text bytes) ++ x) (kind.0 ∙ ap (λ x. short_text (text tail) ++ x) body
+          ∙ sym (append_assoc (short_text (text tail)) (long_text (content last)) rest))
           ∙ sym (append_assoc (short_text (text bytes)) (short_text (text tail) ++ long_text (content last)) rest);
       file_is = record { name = name.1; kind = kind.1 };
       fresh = not-twice (has_name earlier (text bytes)) two.0;
@@ -64,7 +70,8 @@ pub record ReadsAgain (version : Version) (earlier : List File) (file : File) (r
   pub file_is : entry_file version (entry version file ++ rest) ≡ file
   pub rest_is : after_entry version (entry version file ++ rest) ≡ rest
 
-pub entry-again : (version : Version) (earlier : List File) (file : File) (rest : List ℕ) → IsFile version file → has_name earlier file.name ≡ false → length file.content < 2 ^ 32
+pub entry-again : (version : Version) (earlier : List File) (file : File) (rest : List ℕ) → IsFile version file → has_name earlier file.name
+    ≡ false → length file.content < 2 ^ 32
     → ReadsAgain version earlier file rest
 entry-again One earlier file rest is fresh lt =
     let name = file.name in
@@ -79,7 +86,8 @@ entry-again One earlier file rest is fresh lt =
           (else-none (twice earlier bytes) (content_fault (after_text bytes))
           (fresh-twice (has_name earlier (text bytes)) (ap (has_name earlier) text_is ∙ fresh))
           (ap content_fault after_is ∙ content-again file.content rest lt));
-      file_is = ap (entry_file One) joined ∙ same-file file (text bytes) [] (content (after_text bytes)) text_is (sym is.kind) (ap content after_is ∙ long-content file.content rest lt);
+      file_is = ap (entry_file One) joined ∙ same-file file (text bytes) [] (content (after_text bytes)) text_is (sym is.kind)
+          (ap content after_is ∙ long-content file.content rest lt);
       rest_is = ap (after_entry One) joined ∙ ap after_content after_is ∙ long-after file.content rest lt;
     }
 entry-again Two earlier file rest is fresh lt =
@@ -97,14 +105,16 @@ entry-again Two earlier file rest is fresh lt =
     let body_is : after_text (after_text bytes) ≡ body = ap after_text tail_is ∙ short-after kind body in
     record {
       none = ap (entry_fault Two earlier) joined
-          ∙ else-none (name_fault bytes) (option_or (twice earlier bytes) (option_or (kind_fault Two (after_text bytes)) (content_fault (after_text (after_text bytes))))) (name-again name tail is.name)
+          ∙ else-none (name_fault bytes) (option_or (twice earlier bytes) (option_or (kind_fault Two (after_text bytes))
+          (content_fault (after_text (after_text bytes))))) (name-again name tail is.name)
           (else-none (twice earlier bytes) (option_or (kind_fault Two (after_text bytes)) (content_fault (after_text (after_text bytes))))
           (fresh-twice (has_name earlier (text bytes)) (ap (has_name earlier) text_is ∙ fresh))
           (else-none (kind_fault Two (after_text bytes)) (content_fault (after_text (after_text bytes)))
           (ap (kind_fault Two) tail_is ∙ kind-again kind body is.kind)
           (ap content_fault body_is ∙ content-again file.content rest lt)));
       file_is = ap (entry_file Two) joined
-          ∙ same-file file (text bytes) (text (after_text bytes)) (content (after_text (after_text bytes))) text_is kind_is (ap content body_is ∙ long-content file.content rest lt);
+          ∙ same-file file (text bytes) (text (after_text bytes)) (content (after_text (after_text bytes))) text_is kind_is
+          (ap content body_is ∙ long-content file.content rest lt);
       rest_is = ap (after_entry Two) joined ∙ ap after_content body_is ∙ long-after file.content rest lt;
     }
 
@@ -139,7 +149,8 @@ unless-none (Some why) i next e = absurd cc
 ok_is : {T : Type 0} (x y : T) → ◌≡◌ {A = Result T SiteError} (Ok x) (Ok y) → x ≡ y
 ok_is x y e = cc
 
-pub entries-read : (version : Version) (n : ℕ) (earlier : List File) (bytes : List ℕ) (read : List File × List ℕ) → IsBytes bytes → entries version n earlier bytes ≡ Ok read
+pub entries-read : (version : Version) (n : ℕ) (earlier : List File) (bytes : List ℕ) (read : List File × List ℕ) → IsBytes bytes
+    → entries version n earlier bytes ≡ Ok read
     → ReadsAll version n earlier bytes read
 unfolding entries
 entries-read version zero earlier bytes read fits e =
@@ -156,7 +167,8 @@ entries-read version (suc n) earlier bytes read fits e =
       more = file ∷ others.more;
       files = others.files ∙ append_assoc earlier (file ∷ []) others.more;
       count = ap suc others.count;
-      parts = first.parts ∙ ap (λ x. entry version file ++ x) others.parts ∙ sym (append_assoc (entry version file) (flat_map (entry version) others.more) read.1);
+      parts = first.parts ∙ ap (λ x. entry version file ++ x) others.parts
+          ∙ sym (append_assoc (entry version file) (flat_map (entry version) others.more) read.1);
       fresh = (first.file_is, first.fresh, others.fresh);
     }
 
@@ -166,11 +178,13 @@ unfolding entries
 entries-again version [] earlier rest fresh short = ap (λ x. Ok (x, rest)) (sym (append-nil earlier))
 entries-again version (file ∷ files) earlier rest fresh short =
     let tail = flat_map (entry version) files ++ rest in
-    let joined : flat_map (entry version) (file ∷ files) ++ rest ≡ entry version file ++ tail = append_assoc (entry version file) (flat_map (entry version) files) rest in
+    let joined : flat_map (entry version) (file ∷ files) ++ rest ≡ entry version file ++ tail = append_assoc (entry version file)
+    (flat_map (entry version) files) rest in
     let again = entry-again version earlier file tail fresh.0 fresh.1 short.0 in
     let bytes = entry version file ++ tail in
     ap (entries version (suc (length files)) earlier) joined
-    ∙ unless-none (entry_fault version earlier bytes) (length earlier + 1) (entries version (length files) (earlier ++ entry_file version bytes ∷ []) (after_entry version bytes)) again.none
+    ∙ unless-none (entry_fault version earlier bytes) (length earlier + 1)
+    (entries version (length files) (earlier ++ entry_file version bytes ∷ []) (after_entry version bytes)) again.none
     ∙ ap (λ f. entries version (length files) (earlier ++ f ∷ []) (after_entry version bytes)) again.file_is
     ∙ ap (entries version (length files) (earlier ++ file ∷ [])) again.rest_is
     ∙ entries-again version files (earlier ++ file ∷ []) rest fresh.2 short.1

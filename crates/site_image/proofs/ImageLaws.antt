@@ -1,5 +1,13 @@
 -- The two laws of the grammar: what is read of an image without fault is what its bytes spell, and what is spelled is read.
-use Rattle.site_image.proofs.Prelude.{◌≡◌, ℕ, zero, suc, ◌+◌, ◌^◌, ◌<◌, ◌≤◌, Bool, true, false, cond, ltb, List, [], ◌∷◌, ◌++◌, length, take, drop, Option, Some, None, Result, Ok, Err, refl, sym, ap, subst, ◌∙◌, append_assoc, arith, inl, inr, ⊤, nat_eq, flat_map, slice_get, starts_with, bytes_eq, w16, w32, from_be_bytes, to_be_bytes, ltb-false, le-ltb, true≢false, false_from_ne_true, or_cases, or_left, or_right, append-nil, length-append, length-drop, length-take-le, take-append-drop, take_at, drop_at, drop-drop, nil_from_length, be_bytes_2, from_be_bytes-to_be_bytes_2, bytes_eq-Decides, LONGEST_IMAGE, MOST_FILES, SiteWhy, TooLong, Magic, Cut, TooMany, Rest, SiteError, Version, One, Two, File, has_name, script_fault, magic, entry, image, short_text, long_text, IsFile, IsImage, unless, fault, ◌>>=◌, refuse, version_of, file_count, image_head, entries, scripts, read_image}
+use Rattle.site_image.proofs.Prelude.{◌≡◌, ℕ, zero, suc, ◌+◌, ◌^◌, ◌<◌, ◌≤◌, Bool, true, false, cond, ltb, List, [], ◌∷◌, ◌++◌, length}
+use Rattle.site_image.proofs.Prelude.{take, drop, Option, Some, None, Result, Ok, Err, refl, sym, ap, subst, ◌∙◌, append_assoc, arith, inl}
+use Rattle.site_image.proofs.Prelude.{inr, ⊤, nat_eq, flat_map, slice_get, starts_with, bytes_eq, w16, w32, from_be_bytes, to_be_bytes}
+use Rattle.site_image.proofs.Prelude.{ltb-false, le-ltb, true≢false, false_from_ne_true, or_cases, or_left, or_right, append-nil}
+use Rattle.site_image.proofs.Prelude.{length-append, length-drop, length-take-le, take-append-drop, take_at, drop_at, drop-drop}
+use Rattle.site_image.proofs.Prelude.{nil_from_length, be_bytes_2, from_be_bytes-to_be_bytes_2, bytes_eq-Decides, LONGEST_IMAGE, MOST_FILES}
+use Rattle.site_image.proofs.Prelude.{SiteWhy, TooLong, Magic, Cut, TooMany, Rest, SiteError, Version, One, Two, File, has_name}
+use Rattle.site_image.proofs.Prelude.{script_fault, magic, entry, image, short_text, long_text, IsFile, IsImage, unless, fault, ◌>>=◌}
+use Rattle.site_image.proofs.Prelude.{refuse, version_of, file_count, image_head, entries, scripts, read_image}
 use Rattle.site_image.proofs.PartLaws.{IsBytes, IsBytes-drop, IsBytes-take}
 use Rattle.site_image.proofs.EntryLaws.{AreFresh, AreShort, entries-read, entries-again, unless-none}
 
@@ -179,9 +187,11 @@ fresh-distinct : (version : Version) (files earlier : List File) → AreFresh ve
 fresh-distinct version [] earlier fresh j k one other p q e = absurd cc
 fresh-distinct version (f ∷ files) earlier fresh zero zero one other p q e = refl
 fresh-distinct version (f ∷ files) earlier fresh zero (suc k) one other p q e =
-    absurd (fresh-apart version files (earlier ++ f ∷ []) fresh.2 (length earlier) k f other (get-middle earlier [] f) q (ap (λ (g : File). g.name) (some_is f one p) ∙ e))
+    absurd (fresh-apart version files (earlier ++ f ∷ []) fresh.2 (length earlier) k f other (get-middle earlier [] f) q
+    (ap (λ (g : File). g.name) (some_is f one p) ∙ e))
 fresh-distinct version (f ∷ files) earlier fresh (suc j) zero one other p q e =
-    absurd (fresh-apart version files (earlier ++ f ∷ []) fresh.2 (length earlier) j f one (get-middle earlier [] f) p (ap (λ (g : File). g.name) (some_is f other q) ∙ sym e))
+    absurd (fresh-apart version files (earlier ++ f ∷ []) fresh.2 (length earlier) j f one (get-middle earlier [] f) p
+    (ap (λ (g : File). g.name) (some_is f other q) ∙ sym e))
 fresh-distinct version (f ∷ files) earlier fresh (suc j) (suc k) one other p q e =
     ap suc (fresh-distinct version files (earlier ++ f ∷ []) fresh.2 j k one other p q e)
 
@@ -191,7 +201,8 @@ fresh-from version (f ∷ files) earlier each distinct = (
   each 0 f refl,
   false_from_ne_true (has_name earlier f.name) (λ t.
       let found = name-of-has earlier f.name t in
-      let same = distinct found.0 (length earlier) found.1 f (get-append-left earlier (f ∷ files) found.0 found.1 found.2) (get-middle earlier files f) found.3 in
+      let same = distinct found.0 (length earlier) found.1 f (get-append-left earlier (f ∷ files) found.0 found.1 found.2)
+      (get-middle earlier files f) found.3 in
       let below = get-within earlier found.0 found.1 found.2 in
       omega arith),
   fresh-from version files (earlier ++ f ∷ []) (λ k file s. each (suc k) file s) (subst HasDistinctNames (sym (append_assoc earlier (f ∷ []) files)) distinct),
@@ -224,7 +235,8 @@ parts-below limit a b c d p e lt = (omega arith, omega arith)
 short-from : (version : Version) (files : List File) → length (flat_map (entry version) files) < 2 ^ 32 → AreShort files
 short-from version [] lt = tt
 short-from version (file ∷ files) lt =
-    let both = parts-below (2 ^ 32) (length file.content) (length (entry version file)) (length (flat_map (entry version) files)) (length (flat_map (entry version) (file ∷ files)))
+    let both = parts-below (2 ^ 32) (length file.content) (length (entry version file)) (length (flat_map (entry version) files))
+    (length (flat_map (entry version) (file ∷ files)))
     (content-in version file) (length-append (entry version file) (flat_map (entry version) files)) lt in
     (both.0, short-from version files both.1)
 
@@ -313,7 +325,8 @@ drop-head v n rest =
     ∙ drop_at (magic v ++ to_be_bytes w16 n) rest 10 (length-append (magic v) (to_be_bytes w16 n) ∙ ap (λ k. k + 2) (magic-length v))
 
 -- the image of files with fresh names and sound scripts is read as these files
-pub fresh-again : (v : Version) (files : List File) → AreFresh v [] files → length files ≤ MOST_FILES → length (image v files) ≤ LONGEST_IMAGE → AreSound files files
+pub fresh-again : (v : Version) (files : List File) → AreFresh v [] files → length files ≤ MOST_FILES
+    → length (image v files) ≤ LONGEST_IMAGE → AreSound files files
     → read_image (image v files) ≡ Ok files
 unfolding after_head after_entries after_rest
 fresh-again v files fresh few size sound =

@@ -1,5 +1,12 @@
 -- A part that has no fault is the part that was written, and what was written is read back.
-use Rattle.site_image.proofs.Prelude.{◌≡◌, ◌≢◌, ℕ, ◌+◌, ◌^◌, ◌<◌, ◌≤◌, not, ◌||◌, eqb, ltb, leb, ◌&&◌, List, [], ◌∷◌, ◌++◌, length, get_or, take, drop, None, refl, sym, ap, ◌∙◌, append_assoc, add-one, arith, inl, inr, IsTrue, list_all, w32, from_be_bytes, to_be_bytes, cases_lt, ltb-false, le-ltb, eqb-false, ne_eqb, or_from, not-false, not_from_true, and_parts, leb-true, take_at, drop_at, take-append-drop, length-append, length-take, length-drop, length-take-le, get_or-drop, get_or-take, get_or_past, drop-drop, be_bytes_4, from_be_bytes-to_be_bytes_4, LONGEST_NAME, LONGEST_KIND, Cut, Name, Kind, Two, is_name, is_kind, is_name_byte, is_kind_byte, short_text, long_text, byte_length, text, after_text, long_length, content, after_content, name_fault, kind_fault, content_fault}
+use Rattle.site_image.proofs.Prelude.{◌≡◌, ◌≢◌, ℕ, ◌+◌, ◌^◌, ◌<◌, ◌≤◌, not, ◌||◌, eqb, ltb, leb, ◌&&◌, List, [], ◌∷◌, ◌++◌, length, get_or}
+use Rattle.site_image.proofs.Prelude.{take, drop, None, refl, sym, ap, ◌∙◌, append_assoc, add-one, arith, inl, inr, IsTrue, list_all, w32}
+use Rattle.site_image.proofs.Prelude.{from_be_bytes, to_be_bytes, cases_lt, ltb-false, le-ltb, eqb-false, ne_eqb, or_from, not-false}
+use Rattle.site_image.proofs.Prelude.{not_from_true, and_parts, leb-true, take_at, drop_at, take-append-drop, length-append, length-take}
+use Rattle.site_image.proofs.Prelude.{length-drop, length-take-le, get_or-drop, get_or-take, get_or_past, drop-drop, be_bytes_4}
+use Rattle.site_image.proofs.Prelude.{from_be_bytes-to_be_bytes_4, LONGEST_NAME, LONGEST_KIND, Cut, Name, Kind, Two, is_name, is_kind}
+use Rattle.site_image.proofs.Prelude.{is_name_byte, is_kind_byte, short_text, long_text, byte_length, text, after_text, long_length}
+use Rattle.site_image.proofs.Prelude.{content, after_content, name_fault, kind_fault, content_fault}
 use Rattle.site_image.proofs.Rows.{four-rows, two-rows, four-none, two-none}
 
 abbrev pub IsBytes : List ℕ → Type 0
@@ -35,7 +42,8 @@ pub short-length : (t rest : List ℕ) → length (short_text t ++ rest) ≡ len
 short-length t rest = omega (arith, length-append t rest)
 
 -- a content after its length
-long-parts-by : (bytes : List ℕ) (n : ℕ) → IsBytes bytes → n ≡ long_length bytes → n + 4 ≤ length bytes → bytes ≡ long_text (take n (drop 4 bytes)) ++ drop (n + 4) bytes
+long-parts-by : (bytes : List ℕ) (n : ℕ) → IsBytes bytes → n ≡ long_length bytes → n + 4 ≤ length bytes
+    → bytes ≡ long_text (take n (drop 4 bytes)) ++ drop (n + 4) bytes
 long-parts-by bytes n fits is within =
     let rest = drop 4 bytes in
     let len : length (take n rest) ≡ n = length-take-le n rest (omega (arith, length-drop 4 bytes)) in
@@ -79,12 +87,14 @@ long-size c rest = omega (arith, length-append (long_text c) rest, length-append
 -- a part without fault is the part that was written
 pub name-parts : (bytes : List ℕ) → name_fault bytes ≡ None → (bytes ≡ short_text (text bytes) ++ after_text bytes) × IsTrue (is_name (text bytes))
 name-parts bytes none =
-    let rows = four-rows (eqb (length bytes) 0) (eqb (byte_length bytes) 0 || ltb LONGEST_NAME (byte_length bytes)) (ltb (length bytes) (byte_length bytes + 1)) (not (is_name (text bytes))) Cut Name Cut Name none in
+    let rows = four-rows (eqb (length bytes) 0) (eqb (byte_length bytes) 0 || ltb LONGEST_NAME (byte_length bytes))
+    (ltb (length bytes) (byte_length bytes + 1)) (not (is_name (text bytes))) Cut Name Cut Name none in
     (short-parts bytes (eqb-false (length bytes) 0 rows.0) (ltb-false (length bytes) (byte_length bytes + 1) rows.2), not-false (is_name (text bytes)) rows.3)
 
 pub kind-parts : (bytes : List ℕ) → kind_fault Two bytes ≡ None → (bytes ≡ short_text (text bytes) ++ after_text bytes) × IsTrue (is_kind (text bytes))
 kind-parts bytes none =
-    let rows = four-rows (eqb (length bytes) 0) (ltb LONGEST_KIND (byte_length bytes)) (ltb (length bytes) (byte_length bytes + 1)) (not (is_kind (text bytes))) Cut Kind Cut Kind none in
+    let rows = four-rows (eqb (length bytes) 0) (ltb LONGEST_KIND (byte_length bytes)) (ltb (length bytes) (byte_length bytes + 1))
+    (not (is_kind (text bytes))) Cut Kind Cut Kind none in
     (short-parts bytes (eqb-false (length bytes) 0 rows.0) (ltb-false (length bytes) (byte_length bytes + 1) rows.2), not-false (is_kind (text bytes)) rows.3)
 
 pub content-parts : (bytes : List ℕ) → IsBytes bytes → content_fault bytes ≡ None → bytes ≡ long_text (content bytes) ++ after_content bytes
@@ -111,7 +121,8 @@ name-again name rest is =
     let low = size.0 in
     let high = size.1 in
     let len = short-length name rest in
-    four-none (eqb (length bytes) 0) (eqb (byte_length bytes) 0 || ltb LONGEST_NAME (byte_length bytes)) (ltb (length bytes) (byte_length bytes + 1)) (not (is_name (text bytes))) Cut Name Cut Name
+    four-none (eqb (length bytes) 0) (eqb (byte_length bytes) 0 || ltb LONGEST_NAME (byte_length bytes))
+    (ltb (length bytes) (byte_length bytes + 1)) (not (is_name (text bytes))) Cut Name Cut Name
     (ne_eqb (length bytes) 0 (λ e. omega arith))
     (or_from (eqb (length name) 0) (ltb LONGEST_NAME (length name)) (ne_eqb (length name) 0 (λ e. omega arith)) (le-ltb LONGEST_NAME (length name) high))
     (le-ltb (length bytes) (length name + 1) (omega arith))
@@ -122,7 +133,8 @@ kind-again kind rest is =
     let bytes = short_text kind ++ rest in
     let high = kind-length kind is in
     let len = short-length kind rest in
-    four-none (eqb (length bytes) 0) (ltb LONGEST_KIND (byte_length bytes)) (ltb (length bytes) (byte_length bytes + 1)) (not (is_kind (text bytes))) Cut Kind Cut Kind
+    four-none (eqb (length bytes) 0) (ltb LONGEST_KIND (byte_length bytes)) (ltb (length bytes) (byte_length bytes + 1))
+    (not (is_kind (text bytes))) Cut Kind Cut Kind
     (ne_eqb (length bytes) 0 (λ e. omega arith))
     (le-ltb LONGEST_KIND (length kind) high)
     (le-ltb (length bytes) (length kind + 1) (omega arith))

@@ -1,12 +1,14 @@
 -- A table of faults, row by row.
-use Rattle.site_image.proofs.Prelude.{◌≡◌, ℕ, Bool, true, false, if◌then◌else◌, List, [], ◌∷◌, Option, Some, None, refl, ap, ◌∙◌, option_or, SiteWhy, Twice, File, has_name, first_of, text}
+use Rattle.site_image.proofs.Prelude.{◌≡◌, ℕ, Bool, true, false, if◌then◌else◌, List, [], ◌∷◌, Option, Some, None, refl, ap, ◌∙◌, option_or}
+use Rattle.site_image.proofs.Prelude.{SiteWhy, Twice, File, has_name, first_of, text}
 
 -- an earlier file has the name of the entry
 abbrev pub twice : List File → List ℕ → Option SiteWhy
 twice earlier bytes = if has_name earlier (text bytes) then Some Twice else None
 
 -- where no row of a table holds, none of its tests does
-pub four-rows : (a b c d : Bool) (i j k l : SiteWhy) → first_of ((a, i) ∷ (b, j) ∷ (c, k) ∷ (d, l) ∷ []) ≡ None → (a ≡ false) × (b ≡ false) × (c ≡ false) × (d ≡ false)
+pub four-rows : (a b c d : Bool) (i j k l : SiteWhy) → first_of ((a, i) ∷ (b, j) ∷ (c, k) ∷ (d, l) ∷ []) ≡ None → (a ≡ false) × (b ≡ false)
+    × (c ≡ false) × (d ≡ false)
 four-rows true b c d i j k l e = absurd cc
 four-rows false true c d i j k l e = absurd cc
 four-rows false false true d i j k l e = absurd cc

@@ -1,5 +1,6 @@
 -- Images worked by hand: what the definitions give for them.
-use Rattle.site_image.proofs.Prelude.{◌≡◌, ℕ, List, [], ◌∷◌, ◌++◌, codes, take, map, Option, None, Some, Result, Ok, Err, refl, SiteError, One, File, page_length, image, image_head, entries, scripts, read_image, fault}
+use Rattle.site_image.proofs.Prelude.{◌≡◌, ℕ, List, [], ◌∷◌, ◌++◌, codes, take, map, Option, None, Some, Result, Ok, Err, refl, SiteError}
+use Rattle.site_image.proofs.Prelude.{One, File, page_length, image, image_head, entries, scripts, read_image, fault}
 use Rattle.site_image.specs.declared.site_error.SiteWhy.TheVariants as why
 
 -- what is wrong with an image
@@ -59,7 +60,8 @@ query : first_fault (codes "UIPSITE1" ++ 0x00 ∷ 0x01 ∷ 0x02 ∷ 0x2F ∷ 0x3
 unfolding first_fault image_head entries scripts read_image
 query = refl
 
-same_name : first_fault (codes "UIPSITE1" ++ 0 ∷ 2 ∷ 2 ∷ codes "/x" ++ 0 ∷ 0 ∷ 0 ∷ 1 ∷ 0x31 ∷ 2 ∷ codes "/x" ++ 0 ∷ 0 ∷ 0 ∷ 1 ∷ 0x32 ∷ []) ≡ Some (fault why.Twice 2)
+same_name : first_fault (codes "UIPSITE1" ++ 0 ∷ 2 ∷ 2 ∷ codes "/x" ++ 0 ∷ 0 ∷ 0 ∷ 1 ∷ 0x31 ∷ 2 ∷ codes "/x" ++ 0 ∷ 0 ∷ 0 ∷ 1 ∷ 0x32 ∷ [])
+    ≡ Some (fault why.Twice 2)
 unfolding first_fault image_head entries scripts read_image
 same_name = refl
 

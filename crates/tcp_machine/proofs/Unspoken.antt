@@ -1,18 +1,22 @@
 -- A step that does not concern the application, as one of all steps.
-use Rattle.tcp_machine.proofs.Prelude.{◌≡◌, ℕ, Bool, true, false, List, refl, sym, ◌∙◌, subst, AppSpec, Ghosts, State, PlainSegment, Conn, Outcome, Connection, is_live, by_state, tick_by, HasSoundNumbers, IsSound, ConnRepresents, Meets, MeetsAlone, NumbersRepresent, is_open, Refines, RefinesAlone, Step}
+use Rattle.tcp_machine.proofs.Prelude.{◌≡◌, ℕ, Bool, true, false, List, refl, sym, ◌∙◌, subst, AppSpec, Ghosts, State, PlainSegment, Conn}
+use Rattle.tcp_machine.proofs.Prelude.{Outcome, Connection, is_live, by_state, tick_by, HasSoundNumbers, IsSound, ConnRepresents, Meets}
+use Rattle.tcp_machine.proofs.Prelude.{MeetsAlone, NumbersRepresent, is_open, Refines, RefinesAlone, Step}
 
 neither : (b : Bool) → b ≡ true → b ≡ false → ⊥
 neither true e f = cc
 neither false e f = cc
 
-pub meets_alone : {A S : Type 0} (g : Ghosts A S) (k : g.Config) (d : Conn A) (ns : List ℕ) (step : Step) (o : Outcome) → MeetsAlone d ns step o → Meets g k d ns step o
+pub meets_alone : {A S : Type 0} (g : Ghosts A S) (k : g.Config) (d : Conn A) (ns : List ℕ) (step : Step) (o : Outcome)
+    → MeetsAlone d ns step o → Meets g k d ns step o
 meets_alone g k d ns step o m = record {
   connection = record { numbers = m.connection; part = λ open_to_it. absurd (neither (is_open o.connection.state) open_to_it m.closed_to_it) };
   counted = m.counted;
   asked = m.asked;
 }
 
-pub sound_alone : {A S : Type 0} (g : Ghosts A S) (k : g.Config) (d : Conn A) → (is_live d.state ≡ true → HasSoundNumbers d) → is_open d.state ≡ false → IsSound g k d
+pub sound_alone : {A S : Type 0} (g : Ghosts A S) (k : g.Config) (d : Conn A) → (is_live d.state ≡ true → HasSoundNumbers d)
+    → is_open d.state ≡ false → IsSound g k d
 sound_alone g k d numbers closed_to_it = record {
   numbers = numbers;
   says = λ open_to_it. absurd (neither (is_open d.state) open_to_it closed_to_it);

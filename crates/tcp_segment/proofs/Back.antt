@@ -1,10 +1,17 @@
 -- What is sent is received.
-use Rattle.tcp_segment.proofs.Prelude.{◌≡◌, ℕ, ◌+◌, ◌-◌, ◌*◌, ◌/◌, ◌%◌, ◌<◌, ◌≤◌, List, [], ◌∷◌, ◌++◌, length, take, drop, slice_range, refl, sym, ap, ◌∙◌, arith, Ok, Result, Option, Some, None, length-append, common_steps, drop-drop, drop_at, take-length, folded_closes, join_even, total, sum_of_words, length-bytes_of, same_word, same_long, checksum_of, folded, word_sum, bytes_of, passes, not_less, equal, neither, length-head_bytes, reads_back, head_bytes, head_or_fate, payload_of, Tcp, mss_in, value_of, IsSoundDatagram, IsReadBack, ReadsBack, head_of, fields_sent, header_len, segment_in, Datagram, datagram_bytes, pseudo_header, segment_bytes, TcpFate, Segment}
+use Rattle.tcp_segment.proofs.Prelude.{◌≡◌, ℕ, ◌+◌, ◌-◌, ◌*◌, ◌/◌, ◌%◌, ◌<◌, ◌≤◌, List, [], ◌∷◌, ◌++◌, length, take, drop, slice_range}
+use Rattle.tcp_segment.proofs.Prelude.{refl, sym, ap, ◌∙◌, arith, Ok, Result, Option, Some, None, length-append, common_steps, drop-drop}
+use Rattle.tcp_segment.proofs.Prelude.{drop_at, take-length, folded_closes, join_even, total, sum_of_words, length-bytes_of, same_word}
+use Rattle.tcp_segment.proofs.Prelude.{same_long, checksum_of, folded, word_sum, bytes_of, passes, not_less, equal, neither}
+use Rattle.tcp_segment.proofs.Prelude.{length-head_bytes, reads_back, head_bytes, head_or_fate, payload_of, Tcp, mss_in, value_of}
+use Rattle.tcp_segment.proofs.Prelude.{IsSoundDatagram, IsReadBack, ReadsBack, head_of, fields_sent, header_len, segment_in, Datagram}
+use Rattle.tcp_segment.proofs.Prelude.{datagram_bytes, pseudo_header, segment_bytes, TcpFate, Segment}
 
 -- a segment with its header's length in words, its checksum, and its options as words
 abbrev words : ℕ → List ℕ → ℕ → Datagram → List ℕ
 words offset options sum d =
-    d.from ∷ d.to ∷ d.segment.seq / 65536 ∷ d.segment.seq % 65536 ∷ d.segment.ack / 65536 ∷ d.segment.ack % 65536 ∷ (offset * 4096 + d.segment.flags) ∷ d.segment.window ∷ sum ∷ 0 ∷ options
+    d.from ∷ d.to ∷ d.segment.seq / 65536 ∷ d.segment.seq % 65536 ∷ d.segment.ack / 65536 ∷ d.segment.ack % 65536
+    ∷ (offset * 4096 + d.segment.flags) ∷ d.segment.window ∷ sum ∷ 0 ∷ options
 
 abbrev with_words : ℕ → List ℕ → ℕ → Datagram → List ℕ
 with_words offset options sum d = bytes_of (words offset options sum d) ++ d.segment.text
@@ -52,8 +59,28 @@ sum_right offset options len d s t =
 same_segment : (from from' to to' seq seq' ack ack' flags flags' window window' at at' len len' : ℕ) (mss mss' : Option ℕ) →
     from ≡ from' → to ≡ to' → seq ≡ seq' → ack ≡ ack' → flags ≡ flags' → window ≡ window' → mss ≡ mss' → at ≡ at' → len ≡ len' →
     ◌≡◌ {A = Result Segment TcpFate}
-    (Ok (record { from = record { 0 = from }; to = record { 0 = to }; seq = record { 0 = seq }; ack = record { 0 = ack }; flags = flags; window = window; mss = mss; text_at = at; text_len = len }))
-    (Ok (record { from = record { 0 = from' }; to = record { 0 = to' }; seq = record { 0 = seq' }; ack = record { 0 = ack' }; flags = flags'; window = window'; mss = mss'; text_at = at'; text_len = len' }))
+    (Ok (record {
+      from = record { 0 = from };
+      to = record { 0 = to };
+      seq = record { 0 = seq };
+      ack = record { 0 = ack };
+      flags = flags;
+      window = window;
+      mss = mss;
+      text_at = at;
+      text_len = len;
+    }))
+    (Ok (record {
+      from = record { 0 = from' };
+      to = record { 0 = to' };
+      seq = record { 0 = seq' };
+      ack = record { 0 = ack' };
+      flags = flags';
+      window = window';
+      mss = mss';
+      text_at = at';
+      text_len = len';
+    }))
 same_segment from from' to to' seq seq' ack ack' flags flags' window window' at at' len len' mss mss' a b c d e f g h i = cc
 
 reported_offset : (offset flags : ℕ) → flags < 64 → (offset * 4096 + flags) / 256 / 16 ≡ offset
@@ -65,7 +92,8 @@ reported_flags offset flags h = omega arith
 -- the segment passes its checks, whatever its options are
 received : (offset : ℕ) (options : List ℕ) (d : Datagram) (mss : Option ℕ) → length d.source ≡ 4 → length d.target ≡ 4
     → d.segment.flags < 64 → 5 ≤ offset → 4 * offset ≡ 20 + 2 * length options
-    → mss_in (slice_range (with_words offset options (checksum_of (pseudo_header d.source d.target (length (with_words offset options 0 d)) ++ with_words offset options 0 d)) d) 20 (4 * offset)) ≡ mss
+    → mss_in (slice_range (with_words offset options (checksum_of (pseudo_header d.source d.target (length (with_words offset options 0 d))
+    ++ with_words offset options 0 d)) d) 20 (4 * offset)) ≡ mss
     → segment_in d.source d.target
     (with_words offset options (checksum_of (pseudo_header d.source d.target (length (with_words offset options 0 d)) ++ with_words offset options 0 d)) d)
     ≡ Ok (record (fields_sent d) { mss = mss; text_at = 20 + 4 * offset })

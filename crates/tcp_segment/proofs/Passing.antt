@@ -1,5 +1,6 @@
 -- Options that are skipped.
-use Rattle.tcp_segment.proofs.Prelude.{◌≡◌, ℕ, zero, suc, ◌<◌, Bool, true, false, List, [], ◌∷◌, length, drop, slice_index, Some, refl, sym, ap, ◌∙◌, arith, if◌then◌else◌, option_and_then, trailing_bytes, is_mss, mss_after, mss_in}
+use Rattle.tcp_segment.proofs.Prelude.{◌≡◌, ℕ, zero, suc, ◌<◌, Bool, true, false, List, [], ◌∷◌, length, drop, slice_index, Some, refl, sym}
+use Rattle.tcp_segment.proofs.Prelude.{ap, ◌∙◌, arith, if◌then◌else◌, option_and_then, trailing_bytes, is_mss, mss_after, mss_in}
 
 skip_drop : (n : ℕ) (options : List ℕ) → mss_after n options ≡ mss_in (drop n options)
 skip_drop zero options = refl

@@ -1,11 +1,15 @@
 -- The names that the proofs of this crate cite: of std, of the crates below, and of its own definitions. Declares nothing.
-pub use Rattle.std.proofs.Common.{Bool, Err, List, None, Ok, Option, Result, Some, [], ap, append_assoc, arith, drop, false, if◌then◌else◌, length, length-append, length-drop, length-take, map, refl, slice_index, slice_index_or, slice_range, subst, suc, sym, take, true, zero, ℕ, ◌%◌, ◌*◌, ◌++◌, ◌+◌, ◌-◌, ◌/◌, ◌<◌, ◌∙◌, ◌∷◌, ◌≡◌, ◌≤◌}
+pub use Rattle.std.proofs.Common.{Bool, Err, List, None, Ok, Option, Result, Some, [], ap, append_assoc, arith, drop, false, if◌then◌else◌}
+pub use Rattle.std.proofs.Common.{length, length-append, length-drop, length-take, map, refl, slice_index, slice_index_or, slice_range}
+pub use Rattle.std.proofs.Common.{subst, suc, sym, take, true, zero, ℕ, ◌%◌, ◌*◌, ◌++◌, ◌+◌, ◌-◌, ◌/◌, ◌<◌, ◌∙◌, ◌∷◌, ◌≡◌, ◌≤◌}
 pub use Rattle.std.proofs.Math.Seq.{take-append-add, take-length}
 pub use Rattle.std.proofs.lemmas.Grind.{common_steps}
 pub use Rattle.std.proofs.lemmas.List.{drop-drop, drop_all, drop_at, length-take-le, take-append-drop, take_rest}
 pub use Rattle.std.proofs.lemmas.Result.{IfOk-weaker}
 pub use Rattle.std.specs.Prelude.{IsSome, codes, is_some, option_and_then}
-pub use Rattle.tcp_segment.specs.Prelude.{Datagram, IsReadBack, IsSoundDatagram, ReadsBack, datagram_len, datagram_of, fields_sent, head_of, header_len, is_mss, mss_after, mss_in, offset_of, pseudo_header, segment_bytes, segment_with, trailing_bytes, value_of}
+pub use Rattle.tcp_segment.specs.Prelude.{Datagram, IsReadBack, IsSoundDatagram, ReadsBack, datagram_len, datagram_of, fields_sent, head_of}
+pub use Rattle.tcp_segment.specs.Prelude.{header_len, is_mss, mss_after, mss_in, offset_of, pseudo_header, segment_bytes, segment_with}
+pub use Rattle.tcp_segment.specs.Prelude.{trailing_bytes, value_of}
 unfoldable pub use Rattle.tcp_segment.specs.Prelude.{around, datagram_bytes, fixed_bytes, header_around, segment_in, sum_around}
 pub use Rattle.tcp_segment.specs.declared.fate.TcpFate.{TcpFate}
 pub use Rattle.tcp_segment.specs.declared.fate.TcpFate.TheVariants.{Checksum, Offset, Short}

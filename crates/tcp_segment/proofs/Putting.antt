@@ -1,5 +1,10 @@
 -- A datagram that is written around its text.
-use Rattle.tcp_segment.proofs.Prelude.{◌≡◌, ℕ, ◌+◌, ◌-◌, ◌/◌, ◌%◌, ◌<◌, ◌≤◌, List, [], ◌∷◌, ◌++◌, length, take, drop, slice_range, slice_index_or, Option, Some, None, refl, sym, ap, ◌∙◌, subst, arith, append_assoc, length-append, length-take, length-drop, take-append-add, drop-drop, drop_all, drop_at, take-append-drop, length-take-le, same_four, checksum_of, word_bytes, written, four, head_bytes, Tcp, datagram_bytes, pseudo_header, segment_bytes, segment_with, around, datagram_of, fixed_bytes, header_around, sum_around, Out}
+use Rattle.tcp_segment.proofs.Prelude.{◌≡◌, ℕ, ◌+◌, ◌-◌, ◌/◌, ◌%◌, ◌<◌, ◌≤◌, List, [], ◌∷◌, ◌++◌, length, take, drop, slice_range}
+use Rattle.tcp_segment.proofs.Prelude.{slice_index_or, Option, Some, None, refl, sym, ap, ◌∙◌, subst, arith, append_assoc, length-append}
+use Rattle.tcp_segment.proofs.Prelude.{length-take, length-drop, take-append-add, drop-drop, drop_all, drop_at, take-append-drop}
+use Rattle.tcp_segment.proofs.Prelude.{length-take-le, same_four, checksum_of, word_bytes, written, four, head_bytes, Tcp, datagram_bytes}
+use Rattle.tcp_segment.proofs.Prelude.{pseudo_header, segment_bytes, segment_with, around, datagram_of, fixed_bytes, header_around}
+use Rattle.tcp_segment.proofs.Prelude.{sum_around, Out}
 use borrow.Rule.Slice.PartMut.{put_mid}
 
 -- the pseudo header, byte by byte
@@ -45,9 +50,11 @@ sum_put fields rest sum out f = ap (λ l. take 16 (l ++ rest) ++ word_bytes sum 
 past_head : (head tail word : List ℕ) → length head ≡ 20
     → drop 20 (written (head ++ tail) 36 word) ≡ take 16 tail ++ word ++ drop (16 + length word) tail
 past_head head tail word h =
-    let cut : take 36 (head ++ tail) ≡ head ++ take 16 tail = ap (λ n. take n (head ++ tail)) (let z : 36 ≡ length head + 16 = omega (arith, h) in z) ∙ take-append-add head tail 16 in
+    let cut : take 36 (head ++ tail) ≡ head ++ take 16 tail = ap (λ n. take n (head ++ tail))
+    (let z : 36 ≡ length head + 16 = omega (arith, h) in z) ∙ take-append-add head tail 16 in
     let left : drop (36 + length word) (head ++ tail) ≡ drop (16 + length word) tail =
-    ap (λ n. drop n (head ++ tail)) (let z : 36 + length word ≡ 20 + (16 + length word) = omega arith in z) ∙ sym (drop-drop (16 + length word) 20 (head ++ tail))
+    ap (λ n. drop n (head ++ tail)) (let z : 36 + length word ≡ 20 + (16 + length word) = omega arith in z)
+    ∙ sym (drop-drop (16 + length word) 20 (head ++ tail))
     ∙ ap (λ l. drop (16 + length word) l) (drop_at head tail 20 h) in
     ap (λ l. drop 20 (l ++ word ++ drop (36 + length word) (head ++ tail))) cut
     ∙ ap (λ l. drop 20 ((head ++ take 16 tail) ++ word ++ l)) left
@@ -69,7 +76,8 @@ fields_long out = refl
 
 pub headers_put : (out : Out) (area fields summed new : List ℕ) (total sum : ℕ) → 40 ≤ total → total ≤ length area
     → fields ≡ fixed_bytes 0 out
-    → sum ≡ checksum_of (pseudo_header out.source.0 out.target.0 (length (slice_range (put_mid 20 20 area fields) 20 total)) ++ slice_range (put_mid 20 20 area fields) 20 total)
+    → sum ≡ checksum_of (pseudo_header out.source.0 out.target.0 (length (slice_range (put_mid 20 20 area fields) 20 total)) ++ slice_range
+    (put_mid 20 20 area fields) 20 total)
     → summed ≡ written (put_mid 20 20 area fields) 36 (word_bytes sum)
     → new ≡ head_bytes total out.id Tcp out.source.0 out.target.0 ++ drop 20 summed
     → new ≡ around out (slice_range area 40 total) ++ drop total area
@@ -94,7 +102,8 @@ headers_put out area fields summed new total sum least most f s w e =
     ∙ ap (λ l. prefix ++ (header_around out rest ++ l)) (sym (cut area total least))
     ∙ ap (λ l. prefix ++ l) (sym (append_assoc (header_around out rest) rest (drop total area)))
     ∙ sym (append_assoc prefix (header_around out rest ++ rest) (drop total area))
-    ∙ ap (λ n. head_bytes n out.id Tcp out.source.0 out.target.0 ++ (header_around out rest ++ rest) ++ drop total area) (sym (length-part area total least most))
+    ∙ ap (λ n. head_bytes n out.id Tcp out.source.0 out.target.0 ++ (header_around out rest ++ rest) ++ drop total area)
+    (sym (length-part area total least most))
 
 -- the fields over all 20 bytes of the header
 pub fields_over : (old : List ℕ) → length old ≡ 20 → drop 4 (drop 2 (drop 2 (drop 4 (drop 4 (drop 2 (drop 2 old)))))) ≡ []
@@ -120,7 +129,8 @@ without_option out text =
     let n : 20 + length text ≡ length (segment_with 0 d) = omega arith in
     let m : 40 + length text ≡ 20 + length (segment_bytes d) = omega arith in
     ap (λ (l : ℕ). head_bytes l out.id Tcp out.source.0 out.target.0 ++ segment_with (sum_around (record out { mss = None }) text) d) m
-    ∙ ap (λ (l : ℕ). head_bytes (20 + length (segment_bytes d)) out.id Tcp out.source.0 out.target.0 ++ segment_with (checksum_of (pseudo_header out.source.0 out.target.0 l ++ segment_with 0 d)) d) n
+    ∙ ap (λ (l : ℕ). head_bytes (20 + length (segment_bytes d)) out.id Tcp out.source.0 out.target.0 ++ segment_with
+    (checksum_of (pseudo_header out.source.0 out.target.0 l ++ segment_with 0 d)) d) n
 
 with_option : (out : Out) (mss : ℕ)
     → around (record out { mss = Some mss }) (2 ∷ 4 ∷ mss / 256 ∷ mss % 256 ∷ []) ≡ datagram_bytes (datagram_of (record out { mss = Some mss }) [])
@@ -135,7 +145,8 @@ no_option out text e =
 pub one_option : (out : Out) (mss : ℕ) → out.mss ≡ Some mss
     → around out (2 ∷ 4 ∷ mss / 256 ∷ mss % 256 ∷ []) ≡ datagram_bytes (datagram_of out [])
 one_option out mss e =
-    let P : Option ℕ → Type 0 = λ m. around (record out { mss = m }) (2 ∷ 4 ∷ mss / 256 ∷ mss % 256 ∷ []) ≡ datagram_bytes (datagram_of (record out { mss = m }) []) in
+    let P : Option ℕ → Type 0 = λ m. around (record out { mss = m }) (2 ∷ 4 ∷ mss / 256 ∷ mss % 256 ∷ []) ≡ datagram_bytes
+    (datagram_of (record out { mss = m }) []) in
     subst P (sym e) (with_option out mss)
 
 pub option_put : (out : Out) (area with_mss new : List ℕ) (mss : ℕ) → 44 ≤ length area → out.mss ≡ Some mss → out.len ≡ 0

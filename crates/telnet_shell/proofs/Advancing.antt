@@ -1,7 +1,13 @@
 -- The queue as commands are wholly acknowledged, and as commands arrive.
-use Rattle.telnet_shell.proofs.Prelude.{◌≡◌, ℕ, ◌+◌, ◌-◌, ◌≤◌, ◌<◌, Bool, true, false, ◌&&◌, not, nat_le, List, [], ◌∷◌, ◌++◌, length, if◌then◌else◌, refl, sym, ap, subst, ◌∙◌, arith, append_assoc, append-nil, length-append, true≢false, slice_index_or, remove, leb-true, leb-false, and_parts, Capture, Empty, AppState, Snapshot, Command, commands_in, needs_capture, reply_with, transcript, stops_at, replies_left, IsLeading, Shows, needed, IsTrailing, is_past, Passes, with_byte, split, prefix_left, empty_stops, reply_is_not_empty}
+use Rattle.telnet_shell.proofs.Prelude.{◌≡◌, ℕ, ◌+◌, ◌-◌, ◌≤◌, ◌<◌, Bool, true, false, ◌&&◌, not, nat_le, List, [], ◌∷◌, ◌++◌, length}
+use Rattle.telnet_shell.proofs.Prelude.{if◌then◌else◌, refl, sym, ap, subst, ◌∙◌, arith, append_assoc, append-nil, length-append}
+use Rattle.telnet_shell.proofs.Prelude.{true≢false, slice_index_or, remove, leb-true, leb-false, and_parts, Capture, Empty, AppState}
+use Rattle.telnet_shell.proofs.Prelude.{Snapshot, Command, commands_in, needs_capture, reply_with, transcript, stops_at, replies_left}
+use Rattle.telnet_shell.proofs.Prelude.{IsLeading, Shows, needed, IsTrailing, is_past, Passes, with_byte, split, prefix_left, empty_stops}
+use Rattle.telnet_shell.proofs.Prelude.{reply_is_not_empty}
 
-pub passes : (q new : List Command) (prefix : Command) (capture : Capture) (at len place : ℕ) → is_past q capture at ≡ true → prefix ≡ slice_index_or q 0 prefix → new ≡ remove q 0
+pub passes : (q new : List Command) (prefix : Command) (capture : Capture) (at len place : ℕ) → is_past q capture at ≡ true
+    → prefix ≡ slice_index_or q 0 prefix → new ≡ remove q 0
     → len ≡ length (reply_with prefix capture) → place ≡ at - len → Passes q capture at new Empty place
 passes [] new prefix capture at len place history f g h i = elim (true≢false (sym history)) [ ]
 passes (c ∷ cs) new prefix capture at len place history f g h i =
@@ -10,7 +16,8 @@ passes (c ∷ cs) new prefix capture at len place history f g h i =
     let size : len ≡ length (reply_with c capture) = h ∙ ap (λ (d : Command). length (reply_with d capture)) f in
     (g, refl, omega (arith, fits, size, i))
 
-pub prefix_fits : (q : List Command) (prefix : Command) (capture : Capture) (at : ℕ) → is_past q capture at ≡ true → prefix ≡ slice_index_or q 0 prefix → length (reply_with prefix capture) ≤ at
+pub prefix_fits : (q : List Command) (prefix : Command) (capture : Capture) (at : ℕ) → is_past q capture at ≡ true
+    → prefix ≡ slice_index_or q 0 prefix → length (reply_with prefix capture) ≤ at
 prefix_fits [] prefix capture at history f = elim (true≢false (sym history)) [ ]
 prefix_fits (c ∷ cs) prefix capture at history f =
     let both = and_parts (not (stops_at c capture)) (nat_le (length (reply_with c capture)) at) history in
@@ -20,7 +27,8 @@ needed_joined : (xs ys : List Command) → needed (xs ++ ys) ≡ needed xs + nee
 needed_joined [] ys = omega arith
 needed_joined (x ∷ xs) ys = by_need (needs_capture x) (needed_joined xs ys)
   where
-    by_need : (b : Bool) → needed (xs ++ ys) ≡ needed xs + needed ys → (if b then needed (xs ++ ys) + 1 else needed (xs ++ ys)) ≡ (if b then needed xs + 1 else needed xs) + needed ys
+    by_need : (b : Bool) → needed (xs ++ ys) ≡ needed xs + needed ys → (if b then needed (xs ++ ys) + 1 else needed (xs ++ ys))
+        ≡ (if b then needed xs + 1 else needed xs) + needed ys
     by_need true e = omega (arith, e)
     by_need false e = e
 
@@ -29,7 +37,8 @@ not_true true e = sym e
 not_true false e = refl
 
 -- a first command that does not stop holds what it needs
-prefix_took : (c : Command) (cs : List Command) (capture : Capture) (prefix : List Snapshot) → Shows (c ∷ cs) capture prefix → stops_at c capture ≡ false → length prefix ≡ needed (c ∷ [])
+prefix_took : (c : Command) (cs : List Command) (capture : Capture) (prefix : List Snapshot) → Shows (c ∷ cs) capture prefix
+    → stops_at c capture ≡ false → length prefix ≡ needed (c ∷ [])
 prefix_took c cs capture [] s e = ap (λ (b : Bool). if b then 1 else 0) (sym (sym (empty_stops c capture s) ∙ e))
 prefix_took c cs capture (k ∷ ks) s e =
     ap (λ (ls : List Snapshot). length (k ∷ ls)) s.0 ∙ ap (λ (b : Bool). if b then 1 else 0) (sym s.1)
@@ -38,10 +47,12 @@ equal_prefix : (c : Command) (cs : List Command) (capture : Capture) (prefix : L
 equal_prefix c cs capture [] s = s
 equal_prefix c cs capture (k ∷ ks) s = s
 
-pub passed_on : (q new : List Command) (capture held : Capture) (at place : ℕ) (p : AppState) → is_past q capture at ≡ true → Passes q capture at new held place → IsTrailing q capture at p → IsTrailing new held place p
+pub passed_on : (q new : List Command) (capture held : Capture) (at place : ℕ) (p : AppState) → is_past q capture at ≡ true
+    → Passes q capture at new held place → IsTrailing q capture at p → IsTrailing new held place p
 passed_on [] new capture held at place p history w b = elim (true≢false (sym history)) [ ]
 passed_on (c ∷ cs) new capture held at place p history w b =
-    let goes : stops_at c capture ≡ false = not_true (stops_at c capture) (and_parts (not (stops_at c capture)) (nat_le (length (reply_with c capture)) at) history).0 in
+    let goes : stops_at c capture ≡ false = not_true (stops_at c capture)
+    (and_parts (not (stops_at c capture)) (nat_le (length (reply_with c capture)) at) history).0 in
     let took : length b.prefix ≡ needed (c ∷ []) = prefix_took c cs capture b.prefix b.shows goes in
     let text : transcript (b.before ++ c ∷ []) (b.spoken ++ b.prefix) ≡ transcript b.before b.spoken ++ reply_with c capture =
     split b.before (c ∷ []) b.spoken b.prefix b.took
@@ -55,7 +66,8 @@ passed_on (c ∷ cs) new capture held at place p history w b =
       prefix = [];
       commands = b.commands ∙ sym (append_assoc b.before (c ∷ []) cs) ∙ ap (λ (ds : List Command). (b.before ++ c ∷ []) ++ ds) (sym w.0);
       snapshots = b.snapshots ∙ sym (append-nil (b.spoken ++ b.prefix));
-      took = length-append b.spoken b.prefix ∙ ap (λ (n : ℕ). n + length b.prefix) b.took ∙ ap (λ (n : ℕ). needed b.before + n) took ∙ sym (needed_joined b.before (c ∷ []));
+      took = length-append b.spoken b.prefix ∙ ap (λ (n : ℕ). n + length b.prefix) b.took ∙ ap (λ (n : ℕ). needed b.before + n) took
+          ∙ sym (needed_joined b.before (c ∷ []));
       acked = (let e = b.acked in let f = w.2 in omega (arith, e, f, size));
       shows = w.1;
     }
@@ -65,11 +77,13 @@ pub enough_left : (q new : List Command) (capture held : Capture) (at place : �
     → at ≤ length (replies_left q capture) → place ≤ length (replies_left new held)
 enough_left [] new capture held at place history w h = elim (true≢false (sym history)) [ ]
 enough_left (c ∷ cs) new capture held at place history w h =
-    let goes : stops_at c capture ≡ false = not_true (stops_at c capture) (and_parts (not (stops_at c capture)) (nat_le (length (reply_with c capture)) at) history).0 in
+    let goes : stops_at c capture ≡ false = not_true (stops_at c capture)
+    (and_parts (not (stops_at c capture)) (nat_le (length (reply_with c capture)) at) history).0 in
     let left : length (replies_left (c ∷ cs) capture) ≡ length (reply_with c capture) + length (transcript cs []) =
     ap (λ (s : Bool). length (if s then [] else reply_with c capture ++ transcript cs [])) goes ∙ length-append (reply_with c capture) (transcript cs []) in
     let next : length (transcript cs []) ≡ length (replies_left new held) =
-    ap (λ (xs : List ℕ). length xs) (prefix_left cs Empty [] refl) ∙ ap (λ (ds : List Command). length (replies_left ds Empty)) (sym w.0) ∙ ap (λ (d : Capture). length (replies_left new d)) (sym w.1) in
+    ap (λ (xs : List ℕ). length xs) (prefix_left cs Empty [] refl) ∙ ap (λ (ds : List Command). length (replies_left ds Empty)) (sym w.0)
+    ∙ ap (λ (d : Capture). length (replies_left new d)) (sym w.1) in
     omega (arith, h, left, next, w.2)
 
 pub shorter : (q new : List Command) (capture held : Capture) (at place : ℕ) → Passes q capture at new held place → length new < length q
@@ -84,7 +98,8 @@ nearer (c ∷ cs) new capture held at place w = omega (arith, w.2)
 pub with_newest : (q : List Command) (capture : Capture) (at : ℕ) → is_past q capture at ≡ false → at ≤ length (replies_left q capture) → IsLeading q capture at
 with_newest [] capture at e h = omega (arith, h)
 with_newest (c ∷ cs) capture at e h = (
-  (λ s. let z : length (replies_left (c ∷ cs) capture) ≡ 0 = ap (λ (b : Bool). length (if b then [] else reply_with c capture ++ transcript cs [])) s in omega (arith, h, z)),
+  (λ s. let z : length (replies_left (c ∷ cs) capture)
+      ≡ 0 = ap (λ (b : Bool). length (if b then [] else reply_with c capture ++ transcript cs [])) s in omega (arith, h, z)),
   (λ g. leb-false (length (reply_with c capture)) at (sym (ap (λ (b : Bool). not b && nat_le (length (reply_with c capture)) at) g) ∙ e)),
 )
 

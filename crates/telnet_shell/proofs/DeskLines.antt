@@ -1,5 +1,11 @@
 -- What the desk satisfies on a line.
-use Rattle.telnet_shell.proofs.Prelude.{All, ◌≡◌, ℕ, ◌==◌, ◌≤◌, Bool, true, false, inl, inr, List, [], length, refl, sym, ap, ◌∙◌, subst, append-nil, if◌then◌else◌, eqb-true, IsByte, IsPaged, MayWant, AppState, Now, File, SiteContent, IsLoaded, files_of, pages_of, is_served, web_spec, made_of_bytes, keeps_page_laws, Paged, Interactive, Free, AcceptsPrefix, IsPagedAt, FollowsPagesAt, LeavesDelivered, HasOutputModel, FollowsModelAt, SendsBytes, page_bytes, TELNET_PORT, DeskSpeaksOnLines, desk_output_model, desk_spec, DoesAs, is_stopped, shell_spec, take_capture, session, DeliversPrefix, sessions, StaysAtPort}
+use Rattle.telnet_shell.proofs.Prelude.{All, ◌≡◌, ℕ, ◌==◌, ◌≤◌, Bool, true, false, inl, inr, List, [], length, refl, sym, ap, ◌∙◌, subst}
+use Rattle.telnet_shell.proofs.Prelude.{append-nil, if◌then◌else◌, eqb-true, IsByte, IsPaged, MayWant, AppState, Now, File, SiteContent}
+use Rattle.telnet_shell.proofs.Prelude.{IsLoaded, files_of, pages_of, is_served, web_spec, made_of_bytes, keeps_page_laws, Paged}
+use Rattle.telnet_shell.proofs.Prelude.{Interactive, Free, AcceptsPrefix, IsPagedAt, FollowsPagesAt, LeavesDelivered, HasOutputModel}
+use Rattle.telnet_shell.proofs.Prelude.{FollowsModelAt, SendsBytes, page_bytes, TELNET_PORT, DeskSpeaksOnLines, desk_output_model}
+use Rattle.telnet_shell.proofs.Prelude.{desk_spec, DoesAs, is_stopped, shell_spec, take_capture, session, DeliversPrefix, sessions}
+use Rattle.telnet_shell.proofs.Prelude.{StaysAtPort}
 use Rattle.telnet_shell.proofs.SessionLaws.{keeps_session}
 use Rattle.telnet_shell.proofs.DeskSteady.{desk_steady}
 use Rattle.telnet_shell.proofs.TwoBytes.{desk_bytes}
@@ -13,7 +19,8 @@ module _ (site : SiteContent) (loaded : IsLoaded site) (image : All IsByte site.
   web_laws = keeps_page_laws site loaded
 
   outputs_bytes : SendsBytes (desk_spec files)
-  outputs_bytes = desk_bytes files (page_bytes (web_spec files) (pages_of files) web_laws (λ delivered captures are c. made_of_bytes site image delivered captures c))
+  outputs_bytes = desk_bytes files (page_bytes (web_spec files) (pages_of files) web_laws (λ delivered captures are c. made_of_bytes site
+      image delivered captures c))
 
   -- ---- pages at port 80
 
@@ -92,7 +99,8 @@ module _ (site : SiteContent) (loaded : IsLoaded site) (image : All IsByte site.
   does_as_shell : (p : AppState) → is_session_part p ≡ true → DoesAs (desk_spec files) shell_spec p
   does_as_shell p h = two_applications.shell files p (eqb-true p.port 23 h)
 
-  session_received : (numbers : List ℕ) (p : AppState) (piece : List ℕ) → is_session_part p ≡ true → AcceptsPrefix is_session_part is_lost p ((desk_spec files).newdata numbers p piece).part piece
+  session_received : (numbers : List ℕ) (p : AppState) (piece : List ℕ) → is_session_part p ≡ true → AcceptsPrefix is_session_part is_lost p
+      ((desk_spec files).newdata numbers p piece).part piece
   session_received numbers p piece h =
       let q : AppState = ((desk_spec files).newdata numbers p piece).part in
       let r : AppState = (shell_spec.newdata numbers p piece).part in
@@ -110,11 +118,13 @@ module _ (site : SiteContent) (loaded : IsLoaded site) (image : All IsByte site.
         ));
       }
 
-  either_prepared : (p : AppState) (numbers : List ℕ) (now : Now) (stops : Bool) → (let q : AppState = if stops then take_capture numbers p now else p in (q.input ≡ p.input) × (is_lost q ≡ is_lost p))
+  either_prepared : (p : AppState) (numbers : List ℕ) (now : Now) (stops : Bool)
+      → (let q : AppState = if stops then take_capture numbers p now else p in (q.input ≡ p.input) × (is_lost q ≡ is_lost p))
   either_prepared p numbers now true = (refl, refl)
   either_prepared p numbers now false = (refl, refl)
 
-  session_left : (p q r : AppState) → q ≡ r → q.port ≡ p.port → is_session_part p ≡ true → (r.input ≡ p.input) × (is_lost r ≡ is_lost p) → LeavesDelivered is_session_part is_lost p q
+  session_left : (p q r : AppState) → q ≡ r → q.port ≡ p.port → is_session_part p ≡ true → (r.input ≡ p.input) × (is_lost r ≡ is_lost p)
+      → LeavesDelivered is_session_part is_lost p q
   session_left p q r same port h x = (
     (stays_at 23 p q port h, ap (λ (y : AppState). y.input) same ∙ x.0),
     ap (λ (y : AppState). is_lost y) same ∙ x.1,
@@ -130,9 +140,12 @@ module _ (site : SiteContent) (loaded : IsLoaded site) (image : All IsByte site.
     output = λ p h. (does_as_shell p h).output ∙ keeps_session.output p;
     connected = λ numbers. (ap (λ (n : ℕ). n == 23) (keeps_port.connected numbers 23), refl);
     newdata = session_received;
-    prepare = λ numbers p now h. session_left p ((desk_spec files).prepare numbers p now) (shell_spec.prepare numbers p now) ((does_as_shell p h).prepare numbers now) (keeps_port.prepare numbers p now) h (either_prepared p numbers now (is_stopped p));
-    acked = λ numbers p n h. session_left p ((desk_spec files).acked numbers p n).part (shell_spec.acked numbers p n).part (ap (λ a. a.part) ((does_as_shell p h).acked numbers n)) (keeps_port.acked numbers p n) h (refl, refl);
-    polled = λ numbers p h. session_left p ((desk_spec files).polled numbers p).part (shell_spec.polled numbers p).part (ap (λ a. a.part) ((does_as_shell p h).polled numbers)) (keeps_port.polled numbers p) h (refl, refl);
+    prepare = λ numbers p now h. session_left p ((desk_spec files).prepare numbers p now) (shell_spec.prepare numbers p now)
+        ((does_as_shell p h).prepare numbers now) (keeps_port.prepare numbers p now) h (either_prepared p numbers now (is_stopped p));
+    acked = λ numbers p n h. session_left p ((desk_spec files).acked numbers p n).part (shell_spec.acked numbers p n).part
+        (ap (λ a. a.part) ((does_as_shell p h).acked numbers n)) (keeps_port.acked numbers p n) h (refl, refl);
+    polled = λ numbers p h. session_left p ((desk_spec files).polled numbers p).part (shell_spec.polled numbers p).part
+        (ap (λ a. a.part) ((does_as_shell p h).polled numbers)) (keeps_port.polled numbers p) h (refl, refl);
     closes = λ numbers p h fits e.
         let output : (desk_spec files).output p ≡ session p = (does_as_shell p h).output in
         let low : p.acked ≤ length (session p) = subst (λ (t : List ℕ). p.acked ≤ length t) output fits in
@@ -141,11 +154,13 @@ module _ (site : SiteContent) (loaded : IsLoaded site) (image : All IsByte site.
 
   -- ---- at each port
 
-  at_shell_port : (port : ℕ) (shell : Bool) → (port == TELNET_PORT) ≡ shell → FollowsModelAt (desk_spec files) port (if shell then Interactive sessions else Free)
+  at_shell_port : (port : ℕ) (shell : Bool) → (port == TELNET_PORT) ≡ shell → FollowsModelAt (desk_spec files) port
+      (if shell then Interactive sessions else Free)
   at_shell_port port true e = subst (λ (n : ℕ). FollowsPagesAt (desk_spec files) n sessions) (sym (eqb-true port 23 e)) session_reported
   at_shell_port port false e = tt
 
-  by_port : (port : ℕ) (served : Bool) → is_served port ≡ served → FollowsModelAt (desk_spec files) port (if served then Paged (pages_of files) else if port == TELNET_PORT then Interactive sessions else Free)
+  by_port : (port : ℕ) (served : Bool) → is_served port ≡ served → FollowsModelAt (desk_spec files) port
+      (if served then Paged (pages_of files) else if port == TELNET_PORT then Interactive sessions else Free)
   by_port port true e = subst (λ (n : ℕ). IsPagedAt (desk_spec files) n (pages_of files)) (sym (eqb-true port 80 e)) web_pages
   by_port port false e = at_shell_port port (port == TELNET_PORT) refl
 

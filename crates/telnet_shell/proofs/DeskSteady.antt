@@ -1,5 +1,7 @@
 -- The desk is steady: it takes back no text, and captures one snapshot at a time.
-use Rattle.telnet_shell.proofs.Prelude.{◌≡◌, ℕ, ◌==◌, Bool, true, false, ◌⊎◌, inl, inr, List, [], ◌∷◌, ◌++◌, refl, if◌then◌else◌, AppState, Snapshot, File, SiteContent, IsLoaded, files_of, pages_of, web_spec, keeps_page_laws, IsSteady, steady_of, TELNET_PORT, shell_spec, is_stopped, shell_lawful, app_spec_at, desk_spec, desk_lawful}
+use Rattle.telnet_shell.proofs.Prelude.{◌≡◌, ℕ, ◌==◌, Bool, true, false, ◌⊎◌, inl, inr, List, [], ◌∷◌, ◌++◌, refl, if◌then◌else◌, AppState}
+use Rattle.telnet_shell.proofs.Prelude.{Snapshot, File, SiteContent, IsLoaded, files_of, pages_of, web_spec, keeps_page_laws, IsSteady}
+use Rattle.telnet_shell.proofs.Prelude.{steady_of, TELNET_PORT, shell_spec, is_stopped, shell_lawful, app_spec_at, desk_spec, desk_lawful}
 use Rattle.telnet_shell.proofs.SessionLaws.{keeps_session}
 
 either_capture : (p : AppState) (k : Snapshot) (takes : Bool)

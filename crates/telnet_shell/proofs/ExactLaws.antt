@@ -1,5 +1,15 @@
 -- What a shell requests, when it takes a capture and when it is given up, by its session alone.
-use Rattle.telnet_shell.proofs.Prelude.{◌≡◌, ℕ, ◌+◌, ◌-◌, ◌≤◌, ◌<◌, ◌==◌, min, Bool, true, false, ◌&&◌, not, nat_le, nat_lt, List, [], ◌∷◌, ◌++◌, codes, length, refl, sym, ap, ◌∙◌, arith, append-nil, length-append, if◌then◌else◌, bytes_eq, leb-true, le-leb, lt-leb, lt-ltb, ltb-true, eqb-true, eq-eqb, and_parts, and_from, false_from_ne_true, bytes_eq-Decides, AppState, Snapshot, Now, Nothing, Send, Close, Abort, Command, Help, Stats, Conns, Ticks, Quit, Blank, Other, Awaits, Token, tokens, tokens_at, awaits_after, commands, command_of, line_after, all_commands, commands_in, has_quit, is_quit, until_quit, Text, Second, Choice, Byte, Answer, past_text, needs_capture, plain_reply, sent_at, transcript, unfinished, needed, commands_grow, further, past_reply, reply_is_not_empty, shell_spec, session, waiting, with_byte, receive_byte, is_settled, is_stopped, session_has_ended, left_of_session, take_capture, sessions, IsExact, exact_want, all_acknowledged, is_given_up, capture_comes_next, completes}
+use Rattle.telnet_shell.proofs.Prelude.{◌≡◌, ℕ, ◌+◌, ◌-◌, ◌≤◌, ◌<◌, ◌==◌, min, Bool, true, false, ◌&&◌, not, nat_le, nat_lt, List, [], ◌∷◌}
+use Rattle.telnet_shell.proofs.Prelude.{◌++◌, codes, length, refl, sym, ap, ◌∙◌, arith, append-nil, length-append, if◌then◌else◌, bytes_eq}
+use Rattle.telnet_shell.proofs.Prelude.{leb-true, le-leb, lt-leb, lt-ltb, ltb-true, eqb-true, eq-eqb, and_parts, and_from}
+use Rattle.telnet_shell.proofs.Prelude.{false_from_ne_true, bytes_eq-Decides, AppState, Snapshot, Now, Nothing, Send, Close, Abort, Command}
+use Rattle.telnet_shell.proofs.Prelude.{Help, Stats, Conns, Ticks, Quit, Blank, Other, Awaits, Token, tokens, tokens_at, awaits_after}
+use Rattle.telnet_shell.proofs.Prelude.{commands, command_of, line_after, all_commands, commands_in, has_quit, is_quit, until_quit, Text}
+use Rattle.telnet_shell.proofs.Prelude.{Second, Choice, Byte, Answer, past_text, needs_capture, plain_reply, sent_at, transcript}
+use Rattle.telnet_shell.proofs.Prelude.{unfinished, needed, commands_grow, further, past_reply, reply_is_not_empty, shell_spec, session}
+use Rattle.telnet_shell.proofs.Prelude.{waiting, with_byte, receive_byte, is_settled, is_stopped, session_has_ended, left_of_session}
+use Rattle.telnet_shell.proofs.Prelude.{take_capture, sessions, IsExact, exact_want, all_acknowledged, is_given_up, capture_comes_next}
+use Rattle.telnet_shell.proofs.Prelude.{completes}
 use Rattle.telnet_shell.proofs.SessionLaws.{WasSentIn, settled, none_waits}
 
 -- two tests with the same result
@@ -68,7 +78,8 @@ left_exactly acked size = same_tests (nat_lt 0 (size - acked)) (nat_lt acked siz
 
 wants_exactly : (numbers : List ℕ) (p : AppState) → p.acked ≤ length (session p) → shell_spec.want numbers p ≡ exact_want p
 wants_exactly numbers p h =
-    ap (λ (b : Bool). if is_given_up p then Abort else if b then Close else if nat_lt 0 (left_of_session p) then Send (min 1460 (left_of_session p)) else Nothing)
+    ap (λ (b : Bool). if is_given_up p then Abort else if b then Close else if nat_lt 0 (left_of_session p) then Send
+    (min 1460 (left_of_session p)) else Nothing)
     (ends_exactly p h)
     ∙ ap (λ (b : Bool). if is_given_up p then Abort else if sessions.complete p.input p.snapshots && all_acknowledged p then Close
     else if b then Send (min 1460 (left_of_session p)) else Nothing) (left_exactly p.acked (length (session p)))
@@ -104,7 +115,8 @@ stops_exactly p = same_tests (is_stopped p) (capture_comes_next p)
 
     waits_yet : (p : AppState) → nat_lt (length p.snapshots) (needed (commands_in p.input)) ≡ true → not (is_settled p) ≡ true
     waits_yet p l =
-        from_not (is_settled p) (λ s. let reported = (sent_of p s).reported in let less = ltb-true (length p.snapshots) (needed (commands_in p.input)) l in omega (arith, reported, less))
+        from_not (is_settled p) (λ s. let reported = (sent_of p s).reported in let less = ltb-true (length p.snapshots)
+        (needed (commands_in p.input)) l in omega (arith, reported, less))
 
 prepares_exactly : (numbers : List ℕ) (p : AppState) (now : Now)
     → shell_spec.prepare numbers p now ≡ (if capture_comes_next p then take_capture numbers p now else p)
@@ -217,12 +229,14 @@ one_comes delivered byte =
     let f = one_reported (awaits_after Text delivered) byte in omega (arith, e, f)) in
     let few = few_commands (line_after [] (tokens Text delivered)) (tokens (awaits_after Text delivered) (byte ∷ [])) in
     let counts = few_count (commands (line_after [] (tokens Text delivered)) (tokens (awaits_after Text delivered) (byte ∷ []))) in
-    none_or (has_quit (commands [] (tokens Text delivered))) (until_quit (commands (line_after [] (tokens Text delivered)) (tokens (awaits_after Text delivered) (byte ∷ []))))
+    none_or (has_quit (commands [] (tokens Text delivered)))
+    (until_quit (commands (line_after [] (tokens Text delivered)) (tokens (awaits_after Text delivered) (byte ∷ []))))
     (omega (arith, short, few, counts))
 
 -- ---- when it is given up
 
-waits_more : (p : AppState) (byte : ℕ) → p.acked ≤ length (session p) → length (waiting (with_byte p byte)) ≡ length (waiting p) + length (further p.input (byte ∷ []))
+waits_more : (p : AppState) (byte : ℕ) → p.acked ≤ length (session p) → length (waiting (with_byte p byte)) ≡ length (waiting p) + length
+    (further p.input (byte ∷ []))
 waits_more p byte h =
     ap (λ (cs : List Command). length (unfinished cs p.snapshots p.acked)) (commands_grow p.input (byte ∷ []))
     ∙ ap (λ (cs : List Command). length cs) (unfinished_joins (commands_in p.input) (further p.input (byte ∷ [])) p.snapshots p.acked h)

@@ -1,5 +1,8 @@
 -- A shell that has received nothing, and what a shell can send.
-use Rattle.telnet_shell.proofs.Prelude.{◌≡◌, ℕ, ◌+◌, ◌≤◌, ◌<◌, Bool, true, false, List, [], ◌∷◌, ◌++◌, length, refl, sym, ap, subst, arith, length-drop, length-append, if◌then◌else◌, ∥∥₁_elim, le_prop, AppState, text_left, CanSupply, IsRepresented, Capture, Empty, Command, Shell, reply_with, transcript, IsTrailing, IsLeading, replies_left, prefix_size, stops_at, shell_spec, ShellRepresents, fresh_part, left_of_value}
+use Rattle.telnet_shell.proofs.Prelude.{◌≡◌, ℕ, ◌+◌, ◌≤◌, ◌<◌, Bool, true, false, List, [], ◌∷◌, ◌++◌, length, refl, sym, ap, subst, arith}
+use Rattle.telnet_shell.proofs.Prelude.{length-drop, length-append, if◌then◌else◌, ∥∥₁_elim, le_prop, AppState, text_left, CanSupply}
+use Rattle.telnet_shell.proofs.Prelude.{IsRepresented, Capture, Empty, Command, Shell, reply_with, transcript, IsTrailing, IsLeading}
+use Rattle.telnet_shell.proofs.Prelude.{replies_left, prefix_size, stops_at, shell_spec, ShellRepresents, fresh_part, left_of_value}
 
 pub opened_after : (q : List Command) (port : ℕ) → q ≡ [] → IsTrailing q Empty 0 (fresh_part port)
 opened_after q port e = record { before = []; spoken = []; prefix = []; commands = sym e; snapshots = refl; took = refl; acked = refl; shows = refl }
@@ -23,20 +26,25 @@ pub size_fits : (q : List Command) (capture : Capture) → prefix_size q capture
 size_fits [] capture = omega arith
 size_fits (c ∷ cs) capture = size_by (stops_at c capture) (reply_with c capture) (transcript cs [])
 
-pub place_of : {K : Type 0} (a : Shell) (k : K) (n : ℕ) → CanSupply {A = Shell} {K = K} (λ j. shell_spec) (λ b j p. ShellRepresents b p) a k n → a.at ≤ prefix_size a.queue a.capture
+pub place_of : {K : Type 0} (a : Shell) (k : K) (n : ℕ) → CanSupply {A = Shell} {K = K} (λ j. shell_spec) (λ b j p. ShellRepresents b p) a k
+    n → a.at ≤ prefix_size a.queue a.capture
 place_of a k n can = ∥∥₁_elim can le_prop (λ c. place_fits a.queue a.capture a.at c.1.place)
 
-pub place_in : {K : Type 0} (a : Shell) (k : K) → IsRepresented {A = Shell} {K = K} (λ b j p. ShellRepresents b p) a k → a.at ≤ length (replies_left a.queue a.capture)
+pub place_in : {K : Type 0} (a : Shell) (k : K) → IsRepresented {A = Shell} {K = K} (λ b j p. ShellRepresents b p) a k
+    → a.at ≤ length (replies_left a.queue a.capture)
 place_in a k has = ∥∥₁_elim has le_prop (λ c. omega (arith, place_fits a.queue a.capture a.at c.1.place, size_fits a.queue a.capture))
 
-pub room : {K : Type 0} (a : Shell) (k : K) (n : ℕ) → CanSupply {A = Shell} {K = K} (λ j. shell_spec) (λ b j p. ShellRepresents b p) a k n → a.at + n ≤ length (replies_left a.queue a.capture)
+pub room : {K : Type 0} (a : Shell) (k : K) (n : ℕ) → CanSupply {A = Shell} {K = K} (λ j. shell_spec) (λ b j p. ShellRepresents b p) a k n
+    → a.at + n ≤ length (replies_left a.queue a.capture)
 room a k n can =
     let fits = place_of a k n can in
     ∥∥₁_elim can le_prop (λ c.
-    let e : length (text_left shell_spec c.0) ≡ length (Rattle.std.proofs.Common.drop a.at (replies_left a.queue a.capture)) = ap (λ (xs : List ℕ). length xs) (left_of_value a c.0 c.1) in
+    let e : length (text_left shell_spec c.0) ≡ length (Rattle.std.proofs.Common.drop a.at (replies_left a.queue a.capture)) = ap
+    (λ (xs : List ℕ). length xs) (left_of_value a c.0 c.1) in
     omega (arith, c.2, e, length-drop a.at (replies_left a.queue a.capture), fits, size_fits a.queue a.capture))
 
-pub acked_after : (q : List Command) (capture : Capture) (at n : ℕ) (p : AppState) → IsTrailing q capture at p → IsTrailing q capture (at + n) (record p { acked = p.acked + n; polls = 0 })
+pub acked_after : (q : List Command) (capture : Capture) (at n : ℕ) (p : AppState) → IsTrailing q capture at p
+    → IsTrailing q capture (at + n) (record p { acked = p.acked + n; polls = 0 })
 acked_after q capture at n p b = record {
   before = b.before;
   spoken = b.spoken;

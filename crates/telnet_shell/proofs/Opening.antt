@@ -1,5 +1,7 @@
 -- One more byte: what is open after it, and the commands that it completes.
-use Rattle.telnet_shell.proofs.Prelude.{◌≡◌, ℕ, Bool, true, false, List, [], ◌∷◌, ◌++◌, ◌==◌, if◌then◌else◌, refl, sym, ap, subst, ◌∙◌, append-nil, Awaits, Token, tokens, tokens_at, next_awaits, awaits_after, commands, line_after, all_commands, Text, Byte, Answer, IsLine, IsOpen, awaited, tokens_joined, commands_joined}
+use Rattle.telnet_shell.proofs.Prelude.{◌≡◌, ℕ, Bool, true, false, List, [], ◌∷◌, ◌++◌, ◌==◌, if◌then◌else◌, refl, sym, ap, subst, ◌∙◌}
+use Rattle.telnet_shell.proofs.Prelude.{append-nil, Awaits, Token, tokens, tokens_at, next_awaits, awaits_after, commands, line_after}
+use Rattle.telnet_shell.proofs.Prelude.{all_commands, Text, Byte, Answer, IsLine, IsOpen, awaited, tokens_joined, commands_joined}
 
 pub awaits_one : (awaits : Awaits) (xs : List ℕ) (byte : ℕ) → awaits_after awaits (xs ++ byte ∷ []) ≡ next_awaits (awaits_after awaits xs) byte
 awaits_one awaits [] byte = refl
@@ -37,6 +39,8 @@ goes_on kept kept' over over' iac iac' delivered byte ts next reported_is keeps 
     }
 
 -- all commands after one more byte
-pub commands_one : (delivered : List ℕ) (byte : ℕ) → all_commands (delivered ++ byte ∷ []) ≡ all_commands delivered ++ commands (line_after [] (tokens Text delivered)) (tokens_at (awaits_after Text delivered) byte)
+pub commands_one : (delivered : List ℕ) (byte : ℕ) → all_commands (delivered ++ byte ∷ []) ≡ all_commands delivered
+    ++ commands (line_after [] (tokens Text delivered)) (tokens_at (awaits_after Text delivered) byte)
 commands_one delivered byte =
-    ap (λ (ts : List Token). commands [] ts) (tokens_one delivered byte) ∙ commands_joined [] (tokens Text delivered) (tokens_at (awaits_after Text delivered) byte)
+    ap (λ (ts : List Token). commands [] ts) (tokens_one delivered byte) ∙ commands_joined [] (tokens Text delivered)
+    (tokens_at (awaits_after Text delivered) byte)

@@ -1,5 +1,6 @@
 -- The table of the protocol's sequences.
-use Rattle.telnet_shell.proofs.Prelude.{◌≡◌, ℕ, ◌<◌, ◌&&◌, ◌++◌, Bool, nat_le, List, [], ◌∷◌, refl, ap, ◌∙◌, arith, if◌then◌else◌, ne_eqb, lt-leb, tokens, Text, Second, Choice, Byte, ReadsSequences}
+use Rattle.telnet_shell.proofs.Prelude.{◌≡◌, ℕ, ◌<◌, ◌&&◌, ◌++◌, Bool, nat_le, List, [], ◌∷◌, refl, ap, ◌∙◌, arith, if◌then◌else◌, ne_eqb}
+use Rattle.telnet_shell.proofs.Prelude.{lt-leb, tokens, Text, Second, Choice, Byte, ReadsSequences}
 
 -- after 255, a byte that is neither 255 nor a verb
 plain_second : (x : ℕ) (rest : List ℕ) → x < 251 → tokens Second (x ∷ rest) ≡ tokens Text rest

@@ -1,5 +1,11 @@
 -- The shell sends bytes if it receives bytes.
-use Rattle.telnet_shell.proofs.Prelude.{All, codes, bytes_eq, ℕ, ◌==◌, List, [], ◌∷◌, ◌++◌, refl, sym, subst, lit<, All-append, All-cons, All-head, All-nil, All-tail, capture_of, capture_text, Capture, Empty, capture_bytes, either_bytes, literal_bytes, IsByte, AppState, Snapshot, choose, SendsBytes, IAC, WILL, DO, Command, Refuse, Help, Stats, Conns, Ticks, Quit, Blank, Other, Awaits, Token, all_commands, command_of, commands, commands_in, is_quit, next_awaits, tokens_at, tokens, until_quit, Text, Second, Choice, Byte, Answer, is_stopped, shell_spec, take_capture, DeliversPrefix, function_of, needs_capture, sent_at, plain_reply, reply_with, transcript}
+use Rattle.telnet_shell.proofs.Prelude.{All, codes, bytes_eq, ℕ, ◌==◌, List, [], ◌∷◌, ◌++◌, refl, sym, subst, lit<, All-append, All-cons}
+use Rattle.telnet_shell.proofs.Prelude.{All-head, All-nil, All-tail, capture_of, capture_text, Capture, Empty, capture_bytes, either_bytes}
+use Rattle.telnet_shell.proofs.Prelude.{literal_bytes, IsByte, AppState, Snapshot, choose, SendsBytes, IAC, WILL, DO, Command, Refuse, Help}
+use Rattle.telnet_shell.proofs.Prelude.{Stats, Conns, Ticks, Quit, Blank, Other, Awaits, Token, all_commands, command_of, commands}
+use Rattle.telnet_shell.proofs.Prelude.{commands_in, is_quit, next_awaits, tokens_at, tokens, until_quit, Text, Second, Choice, Byte}
+use Rattle.telnet_shell.proofs.Prelude.{Answer, is_stopped, shell_spec, take_capture, DeliversPrefix, function_of, needs_capture, sent_at}
+use Rattle.telnet_shell.proofs.Prelude.{plain_reply, reply_with, transcript}
 use Rattle.telnet_shell.proofs.SessionLaws.{keeps_session}
 
 -- ---- what is received: an offer is refused with bytes
@@ -98,7 +104,8 @@ received_bytes p q piece f h are =
 
 pub shell_bytes : SendsBytes shell_spec
 shell_bytes = record {
-  output = λ p h k. transcript_bytes (commands_in p.input) p.snapshots (until_bytes (all_commands p.input) (commands_bytes [] (tokens Text p.input) (tokens_bytes Text p.input h)));
+  output = λ p h k. transcript_bytes (commands_in p.input) p.snapshots
+      (until_bytes (all_commands p.input) (commands_bytes [] (tokens Text p.input) (tokens_bytes Text p.input h)));
   connected = λ numbers port. All-nil IsByte;
   newdata = λ numbers p piece h are. received_bytes p (shell_spec.newdata numbers p piece).part piece (keeps_session.delivers_text numbers p piece) h are;
   prepare = λ numbers p now h. choose (λ (q : AppState). All IsByte q.input) (is_stopped p) (take_capture numbers p now) p (λ e. h) (λ e. h);

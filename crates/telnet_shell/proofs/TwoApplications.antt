@@ -1,5 +1,7 @@
 -- What the desk is at each of its ports.
-use Rattle.telnet_shell.proofs.Prelude.{◌≡◌, ℕ, ◌==◌, true, false, List, refl, sym, ap, ◌∙◌, true≢false, WEB_PORT, AppState, AppSpec, File, SiteContent, web_spec, TELNET_PORT, Desk, shell_spec, app_spec_at, desk_spec, DeskRepresents, at_web, at_shell, StaysAtPort, port_at, DoesAs, IsAtWeb, IsAtShell, IsTwoApplications}
+use Rattle.telnet_shell.proofs.Prelude.{◌≡◌, ℕ, ◌==◌, true, false, List, refl, sym, ap, ◌∙◌, true≢false, WEB_PORT, AppState, AppSpec, File}
+use Rattle.telnet_shell.proofs.Prelude.{SiteContent, web_spec, TELNET_PORT, Desk, shell_spec, app_spec_at, desk_spec, DeskRepresents}
+use Rattle.telnet_shell.proofs.Prelude.{at_web, at_shell, StaysAtPort, port_at, DoesAs, IsAtWeb, IsAtShell, IsTwoApplications}
 use Rattle.telnet_shell.specs.declared.desk.Desk.TheVariants as desk
 
 is_web_port : (port : ℕ) → port ≡ WEB_PORT → (port == TELNET_PORT) ≡ false

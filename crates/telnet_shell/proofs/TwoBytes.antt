@@ -1,5 +1,6 @@
 -- The desk sends bytes, if its pages are bytes and it receives bytes.
-use Rattle.telnet_shell.proofs.Prelude.{ℕ, ◌==◌, Bool, true, false, List, if◌then◌else◌, File, web_spec, SendsBytes, TELNET_PORT, desk_spec, app_spec_at, shell_spec}
+use Rattle.telnet_shell.proofs.Prelude.{ℕ, ◌==◌, Bool, true, false, List, if◌then◌else◌, File, web_spec, SendsBytes, TELNET_PORT, desk_spec}
+use Rattle.telnet_shell.proofs.Prelude.{app_spec_at, shell_spec}
 use Rattle.telnet_shell.proofs.SessionBytes.{shell_bytes}
 
 module _ (files : List File) (pages : SendsBytes (web_spec files)) where

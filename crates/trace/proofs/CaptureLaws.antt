@@ -1,5 +1,9 @@
 -- A capture file that continues: with further bytes, and with a further record.
-use Rattle.trace.proofs.Prelude.{◌≡◌, ℕ, zero, suc, ◌+◌, ◌<◌, ◌≤◌, List, [], ◌∷◌, ◌++◌, length, take, drop, refl, sym, ap, ◌∙◌, append-nil, append_assoc, arith, length-drop, inl, inr, get_or_append_left, length-take-le, take-append-drop, take-append-le, flat_map-append, cases_lt, take-length, AllByRecursion, flat_map, LARGEST_DATAGRAM, BeginsWith, Captured, IsCaptured, IsReadAs, Reading, captured_in, captured_bytes, length_in, line_text, lines_of, BadLength, InRecord, Whole, ByteOrder, Big, Little}
+use Rattle.trace.proofs.Prelude.{◌≡◌, ℕ, zero, suc, ◌+◌, ◌<◌, ◌≤◌, List, [], ◌∷◌, ◌++◌, length, take, drop, refl, sym, ap, ◌∙◌, append-nil}
+use Rattle.trace.proofs.Prelude.{append_assoc, arith, length-drop, inl, inr, get_or_append_left, length-take-le, take-append-drop}
+use Rattle.trace.proofs.Prelude.{take-append-le, flat_map-append, cases_lt, take-length, AllByRecursion, flat_map, LARGEST_DATAGRAM}
+use Rattle.trace.proofs.Prelude.{BeginsWith, Captured, IsCaptured, IsReadAs, Reading, captured_in, captured_bytes, length_in, line_text}
+use Rattle.trace.proofs.Prelude.{lines_of, BadLength, InRecord, Whole, ByteOrder, Big, Little}
 
 -- the line of a record
 abbrev pub captured_line : Captured → List ℕ
@@ -25,7 +29,8 @@ all_more P [] x all p = (p, tt)
 all_more P (y ∷ xs) x all p = (all.0, all_more P xs x all.1 p)
 
 -- further bytes
-pub more_rest : (order : ByteOrder) (records : List Captured) (rest bytes more : List ℕ) → BeginsWith order records rest bytes → BeginsWith order records (rest ++ more) (bytes ++ more)
+pub more_rest : (order : ByteOrder) (records : List Captured) (rest bytes more : List ℕ) → BeginsWith order records rest bytes
+    → BeginsWith order records (rest ++ more) (bytes ++ more)
 more_rest order records rest bytes more b = record {
   header = b.header;
   size = b.size;
@@ -35,7 +40,8 @@ more_rest order records rest bytes more b = record {
 }
 
 -- a further record
-pub one_more : (order : ByteOrder) (records : List Captured) (rest rest' bytes : List ℕ) (captured : Captured) → BeginsWith order records rest bytes → IsCaptured order captured
+pub one_more : (order : ByteOrder) (records : List Captured) (rest rest' bytes : List ℕ) (captured : Captured)
+    → BeginsWith order records rest bytes → IsCaptured order captured
     → rest ≡ captured_bytes captured ++ rest' → BeginsWith order (records ++ captured ∷ []) rest' bytes
 one_more order records rest rest' bytes captured b is e =
     let all = flat_map captured_bytes records in
@@ -81,7 +87,8 @@ pub record ReadsOn (records : List Captured) (bytes : List ℕ) : Type 0 where
   pub first : captured_in reading ≡ records ++ more
 
 -- all bytes after records have some reading
-pub reads_on : (fuel : ℕ) (order : ByteOrder) (records : List Captured) (rest bytes : List ℕ) → length rest < fuel → BeginsWith order records rest bytes → ReadsOn records bytes
+pub reads_on : (fuel : ℕ) (order : ByteOrder) (records : List Captured) (rest bytes : List ℕ) → length rest < fuel
+    → BeginsWith order records rest bytes → ReadsOn records bytes
 reads_on zero order records rest bytes h b = absurd (omega arith)
 reads_on (suc fuel) order records [] bytes h b =
     record { reading = Whole records; read = (order, b); more = []; first = sym (append-nil records) }
@@ -96,7 +103,12 @@ reads_on (suc fuel) order records (r ∷ rest) bytes h b =
         first = sym (append-nil records);
       }
       | inr head ↦ elim (cases_lt LARGEST_DATAGRAM size) as (λ _. ReadsOn records bytes) [
-        | inl long ↦ record { reading = BadLength records; read = (order, all, b, record { head = head; long = long }); more = []; first = sym (append-nil records) }
+        | inl long ↦ record {
+          reading = BadLength records;
+          read = (order, all, b, record { head = head; long = long });
+          more = [];
+          first = sym (append-nil records);
+        }
         | inr fits ↦ elim (cases_lt (length all) (16 + size)) as (λ _. ReadsOn records bytes) [
           | inl short ↦ record {
             reading = InRecord records;

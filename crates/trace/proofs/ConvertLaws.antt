@@ -1,5 +1,10 @@
 -- How the reading of a capture file ends.
-use Rattle.trace.proofs.Prelude.{◌≡◌, ℕ, ◌<◌, ◌≤◌, List, [], ◌∷◌, ◌++◌, Option, Some, None, length, map, take, refl, sym, ap, ◌∙◌, append-nil, arith, subst, Appends, Consumes, bytes_among, EndsBy, Item, Byte, Quiet, ServeEnd, breaks_prefix, bytes_among-append, bytes_among-map, LineView, IsCalm, SinkView, Captured, IsReadAs, Reading, cut_in, captured_in, fault_in, lines_of, BadHeader, BadLength, InRecord, InHeader, Whole, Converts, HasNewFault, IsFoundSoon, SlipEndsBy, WroteLine, IsReadTo, IsOpen, IsReadSound, StopBy, Stopped, StopsAt, end_at, EndsRead, StopsRead, Stop, CaptureWhy, SlipEnd, Stage}
+use Rattle.trace.proofs.Prelude.{◌≡◌, ℕ, ◌<◌, ◌≤◌, List, [], ◌∷◌, ◌++◌, Option, Some, None, length, map, take, refl, sym, ap, ◌∙◌}
+use Rattle.trace.proofs.Prelude.{append-nil, arith, subst, Appends, Consumes, bytes_among, EndsBy, Item, Byte, Quiet, ServeEnd}
+use Rattle.trace.proofs.Prelude.{breaks_prefix, bytes_among-append, bytes_among-map, LineView, IsCalm, SinkView, Captured, IsReadAs}
+use Rattle.trace.proofs.Prelude.{Reading, cut_in, captured_in, fault_in, lines_of, BadHeader, BadLength, InRecord, InHeader, Whole}
+use Rattle.trace.proofs.Prelude.{Converts, HasNewFault, IsFoundSoon, SlipEndsBy, WroteLine, IsReadTo, IsOpen, IsReadSound, StopBy, Stopped}
+use Rattle.trace.proofs.Prelude.{StopsAt, end_at, EndsRead, StopsRead, Stop, CaptureWhy, SlipEnd, Stage}
 use Rattle.trace.specs.declared.reader.Reader.{Reader}
 use Rattle.uip_edge.specs.declared.serve_end.ServeEnd.TheVariants as line
 use Rattle.trace.specs.contracts.reader.ReaderLineReader.TheImpl.{ghosts}
@@ -61,7 +66,8 @@ sound_at start now bytes (stages.Body order) number part want at is =
     }
 
 -- a silence has no effect
-pub silence_read : (start now : Option (List ℕ)) (before : List Item) (stage : Stage) (number : ℕ) (part : List ℕ) → IsReadTo start now (bytes_among before) stage number part
+pub silence_read : (start now : Option (List ℕ)) (before : List Item) (stage : Stage) (number : ℕ) (part : List ℕ)
+    → IsReadTo start now (bytes_among before) stage number part
     → IsReadTo start now (bytes_among (before ++ Quiet ∷ [])) stage number part
 silence_read start now before stage number part at =
     subst (λ (l : List ℕ). IsReadTo start now l stage number part) (sym (bytes_among-append before (Quiet ∷ []) ∙ append-nil (bytes_among before))) at
@@ -75,13 +81,16 @@ pub grown : (start now : Option (List ℕ)) (before : List Item) (bytes : List �
     → IsReadTo start now (bytes_among before) stage number part → IsReadTo start now (bytes_among (before ++ map Byte bytes)) stage number part'
 grown start now before bytes stage number part part' e at =
     subst (λ (l : List ℕ). IsReadTo start now l stage number part') (bytes_on before bytes)
-    (subst (λ (l : List ℕ). IsReadTo start now (bytes_among before ++ bytes) stage number l) (sym e) (part_grows start now (bytes_among before) bytes stage number part at))
+    (subst (λ (l : List ℕ). IsReadTo start now (bytes_among before ++ bytes) stage number l) (sym e)
+    (part_grows start now (bytes_among before) bytes stage number part at))
 
 -- and the reading stopped at it
-pub stopped_prefix : (stop : Stop) (old : Option (List ℕ)) (faults : ℕ) (new : SinkView) (n : ℕ) (bytes : List ℕ) (stage : Stage) (number number' : ℕ) (part part' : List ℕ) (want : ℕ)
+pub stopped_prefix : (stop : Stop) (old : Option (List ℕ)) (faults : ℕ) (new : SinkView) (n : ℕ) (bytes : List ℕ) (stage : Stage)
+    (number number' : ℕ) (part part' : List ℕ) (want : ℕ)
     → IsOpen stage part want → part' ≡ part ++ take n bytes → StopBy stop faults new.faults
     → ((start : Option (List ℕ)) (fed more : List ℕ) → IsReadTo start old fed stage number part' → StopsAt stop start new.written (fed ++ more) number')
-    → (start : Option (List ℕ)) (before : List Item) → IsReadTo start old (bytes_among before) stage number part → Stopped stop start before bytes faults new number'
+    → (start : Option (List ℕ)) (before : List Item) → IsReadTo start old (bytes_among before) stage number part
+    → Stopped stop start before bytes faults new number'
 stopped_prefix stop old faults new n bytes stage number number' part part' want is e by f = λ start before at.
     let s = sound_at start old (bytes_among before) stage number part want at is in
     record {

@@ -1,5 +1,6 @@
 -- A reader of a line that stopped among bytes.
-use Rattle.trace.proofs.Prelude.{◌≡◌, ℕ, ◌+◌, ◌≤◌, List, ◌++◌, length, map, sym, ap, ◌∙◌, append_assoc, arith, length-append, subst, length-map, map-append, Consumes, Consumes-then, IsCalm, LineView, Item, Byte, StopsAmong, StopsRead}
+use Rattle.trace.proofs.Prelude.{◌≡◌, ℕ, ◌+◌, ◌≤◌, List, ◌++◌, length, map, sym, ap, ◌∙◌, append_assoc, arith, length-append, subst}
+use Rattle.trace.proofs.Prelude.{length-map, map-append, Consumes, Consumes-then, IsCalm, LineView, Item, Byte, StopsAmong, StopsRead}
 use Rattle.trace.specs.declared.line_reader.LineReader.{Ghosts}
 
 pub stops_read : {R S : Type 0} (g : Ghosts R S) (k : g.Config) (n : ℕ) (taken : List Item) (bytes : List ℕ) (old mid new : LineView) (reader : R) (stop : S)

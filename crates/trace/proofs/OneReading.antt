@@ -1,5 +1,9 @@
 -- The bytes of a capture file have one reading.
-use Rattle.trace.proofs.Prelude.{◌≡◌, ℕ, ◌+◌, ◌<◌, ◌≤◌, Bool, true, false, ◌&&◌, leb, ltb, if◌then◌else◌, List, [], ◌∷◌, ◌++◌, Some, None, length, take, drop, refl, sym, ap, ◌∙◌, append_assoc, arith, length-append, subst, le-leb, leb-true, lt-ltb, ltb-true, drop-append_seam, AllByRecursion, flat_map, LARGEST_DATAGRAM, BeginsWith, Captured, IsCaptured, IsCutRecord, IsReadAs, HasLongRecord, Reading, captured_bytes, length_in, order_of, BadHeader, BadLength, InRecord, InHeader, Whole, ByteOrder}
+use Rattle.trace.proofs.Prelude.{◌≡◌, ℕ, ◌+◌, ◌<◌, ◌≤◌, Bool, true, false, ◌&&◌, leb, ltb, if◌then◌else◌, List, [], ◌∷◌, ◌++◌, Some, None}
+use Rattle.trace.proofs.Prelude.{length, take, drop, refl, sym, ap, ◌∙◌, append_assoc, arith, length-append, subst, le-leb, leb-true}
+use Rattle.trace.proofs.Prelude.{lt-ltb, ltb-true, drop-append_seam, AllByRecursion, flat_map, LARGEST_DATAGRAM, BeginsWith, Captured}
+use Rattle.trace.proofs.Prelude.{IsCaptured, IsCutRecord, IsReadAs, HasLongRecord, Reading, captured_bytes, length_in, order_of, BadHeader}
+use Rattle.trace.proofs.Prelude.{BadLength, InRecord, InHeader, Whole, ByteOrder}
 use Rattle.trace.proofs.CaptureLaws.{prefix_of, length_in-append}
 
 -- two prefixes of one length
@@ -49,7 +53,8 @@ same_captured : (e f : Captured) → e.head ≡ f.head → e.body ≡ f.body →
 same_captured e f h b = ap (λ l. record { head = l; body = e.body }) h ∙ ap (λ l. record { head = f.head; body = l }) b
 
 -- the records are the same, and so is what follows them
-pub same_records : (order : ByteOrder) (es fs : List Captured) (rest rest' : List ℕ) → AllByRecursion (IsCaptured order) es → AllByRecursion (IsCaptured order) fs
+pub same_records : (order : ByteOrder) (es fs : List Captured) (rest rest' : List ℕ) → AllByRecursion (IsCaptured order) es
+    → AllByRecursion (IsCaptured order) fs
     → HasNone order rest → HasNone order rest' → flat_map captured_bytes es ++ rest ≡ flat_map captured_bytes fs ++ rest' → (es ≡ fs) × (rest ≡ rest')
 same_records order [] [] rest rest' a b n m e = (refl, e)
 same_records order [] (f ∷ fs) rest rest' a b n m e =
@@ -83,7 +88,8 @@ pub record Representing (bytes : List ℕ) (reading : Reading) : Type 0 where
   pub kind : reading ≡ kind_of order records rest
 
 module _ (bytes : List ℕ) where
-  header_in : (order : ByteOrder) (records : List Captured) (rest : List ℕ) → BeginsWith order records rest bytes → (24 ≤ length bytes) × (order_of (take 24 bytes) ≡ Some order)
+  header_in : (order : ByteOrder) (records : List Captured) (rest : List ℕ) → BeginsWith order records rest bytes → (24 ≤ length bytes)
+      × (order_of (take 24 bytes) ≡ Some order)
   header_in order records rest b =
       let all = flat_map captured_bytes records ++ rest in
       let same : bytes ≡ b.header ++ all = b.spelled ∙ append_assoc b.header (flat_map captured_bytes records) rest in
@@ -101,11 +107,13 @@ module _ (bytes : List ℕ) where
       let all = flat_map captured_bytes s.records ++ s.rest in
       let all' = flat_map captured_bytes t.records ++ t.rest in
       let rests = equal_prefix a.header b.header all all' (a.size ∙ sym b.size)
-      (sym (append_assoc a.header (flat_map captured_bytes s.records) s.rest) ∙ sym a.spelled ∙ b.spelled ∙ append_assoc b.header (flat_map captured_bytes t.records) t.rest) in
+      (sym (append_assoc a.header (flat_map captured_bytes s.records) s.rest) ∙ sym a.spelled ∙ b.spelled
+      ∙ append_assoc b.header (flat_map captured_bytes t.records) t.rest) in
       let same = same_records t.order s.records t.records s.rest t.rest
       (subst (λ (o : ByteOrder). AllByRecursion (IsCaptured o) s.records) orders a.sound) b.sound
       (subst (λ (o : ByteOrder). HasNone o s.rest) orders s.none) t.none rests.1 in
-      s.kind ∙ ap (λ o. kind_of o s.records s.rest) orders ∙ ap (λ l. kind_of t.order l s.rest) same.0 ∙ ap (λ l. kind_of t.order t.records l) same.1 ∙ sym t.kind
+      s.kind ∙ ap (λ o. kind_of o s.records s.rest) orders ∙ ap (λ l. kind_of t.order l s.rest) same.0
+      ∙ ap (λ l. kind_of t.order t.records l) same.1 ∙ sym t.kind
 
 and_true : (a b : Bool) → (a && b) ≡ true → (a ≡ true) × (b ≡ true)
 and_true true b e = (refl, e)
@@ -115,7 +123,8 @@ if_not : (b : Bool) (x y : Reading) → (b ≡ true → ⊥) → y ≡ (if b the
 if_not true x y never = absurd (never refl)
 if_not false x y never = refl
 
-in_record : (order : ByteOrder) (records : List Captured) (rest : List ℕ) → 0 < length rest → IsCutRecord order rest → InRecord records ≡ kind_of order records rest
+in_record : (order : ByteOrder) (records : List Captured) (rest : List ℕ) → 0 < length rest → IsCutRecord order rest
+    → InRecord records ≡ kind_of order records rest
 in_record order records [] some part = absurd (omega arith)
 in_record order records (b ∷ rest) some part =
     let all = b ∷ rest in
@@ -139,7 +148,8 @@ data Case (bytes : List ℕ) (reading : Reading) : Type 0 where
   Bad : 24 ≤ length bytes → order_of (take 24 bytes) ≡ None → reading ≡ BadHeader → Case bytes reading
   Good : Representing bytes reading → Case bytes reading
 
-good : (bytes : List ℕ) (reading : Reading) (order : ByteOrder) (records : List Captured) (rest : List ℕ) → BeginsWith order records rest bytes → HasNone order rest
+good : (bytes : List ℕ) (reading : Reading) (order : ByteOrder) (records : List Captured) (rest : List ℕ)
+    → BeginsWith order records rest bytes → HasNone order rest
     → reading ≡ kind_of order records rest → Case bytes reading
 good bytes reading order records rest begins none kind =
     Good (record { order = order; records = records; rest = rest; begins = begins; none = none; kind = kind })

@@ -1,5 +1,9 @@
 -- The frames of bytes that a decoder consumed, and what is written of them.
-use Rattle.trace.proofs.Prelude.{◌≡◌, ℕ, ◌+◌, List, [], ◌∷◌, ◌++◌, Option, Result, Ok, Err, IfErr, length, map, take, drop, refl, sym, ap, ◌∙◌, append-nil, arith, length-append, subst, length-map, map-append, take-append-drop, Appends, Rose, SinkView, BreaksOff, breaks_by, breaks_then, breaks_whole, Appends-none, Appends-then, appends_by, bytes_among-append, bytes_among-map, Item, Byte, Quiet, State, WasFed, Frame, frames, seen_at, seen_after, seen_on, silences_of, BrokeWatch, HasSeen, IsWatched, Saw, text_after, texts_from, Form, bytes_among}
+use Rattle.trace.proofs.Prelude.{◌≡◌, ℕ, ◌+◌, List, [], ◌∷◌, ◌++◌, Option, Result, Ok, Err, IfErr, length, map, take, drop, refl, sym, ap}
+use Rattle.trace.proofs.Prelude.{◌∙◌, append-nil, arith, length-append, subst, length-map, map-append, take-append-drop, Appends, Rose}
+use Rattle.trace.proofs.Prelude.{SinkView, BreaksOff, breaks_by, breaks_then, breaks_whole, Appends-none, Appends-then, appends_by}
+use Rattle.trace.proofs.Prelude.{bytes_among-append, bytes_among-map, Item, Byte, Quiet, State, WasFed, Frame, frames, seen_at, seen_after}
+use Rattle.trace.proofs.Prelude.{seen_on, silences_of, BrokeWatch, HasSeen, IsWatched, Saw, text_after, texts_from, Form, bytes_among}
 use Rattle.trace.specs.declared.watch.Watch.{Watch}
 use Rattle.trace.proofs.SeenLaws.{seen-reported, seen_on-append, silences-append, silences-bytes, text-then}
 
@@ -10,7 +14,8 @@ if_err (Err e) p = p
 
 -- what a decoder reports of these bytes, whatever it was fed before
 abbrev pub Reported : State → State → List ℕ → List Frame → Type 0
-Reported decoder decoder' bytes reported = (fed : List ℕ) → WasFed fed decoder → WasFed (fed ++ bytes) decoder' × (frames (fed ++ bytes) ≡ frames fed ++ reported)
+Reported decoder decoder' bytes reported = (fed : List ℕ) → WasFed fed decoder → WasFed (fed ++ bytes) decoder'
+    × (frames (fed ++ bytes) ≡ frames fed ++ reported)
 
 module _ (decoder decoder' : State) (count silences : ℕ) (bytes : List ℕ) (reported : List Frame) (fed : Reported decoder decoder' bytes reported) where
   brought : (before : List Item) → HasSeen before decoder count silences
@@ -19,7 +24,8 @@ module _ (decoder decoder' : State) (count silences : ℕ) (bytes : List ℕ) (r
       seen-reported (bytes_among before) (silences_of before) bytes reported (fed (bytes_among before) h.fed).1
       ∙ ap (λ n. map (seen_at n) reported) (sym h.waited)
 
-  pub prefix_seen : (before : List Item) → HasSeen before decoder count silences → HasSeen (before ++ map Byte bytes) decoder' (count + length reported) silences
+  pub prefix_seen : (before : List Item) → HasSeen before decoder count silences → HasSeen (before ++ map Byte bytes) decoder'
+      (count + length reported) silences
   prefix_seen before h =
       let line : bytes_among (before ++ map Byte bytes) ≡ bytes_among before ++ bytes =
       bytes_among-append before (map Byte bytes) ∙ ap (λ l. bytes_among before ++ l) (bytes_among-map bytes) in
@@ -48,7 +54,8 @@ broke_in_more form before n bytes a b p =
     (ap (λ l. text_after form before l) whole ∙ text-then form before first rest) p
 
 -- what was written of a frame broke off
-pub prefix_broke : (decoder decoder' : State) (count silences n : ℕ) (bytes : List ℕ) (reported : List Frame) → Reported decoder decoder' (take n bytes) reported
+pub prefix_broke : (decoder decoder' : State) (count silences n : ℕ) (bytes : List ℕ) (reported : List Frame)
+    → Reported decoder decoder' (take n bytes) reported
     → (form : Form) (area : List ℕ) (a b : Option (List ℕ)) → area ≡ texts_from form (count + 1) (map (seen_at silences) reported) → BreaksOff [] area a b
     → (before : List Item) → HasSeen before decoder count silences → BreaksOff [] (text_after form before (map Byte bytes)) a b
 prefix_broke decoder decoder' count silences n bytes reported fed form area a b e p = λ before h.

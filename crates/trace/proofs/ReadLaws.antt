@@ -1,5 +1,10 @@
 -- What the reader of a capture file knows, one step after another.
-use Rattle.trace.proofs.Prelude.{◌≡◌, ℕ, ◌+◌, ◌-◌, ◌<◌, ◌≤◌, List, [], ◌∷◌, ◌++◌, Option, Some, None, length, take, drop, refl, sym, ap, ◌∙◌, append-nil, append_assoc, arith, length-append, length-drop, subst, length-take-le, take-append-drop, take_rest, flat_map-append, Appends, Appends-then, appends_by, prefix_by, prefix_more, prefix_then, AppendsPrefix, slip_text, LARGEST_DATAGRAM, BeginsWith, Captured, IsCaptured, captured_in, length_in, line_text, lines_of, order_of, BadHeader, BadLength, BrokeOff, IsReadTo, IsAtFault, StopsAt, ByteOrder, Stop, Stage}
+use Rattle.trace.proofs.Prelude.{◌≡◌, ℕ, ◌+◌, ◌-◌, ◌<◌, ◌≤◌, List, [], ◌∷◌, ◌++◌, Option, Some, None, length, take, drop, refl, sym, ap}
+use Rattle.trace.proofs.Prelude.{◌∙◌, append-nil, append_assoc, arith, length-append, length-drop, subst, length-take-le, take-append-drop}
+use Rattle.trace.proofs.Prelude.{take_rest, flat_map-append, Appends, Appends-then, appends_by, prefix_by, prefix_more, prefix_then}
+use Rattle.trace.proofs.Prelude.{AppendsPrefix, slip_text, LARGEST_DATAGRAM, BeginsWith, Captured, IsCaptured, captured_in, length_in}
+use Rattle.trace.proofs.Prelude.{line_text, lines_of, order_of, BadHeader, BadLength, BrokeOff, IsReadTo, IsAtFault, StopsAt, ByteOrder}
+use Rattle.trace.proofs.Prelude.{Stop, Stage}
 use Rattle.trace.specs.declared.slip_end.CaptureWhy.TheVariants as whys
 use Rattle.trace.specs.declared.stage.Stage.TheVariants as stages
 use Rattle.trace.proofs.CaptureLaws.{captured_line, prefix_of, length_in-append, lines-more, more_rest, one_more, reads_on}
@@ -121,7 +126,8 @@ module _ (start old new : Option (List ℕ)) (bytes : List ℕ) (number : ℕ) (
       }
 
 -- the writing of its line broke off, whatever was read before
-pub broke_all : (old new : Option (List ℕ)) (stage : Stage) (number : ℕ) (part text : List ℕ) (order : ByteOrder) → IsBody order part → stage ≡ stages.Body order
+pub broke_all : (old new : Option (List ℕ)) (stage : Stage) (number : ℕ) (part text : List ℕ) (order : ByteOrder) → IsBody order part
+    → stage ≡ stages.Body order
     → text ≡ slip_text (drop 16 part) → AppendsPrefix old new text
     → (start : Option (List ℕ)) (bytes more : List ℕ) → IsReadTo start old bytes stage number part → BrokeOff start new (bytes ++ more)
 broke_all old new stage number part text order is here e w = λ start bytes more at.
@@ -147,4 +153,5 @@ stops_prefix stop old new n bytes stage number number' part part' e f = λ start
     subst (λ (l : List ℕ). StopsAt stop start new l number')
     (append_assoc before (take n bytes) (drop n bytes) ∙ ap (λ l. before ++ l) (take-append-drop n bytes))
     (f start (before ++ take n bytes) (drop n bytes)
-    (subst (λ (l : List ℕ). IsReadTo start old (before ++ take n bytes) stage number l) (sym e) (part_grows start old before (take n bytes) stage number part at)))
+    (subst (λ (l : List ℕ). IsReadTo start old (before ++ take n bytes) stage number l) (sym e)
+    (part_grows start old before (take n bytes) stage number part at)))

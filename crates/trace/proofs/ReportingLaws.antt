@@ -1,5 +1,7 @@
 -- What was reported of a line, under another name and after a header.
-use Rattle.trace.proofs.Prelude.{◌≡◌, ℕ, ◌<◌, List, [], ◌++◌, Option, length, length-append, append-nil, sym, ap, ◌∙◌, arith, subst, Appends, Consumes, TookAll, Appends-then, appends_by, prefix_by, prefix_then, Item, ServeEnd, ReportsLine, LineView, EndsBy, WrittenBy}
+use Rattle.trace.proofs.Prelude.{◌≡◌, ℕ, ◌<◌, List, [], ◌++◌, Option, length, length-append, append-nil, sym, ap, ◌∙◌, arith, subst}
+use Rattle.trace.proofs.Prelude.{Appends, Consumes, TookAll, Appends-then, appends_by, prefix_by, prefix_then, Item, ServeEnd, ReportsLine}
+use Rattle.trace.proofs.Prelude.{LineView, EndsBy, WrittenBy}
 use Rattle.uip_edge.specs.declared.serve_end.ServeEnd.TheVariants as ends
 
 -- the text was written whole, whatever the end
@@ -21,7 +23,8 @@ reported_by_name text text' n old new end same t =
       some = λ is. subst (λ (l : List ℕ). 0 < length l) (sym (same t.taken)) (t.some is);
     }
 
-headed : (head text whole : List ℕ) (a b c : Option (List ℕ)) (end : ServeEnd) → whole ≡ head ++ text → Appends a b head → WrittenBy end b c text → WrittenBy end a c whole
+headed : (head text whole : List ℕ) (a b c : Option (List ℕ)) (end : ServeEnd) → whole ≡ head ++ text → Appends a b head
+    → WrittenBy end b c text → WrittenBy end a c whole
 headed head text whole a b c ends.End e v w = appends_by a c _ _ e (Appends-then a b c head text v w)
 headed head text whole a b c ends.Budget e v w = appends_by a c _ _ e (Appends-then a b c head text v w)
 headed head text whole a b c ends.LinkFault e v w = appends_by a c _ _ e (Appends-then a b c head text v w)
@@ -35,7 +38,8 @@ ends_as n taken old mid new ends.LinkFault i l k t = (t.0, rw l at t.1, t.2 ∙ 
 ends_as n taken old mid new ends.WriteFault i l k t = (t.0, t.1 ∙ l, rw k at t.2)
 
 -- a head was written before
-pub reported_after : (head : List ℕ) (text text' : List Item → List ℕ) (n : ℕ) (old mid new : LineView) (end : ServeEnd) → ((items : List Item) → text' items ≡ head ++ text items)
+pub reported_after : (head : List ℕ) (text text' : List Item → List ℕ) (n : ℕ) (old mid new : LineView) (end : ServeEnd)
+    → ((items : List Item) → text' items ≡ head ++ text items)
     → mid.link.coming ≡ old.link.coming → mid.link.faults ≡ old.link.faults → mid.sink.faults ≡ old.sink.faults → Appends old.sink.written mid.sink.written head
     → ReportsLine text n mid new end → ReportsLine text' n old new end
 reported_after head text text' n old mid new end same i l k w t = record {

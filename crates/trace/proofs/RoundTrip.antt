@@ -1,5 +1,13 @@
 -- A capture file that was written of a line is read as the line's datagrams.
-use Rattle.trace.proofs.Prelude.{◌≡◌, ℕ, Bool, true, false, leb, if◌then◌else◌, ◌+◌, ◌*◌, ◌/◌, ◌%◌, ◌<◌, ◌≤◌, List, [], ◌∷◌, ◌++◌, Option, Some, None, length, map, refl, sym, ap, ◌∙◌, append-nil, arith, length-append, subst, Appends, AllByRecursion, flat_map, leb-true, length-map, map-append, take-append-le, flat_map-append, Consumes, bytes_among, TookAll, Item, Byte, Frame, Datagram, Overlong, all_but_last, frame_of, frames, parts, unescaped, slip_text, LARGEST_DATAGRAM, appends_by, bytes_among-append, bytes_among-map, taken_within, Captured, HoldsJust, IsCaptured, IsReadAs, Reading, cut_in, captured_in, captured_bytes, fault_in, lines_of, order_of, BadHeader, BadLength, InRecord, InHeader, Whole, capture_header, capture_file, datagrams_in, datagrams_on, frame_record, Converts, IsSurely, SlipEndsBy, end_by_cut, Seen, seen_on, Big, CaptureWhy, SlipEnd, LineView, LineUnfailed}
+use Rattle.trace.proofs.Prelude.{◌≡◌, ℕ, Bool, true, false, leb, if◌then◌else◌, ◌+◌, ◌*◌, ◌/◌, ◌%◌, ◌<◌, ◌≤◌, List, [], ◌∷◌, ◌++◌, Option}
+use Rattle.trace.proofs.Prelude.{Some, None, length, map, refl, sym, ap, ◌∙◌, append-nil, arith, length-append, subst, Appends}
+use Rattle.trace.proofs.Prelude.{AllByRecursion, flat_map, leb-true, length-map, map-append, take-append-le, flat_map-append, Consumes}
+use Rattle.trace.proofs.Prelude.{bytes_among, TookAll, Item, Byte, Frame, Datagram, Overlong, all_but_last, frame_of, frames, parts}
+use Rattle.trace.proofs.Prelude.{unescaped, slip_text, LARGEST_DATAGRAM, appends_by, bytes_among-append, bytes_among-map, taken_within}
+use Rattle.trace.proofs.Prelude.{Captured, HoldsJust, IsCaptured, IsReadAs, Reading, cut_in, captured_in, captured_bytes, fault_in}
+use Rattle.trace.proofs.Prelude.{lines_of, order_of, BadHeader, BadLength, InRecord, InHeader, Whole, capture_header, capture_file}
+use Rattle.trace.proofs.Prelude.{datagrams_in, datagrams_on, frame_record, Converts, IsSurely, SlipEndsBy, end_by_cut, Seen, seen_on, Big}
+use Rattle.trace.proofs.Prelude.{CaptureWhy, SlipEnd, LineView, LineUnfailed}
 use Rattle.uip_wire.specs.Prelude.{long_bytes}
 use Rattle.std.proofs.Math.Nat.{div-add-mod}
 use Rattle.trace.proofs.CaptureLaws.{captured_line, length_in-append, more_rest}
@@ -33,7 +41,8 @@ same_bad o one other p q = ap bad_end (same_fault o one other p q)
 
 -- the answer that must come where nothing failed
 module _ (n : ℕ) (old new : LineView) (taken : List Item) (reading : Reading) (calm : LineUnfailed old new) where
-  reported_bad : (end : SlipEnd) → SlipEndsBy n old new taken reading end → (number : ℕ) (why : CaptureWhy) → fault_in reading ≡ Some (number, why) → end ≡ ends.Bad number why
+  reported_bad : (end : SlipEnd) → SlipEndsBy n old new taken reading end → (number : ℕ) (why : CaptureWhy)
+      → fault_in reading ≡ Some (number, why) → end ≡ ends.Bad number why
   reported_bad ends.End by number why f = absurd (none_is_not _ by.1 f)
   reported_bad ends.Budget by number why f = absurd (none_is_not _ by.1 f)
   reported_bad ends.LinkFault by number why f = absurd (none_is_not _ by.1 f)
@@ -51,7 +60,8 @@ module _ (n : ℕ) (old new : LineView) (taken : List Item) (reading : Reading) 
   reported_budget (ends.Bad m whys.Head) by none all = absurd (none_is_not _ none by.2)
   reported_budget (ends.Bad m whys.Length) by none all = absurd (none_is_not _ none by.2)
 
-  reported_over : (end : SlipEnd) → SlipEndsBy n old new taken reading end → (all : List Item) → fault_in reading ≡ None → old.link.coming ≡ Some all → length all < n
+  reported_over : (end : SlipEnd) → SlipEndsBy n old new taken reading end → (all : List Item) → fault_in reading ≡ None
+      → old.link.coming ≡ Some all → length all < n
       → Consumes old.link.coming new.link.coming taken → end ≡ end_by_cut (cut_in reading)
   reported_over ends.End by all none reported short c = ap (λ o. end_by_cut o) (sym by.2)
   reported_over ends.Budget by all none reported short c = absurd (omega (arith, taken_within old.link.coming new.link.coming all taken reported c, by.0.0))
@@ -119,7 +129,8 @@ frame_sound silences Overlong fits = tt
 
 records_sound : (seen : List Seen) → AllByRecursion Fits (map frame_in seen) → AllByRecursion (IsCaptured Big) (flat_map seen_captured seen)
 records_sound [] all = tt
-records_sound (s ∷ seen) all = all_append (IsCaptured Big) (seen_captured s) (flat_map seen_captured seen) (frame_sound s.silences s.frame all.0) (records_sound seen all.1)
+records_sound (s ∷ seen) all = all_append (IsCaptured Big) (seen_captured s) (flat_map seen_captured seen)
+    (frame_sound s.silences s.frame all.0) (records_sound seen all.1)
 
 frame_spelled : (silences : ℕ) (frame : Frame) → frame_record silences frame ≡ flat_map captured_bytes (frame_captured silences frame)
 frame_spelled silences (Datagram bytes) = sym (append-nil (head_bytes silences bytes ++ bytes))
@@ -150,7 +161,8 @@ frame_line : (silences : ℕ) (frame : Frame) → Fits frame → flat_map captur
 frame_line silences (Datagram bytes) fits = ap (λ l. l ++ []) (line_some bytes fits.0)
 frame_line silences Overlong fits = refl
 
-lines_are : (seen : List Seen) → AllByRecursion Fits (map frame_in seen) → lines_of (flat_map seen_captured seen) ≡ flat_map slip_text (flat_map datagrams_in (map frame_in seen))
+lines_are : (seen : List Seen) → AllByRecursion Fits (map frame_in seen) → lines_of (flat_map seen_captured seen) ≡ flat_map slip_text
+    (flat_map datagrams_in (map frame_in seen))
 lines_are [] all = refl
 lines_are (s ∷ seen) all =
     flat_map-append captured_line (seen_captured s) (flat_map seen_captured seen)
@@ -188,7 +200,8 @@ module _ (items : List Item) where
   line_is = lines_are (seen_on items) all_fit ∙ ap (λ l. flat_map slip_text l) datagrams
 
 -- a fault stays whatever follows
-fault_stays : (bytes more : List ℕ) (reading : Reading) (fault : ℕ × CaptureWhy) → IsReadAs bytes reading → fault_in reading ≡ Some fault → IsReadAs (bytes ++ more) reading
+fault_stays : (bytes more : List ℕ) (reading : Reading) (fault : ℕ × CaptureWhy) → IsReadAs bytes reading → fault_in reading ≡ Some fault
+    → IsReadAs (bytes ++ more) reading
 fault_stays bytes more InHeader fault read e = absurd cc
 fault_stays bytes more BadHeader fault read e =
     (omega (arith, read.0, length-append bytes more), ap (λ l. order_of l) (take-append-le 24 bytes more read.0) ∙ read.1)
@@ -223,7 +236,8 @@ reported_all (Some all) text taken e t =
     let same : all ≡ map Byte text = cc in
     ap (λ l. bytes_among l) (sym t ∙ same) ∙ bytes_among-map text
 
-module _ (items : List Item) (n : ℕ) (old new : LineView) (reported : old.link.coming ≡ Some (map Byte (capture_file items))) (short : length (capture_file items) < n)
+module _ (items : List Item) (n : ℕ) (old new : LineView) (reported : old.link.coming ≡ Some (map Byte (capture_file items)))
+    (short : length (capture_file items) < n)
     (calm : LineUnfailed old new) where
   abbrev Back : SlipEnd → Type 0
   Back end = (end ≡ ends.End) × Appends old.sink.written new.sink.written (flat_map slip_text (datagrams_on items))
@@ -236,13 +250,15 @@ module _ (items : List Item) (n : ℕ) (old new : LineView) (reported : old.link
       one_reading (capture_file items) reading (Whole (records items))
       (subst (λ (l : List ℕ). IsReadAs l reading) (reported_all old.link.coming (capture_file items) taken reported all) read) (read_whole items)
 
-  no_fault : (reading : Reading) (taken : List Item) (fault : ℕ × CaptureWhy) → IsReadAs (bytes_among taken) reading → Consumes old.link.coming new.link.coming taken
+  no_fault : (reading : Reading) (taken : List Item) (fault : ℕ × CaptureWhy) → IsReadAs (bytes_among taken) reading
+      → Consumes old.link.coming new.link.coming taken
       → fault_in reading ≡ Some fault → ⊥
   no_fault reading taken fault read c e =
       let rest = reported_rest old.link.coming new.link.coming (capture_file items) taken reported c in
       let same : reading ≡ Whole (records items) =
       one_reading (capture_file items) reading (Whole (records items))
-      (subst (λ (l : List ℕ). IsReadAs l reading) (sym rest.1) (fault_stays (bytes_among taken) (bytes_among rest.0) reading fault read e)) (read_whole items) in
+      (subst (λ (l : List ℕ). IsReadAs l reading) (sym rest.1) (fault_stays (bytes_among taken) (bytes_among rest.0) reading fault read e))
+      (read_whole items) in
       none_is_not (fault_in reading) (ap (λ r. fault_in r) same) e
 
   back : (end : SlipEnd) → Converts n old new end → Back end

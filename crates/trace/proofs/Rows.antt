@@ -1,5 +1,6 @@
 -- Worked rows, computed from the definitions.
-use Rattle.trace.proofs.Prelude.{◌≡◌, ℕ, List, [], ◌∷◌, ◌++◌, length, map, refl, arith, None, digits, Item, Byte, Quiet, head_or_fate, segment_in, slip_text, folded, HoldsJust, order_of, capture_file, capture_header, dump_text, Little}
+use Rattle.trace.proofs.Prelude.{◌≡◌, ℕ, List, [], ◌∷◌, ◌++◌, length, map, refl, arith, None, digits, Item, Byte, Quiet, head_or_fate}
+use Rattle.trace.proofs.Prelude.{segment_in, slip_text, folded, HoldsJust, order_of, capture_file, capture_header, dump_text, Little}
 use Rattle.std.specs.Prelude.{codes}
 
 -- an echo request of 10.0.0.2, its reply, and a SYN to a port where nobody listens

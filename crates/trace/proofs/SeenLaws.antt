@@ -1,9 +1,13 @@
 -- The frames that items complete after others, and what is written of them.
-use Rattle.trace.proofs.Prelude.{◌≡◌, ℕ, ◌+◌, List, [], ◌∷◌, ◌++◌, length, map, refl, sym, ap, ◌∙◌, append-nil, append_assoc, arith, length-append, enumerate_from, flat_map, map-append, flat_map-append, Item, Byte, Quiet, Frame, completed, frames, Seen, seen_at, seen_after, seen_on, silences_of, frame_text, text_after, texts_from, Form, bytes_among, bytes_among-append}
+use Rattle.trace.proofs.Prelude.{◌≡◌, ℕ, ◌+◌, List, [], ◌∷◌, ◌++◌, length, map, refl, sym, ap, ◌∙◌, append-nil, append_assoc, arith}
+use Rattle.trace.proofs.Prelude.{length-append, enumerate_from, flat_map, map-append, flat_map-append, Item, Byte, Quiet, Frame, completed}
+use Rattle.trace.proofs.Prelude.{frames, Seen, seen_at, seen_after, seen_on, silences_of, frame_text, text_after, texts_from, Form}
+use Rattle.trace.proofs.Prelude.{bytes_among, bytes_among-append}
 use Rattle.uip_slip.proofs.FrameLaws.{completed_by, completed_reported, frames-then}
 
 -- bytes bring the frames that they complete
-seen-bytes : (before : List ℕ) (silences : ℕ) (bytes : List ℕ) → seen_after before silences (map Byte bytes) ≡ map (seen_at silences) (completed_by before bytes)
+seen-bytes : (before : List ℕ) (silences : ℕ) (bytes : List ℕ) → seen_after before silences (map Byte bytes) ≡ map (seen_at silences)
+    (completed_by before bytes)
 seen-bytes before silences [] = refl
 seen-bytes before silences (b ∷ bytes) =
     ap (λ l. map (seen_at silences) (completed before b) ++ l) (seen-bytes (before ++ b ∷ []) silences bytes)
@@ -82,7 +86,9 @@ text-then form before xs ys =
     let number = length (seen_on before) + 1 in
     ap (λ l. texts_from form number l) (seen-then bytes silences xs ys)
     ∙ texts-append form number first more
-    ∙ ap (λ l. texts_from form number first ++ texts_from form (number + length first) (seen_after l (silences + silences_of xs) ys)) (sym (bytes_among-append before xs))
-    ∙ ap (λ n. texts_from form number first ++ texts_from form (number + length first) (seen_after (bytes_among (before ++ xs)) n ys)) (sym (silences-append before xs))
+    ∙ ap (λ l. texts_from form number first ++ texts_from form (number + length first) (seen_after l (silences + silences_of xs) ys))
+    (sym (bytes_among-append before xs))
+    ∙ ap (λ n. texts_from form number first ++ texts_from form (number + length first) (seen_after (bytes_among (before ++ xs)) n ys))
+    (sym (silences-append before xs))
     ∙ ap (λ n. texts_from form number first ++ texts_from form n (seen_after (bytes_among (before ++ xs)) (silences_of (before ++ xs)) ys))
     (let size = ap (λ l. length l) (seen_on-append before xs) in omega (arith, size, length-append (seen_on before) first))

@@ -1,5 +1,6 @@
 -- The texts of a dump and of a capture file are what is written frame by frame.
-use Rattle.trace.proofs.Prelude.{◌≡◌, ℕ, ◌+◌, List, [], ◌∷◌, ◌++◌, map, refl, sym, ap, ◌∙◌, enumerate_from, flat_map, Item, Frame, capture_header, capture_file, frame_record, dump_line, dump_text, Seen, seen_on, text_after, texts_from}
+use Rattle.trace.proofs.Prelude.{◌≡◌, ℕ, ◌+◌, List, [], ◌∷◌, ◌++◌, map, refl, sym, ap, ◌∙◌, enumerate_from, flat_map, Item, Frame}
+use Rattle.trace.proofs.Prelude.{capture_header, capture_file, frame_record, dump_line, dump_text, Seen, seen_on, text_after, texts_from}
 use Rattle.trace.specs.declared.form.Form.TheVariants.{Capture, Dump}
 use Rattle.trace.proofs.SeenLaws.{frame_in, frames_seen}
 

@@ -1,5 +1,6 @@
 -- Data that was sent in a flow is received in it.
-use Rattle.std.proofs.Common.{◌≡◌, ℕ, ◌+◌, ◌-◌, inl, inr, Bool, true, false, not, ◌&&◌, eqb, if◌then◌else◌, List, [], ◌∷◌, ◌++◌, length, take, slice_index, slice_range, Some, refl, sym, ap, ◌∙◌, arith, subst}
+use Rattle.std.proofs.Common.{◌≡◌, ℕ, ◌+◌, ◌-◌, inl, inr, Bool, true, false, not, ◌&&◌, eqb, if◌then◌else◌, List, [], ◌∷◌, ◌++◌, length}
+use Rattle.std.proofs.Common.{take, slice_index, slice_range, Some, refl, sym, ap, ◌∙◌, arith, subst}
 use Rattle.std.proofs.Math.Seq.{take-length}
 use Rattle.std.proofs.lemmas.List.{take_all}
 use Rattle.std.specs.Str.{bytes_eq}
@@ -8,7 +9,8 @@ use Rattle.uip_wire.proofs.Words.{same_word}
 use Rattle.uip_wire.specs.Prelude.{address_at, checksum_of, folded, word_sum, word_at}
 use Rattle.uip_ipv4.proofs.Back.{equal, four, neither, not_less, numbered_passes, passes}
 use Rattle.uip_ipv4.specs.Prelude.{numbered_head}
-use Rattle.udp_datagram.specs.Prelude.{ReadsBack, after_header, carries_udp, is_of_other_protocol, sent_sum, udp_data, udp_datagram, udp_in, udp_pseudo_header, udp_sum, udp_with}
+use Rattle.udp_datagram.specs.Prelude.{ReadsBack, after_header, carries_udp, is_of_other_protocol, sent_sum, udp_data, udp_datagram, udp_in}
+use Rattle.udp_datagram.specs.Prelude.{udp_pseudo_header, udp_sum, udp_with}
 use Rattle.udp_datagram.specs.declared.way.UdpFlow.{UdpFlow}
 
 same : (n : ℕ) → eqb n n ≡ true
@@ -108,6 +110,8 @@ pub reads_back : ReadsBack
 reads_back w id payload s t =
     let source = w.source.0 in
     let target = w.target.0 in
-    let is : w ≡ way_at w (slice_index source 0 ∷ slice_index source 1 ∷ slice_index source 2 ∷ slice_index source 3 ∷ []) (slice_index target 0 ∷ slice_index target 1 ∷ slice_index target 2 ∷ slice_index target 3 ∷ []) =
-    ap (λ (l : List ℕ). way_at w l target) (four source s) ∙ ap (λ (l : List ℕ). way_at w (slice_index source 0 ∷ slice_index source 1 ∷ slice_index source 2 ∷ slice_index source 3 ∷ []) l) (four target t) in
+    let is : w ≡ way_at w (slice_index source 0 ∷ slice_index source 1 ∷ slice_index source 2 ∷ slice_index source 3 ∷ [])
+    (slice_index target 0 ∷ slice_index target 1 ∷ slice_index target 2 ∷ slice_index target 3 ∷ []) =
+    ap (λ (l : List ℕ). way_at w l target) (four source s)
+    ∙ ap (λ (l : List ℕ). way_at w (slice_index source 0 ∷ slice_index source 1 ∷ slice_index source 2 ∷ slice_index source 3 ∷ []) l) (four target t) in
     subst (λ (v : UdpFlow). udp_data v (udp_datagram v id payload) ≡ Some payload) (sym is) (back w.from.0 w.to.0 _ _ _ _ _ _ _ _ payload id)

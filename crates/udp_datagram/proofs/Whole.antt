@@ -1,6 +1,7 @@
 -- The fields of a header that passes every check but that of its protocol.
 -- [add: fate] IP: what a header has that passes the further check.
-use Rattle.std.proofs.Common.{◌≡◌, ℕ, ◌%◌, ◌≤◌, Bool, true, false, not, ◌||◌, List, length, take, slice_index, refl, arith, ltb, eqb, if◌then◌else◌, Err, Result}
+use Rattle.std.proofs.Common.{◌≡◌, ℕ, ◌%◌, ◌≤◌, Bool, true, false, not, ◌||◌, List, length, take, slice_index, refl, arith, ltb, eqb}
+use Rattle.std.proofs.Common.{if◌then◌else◌, Err, Result}
 use Rattle.std.proofs.lemmas.Grind.{common_steps}
 use Rattle.std.specs.Str.{bytes_eq}
 use Rattle.uip_wire.specs.Prelude.{address_at, checksum_of, word_at}
@@ -11,7 +12,8 @@ use Rattle.uip_ipv4.specs.Prelude.{head_or_fate, head_by, proto_of}
 use Rattle.udp_datagram.specs.Prelude.{IsWholeUdp, is_of_other_protocol}
 
 lengths_passed : (short version length fragment sum other : Bool) (rest : Result IpHead IpFate)
-    → is_of_other_protocol (if short then Err Short else if version then Err Version else if length then Err Length else if fragment then Err Fragment else if sum then Err Checksum else if other then Err NotOurs else rest) ≡ true
+    → is_of_other_protocol (if short then Err Short else if version then Err Version else if length then Err Length else if fragment then
+    Err Fragment else if sum then Err Checksum else if other then Err NotOurs else rest) ≡ true
     → (short ≡ false) × (length ≡ false)
 lengths_passed true version length fragment sum other rest e = cc
 lengths_passed false true length fragment sum other rest e = cc

@@ -1,5 +1,7 @@
 -- Each end is reported if its cause holds and nothing failed.
-use Rattle.udp_resolver.proofs.Prelude.{◌≡◌, ℕ, ◌<◌, ◌⊎◌, inl, inr, true, false, List, Option, Some, length, refl, sym, ◌∙◌, arith, Consumes, Item, ServeEnd, Question, ResolvesBy, IsDone, IsOpen, IsSettled, LinkFailed, OutFailed, ReportFailed, Streams, StreamsUnfailed, taken_within}
+use Rattle.udp_resolver.proofs.Prelude.{◌≡◌, ℕ, ◌<◌, ◌⊎◌, inl, inr, true, false, List, Option, Some, length, refl, sym, ◌∙◌, arith}
+use Rattle.udp_resolver.proofs.Prelude.{Consumes, Item, ServeEnd, Question, ResolvesBy, IsDone, IsOpen, IsSettled, LinkFailed, OutFailed}
+use Rattle.udp_resolver.proofs.Prelude.{ReportFailed, Streams, StreamsUnfailed, taken_within}
 use Rattle.uip_edge.specs.declared.serve_end.ServeEnd.TheVariants as ends
 
 clash : true ≡ false → ⊥
@@ -8,7 +10,8 @@ clash e = cc e
 no_link : (asked : List Question) (n : ℕ) (old new : Streams) (taken : List Item) → LinkFailed asked n old new taken → StreamsUnfailed old new → ⊥
 no_link asked n old new taken f calm = omega (arith, f.rose, calm.line.link.same, calm.line.link.below)
 
-no_write : (asked : List Question) (n : ℕ) (old new : Streams) (taken : List Item) → OutFailed asked old new taken ⊎ ReportFailed asked n old new taken → StreamsUnfailed old new → ⊥
+no_write : (asked : List Question) (n : ℕ) (old new : Streams) (taken : List Item) → OutFailed asked old new taken
+    ⊎ ReportFailed asked n old new taken → StreamsUnfailed old new → ⊥
 no_write asked n old new taken (inl f) calm = omega (arith, f.out.rose, calm.line.sink.same, calm.line.sink.below)
 no_write asked n old new taken (inr f) calm = omega (arith, f.reported.rose, calm.tell.same, calm.tell.below)
 
@@ -27,7 +30,8 @@ dry_reported asked n old new all taken ends.Budget e calm reported short c =
 dry_reported asked n old new all taken ends.LinkFault e calm reported short c = absurd (no_link asked n old new taken e calm)
 dry_reported asked n old new all taken ends.WriteFault e calm reported short c = absurd (no_write asked n old new taken e calm)
 
-not_done : (asked : List Question) (n : ℕ) (coming : Option (List Item)) (taken : List Item) → IsDone asked n coming taken ends.End → IsOpen asked taken → length taken ≡ n → ⊥
+not_done : (asked : List Question) (n : ℕ) (coming : Option (List Item)) (taken : List Item) → IsDone asked n coming taken ends.End
+    → IsOpen asked taken → length taken ≡ n → ⊥
 not_done asked n coming taken (inl settled) is_open all = clash (sym settled ∙ is_open)
 not_done asked n coming taken (inr dry) is_open all = omega (arith, dry.2, all)
 

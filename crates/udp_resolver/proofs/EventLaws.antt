@@ -1,5 +1,7 @@
 -- Events followed by further events.
-use Rattle.udp_resolver.proofs.Prelude.{◌≡◌, ℕ, ◌+◌, ◌<◌, Bool, true, false, eqb, leb, if◌then◌else◌, List, [], ◌∷◌, ◌++◌, refl, sym, ap, ◌∙◌, arith, subst, IsAtAge, IsBeatOfAge, Beat, Again, GiveUp, Wait, Timer, is_given_up, silences, LineEvent, MediumInput, Silence, IsClockAt, Clock}
+use Rattle.udp_resolver.proofs.Prelude.{◌≡◌, ℕ, ◌+◌, ◌<◌, Bool, true, false, eqb, leb, if◌then◌else◌, List, [], ◌∷◌, ◌++◌, refl, sym, ap}
+use Rattle.udp_resolver.proofs.Prelude.{◌∙◌, arith, subst, IsAtAge, IsBeatOfAge, Beat, Again, GiveUp, Wait, Timer, is_given_up, silences}
+use Rattle.udp_resolver.proofs.Prelude.{LineEvent, MediumInput, Silence, IsClockAt, Clock}
 
 pub silences-append : (xs ys : List LineEvent) → silences (xs ++ ys) ≡ silences xs + silences ys
 silences-append [] ys = omega arith
@@ -45,13 +47,15 @@ goes happened old timer e at next aged = record {
   age = λ h. subst (λ n. IsAtAge timer n) (sym (one_more happened)) aged;
 }
 
-pub ticked_wait : (happened : List LineEvent) (old : Clock) (timer : Timer) (asked : Beat) → asked ≡ Wait → is_given_up happened ≡ false → IsClockAt happened old
+pub ticked_wait : (happened : List LineEvent) (old : Clock) (timer : Timer) (asked : Beat) → asked ≡ Wait → is_given_up happened ≡ false
+    → IsClockAt happened old
     → IsBeatOfAge 8 (silences happened) asked timer → IsClockAt (happened ++ Silence ∷ []) (record { timer = timer; given_up = old.given_up })
 ticked_wait happened old timer Wait is e at b = goes happened old timer e at (not_last_by _ _ b.beat) b.goes_on
 ticked_wait happened old timer Again is e at b = absurd (cc is)
 ticked_wait happened old timer GiveUp is e at b = absurd (cc is)
 
-pub ticked_again : (happened : List LineEvent) (old : Clock) (timer : Timer) (asked : Beat) → asked ≡ Again → is_given_up happened ≡ false → IsClockAt happened old
+pub ticked_again : (happened : List LineEvent) (old : Clock) (timer : Timer) (asked : Beat) → asked ≡ Again → is_given_up happened ≡ false
+    → IsClockAt happened old
     → IsBeatOfAge 8 (silences happened) asked timer → IsClockAt (happened ++ Silence ∷ []) (record { timer = timer; given_up = old.given_up })
 ticked_again happened old timer Wait is e at b = absurd (cc is)
 ticked_again happened old timer Again is e at b = goes happened old timer e at (again_by _ _ b.beat) b.goes_on
@@ -60,7 +64,8 @@ ticked_again happened old timer GiveUp is e at b = absurd (cc is)
 too_late : (n : ℕ) → eqb n 249 ≡ true → n < 249 → ⊥
 too_late n e h = grind arith
 
-pub ticked_over : (happened : List LineEvent) (old : Clock) (timer : Timer) (asked : Beat) → asked ≡ GiveUp → is_given_up happened ≡ false → IsClockAt happened old
+pub ticked_over : (happened : List LineEvent) (old : Clock) (timer : Timer) (asked : Beat) → asked ≡ GiveUp → is_given_up happened ≡ false
+    → IsClockAt happened old
     → IsBeatOfAge 8 (silences happened) asked timer → IsClockAt (happened ++ Silence ∷ []) (record { timer = timer; given_up = true })
 ticked_over happened old timer Wait is e at b = absurd (cc is)
 ticked_over happened old timer Again is e at b = absurd (cc is)

@@ -1,5 +1,9 @@
 -- How the answers to questions grow with events.
-use Rattle.udp_resolver.proofs.Prelude.{◌≡◌, ℕ, zero, suc, ◌+◌, ◌<◌, ◌≤◌, Bool, true, false, not, ◌&&◌, ◌||◌, cond, eqb, if◌then◌else◌, List, [], ◌∷◌, ◌++◌, map, refl, sym, ap, ◌∙◌, arith, Option, None, Some, list_all, list_any, is_none, option_or, answer_to, Answer, open_ones, Question, all_settled, answer_among, fate_by, first_answer, before_silence, is_given_up, is_settled, silences, LineEvent, MediumInput, Silence, received_now, unanswered, unless_answered, Open, Timeout}
+use Rattle.udp_resolver.proofs.Prelude.{◌≡◌, ℕ, zero, suc, ◌+◌, ◌<◌, ◌≤◌, Bool, true, false, not, ◌&&◌, ◌||◌, cond, eqb, if◌then◌else◌}
+use Rattle.udp_resolver.proofs.Prelude.{List, [], ◌∷◌, ◌++◌, map, refl, sym, ap, ◌∙◌, arith, Option, None, Some, list_all, list_any}
+use Rattle.udp_resolver.proofs.Prelude.{is_none, option_or, answer_to, Answer, open_ones, Question, all_settled, answer_among, fate_by}
+use Rattle.udp_resolver.proofs.Prelude.{first_answer, before_silence, is_given_up, is_settled, silences, LineEvent, MediumInput, Silence}
+use Rattle.udp_resolver.proofs.Prelude.{received_now, unanswered, unless_answered, Open, Timeout}
 use Rattle.udp_resolver.proofs.EventLaws.{not_over, one_more, silences-append}
 
 same_of : (a b : ℕ) → eqb a b ≡ true → a ≡ b
@@ -60,7 +64,11 @@ pub answer_came : (happened : List LineEvent) (datagram : List ℕ) (q : Questio
     → answer_among (happened ++ MediumInput datagram ∷ []) q ≡ option_or (answer_among happened q) (answer_to q.asking q.text datagram)
 answer_came happened datagram q e =
     let a = answer_to q.asking q.text datagram in
-    let short : silences (happened ++ MediumInput datagram ∷ []) < 249 = omega (arith, silences-append happened (MediumInput datagram ∷ []), not_over happened e) in
+    let short : silences (happened ++ MediumInput datagram ∷ []) < 249 = omega (
+      arith,
+      silences-append happened (MediumInput datagram ∷ []),
+      not_over happened e,
+    ) in
     ap (λ l. first_answer q l) (prefix_all 249 (happened ++ MediumInput datagram ∷ []) short)
     ∙ first_answer-append q happened (MediumInput datagram ∷ [])
     ∙ ap (λ o. option_or (first_answer q happened) o) (option_or-none a)
@@ -136,6 +144,7 @@ pub not_given_up : (happened : List LineEvent) (asked : List Question) → all_s
 not_given_up happened asked e =
     elim (is_given_up happened) as (λ v. is_given_up happened ≡ v → is_given_up happened ≡ false) [
       | true ↦ λ over.
-          absurd (clash (sym (sym (ap (λ b. list_all (λ q. is_settled (fate_by (answer_among happened q) b)) asked) over ∙ all_over (answer_among happened) asked) ∙ e)))
+          absurd (clash (sym (sym (ap (λ b. list_all (λ q. is_settled (fate_by (answer_among happened q) b)) asked) over
+          ∙ all_over (answer_among happened) asked) ∙ e)))
       | false ↦ λ none. none
     ] refl

@@ -1,5 +1,8 @@
 -- The events of a line are its datagrams and its silences.
-use Rattle.udp_resolver.proofs.Prelude.{◌≡◌, ℕ, List, [], ◌∷◌, ◌++◌, refl, sym, ap, ◌∙◌, arith, append-nil, append_assoc, flat_map-append, flat_map, bytes_among, Item, Byte, Quiet, Frame, Datagram, Overlong, completed, frames, frames-byte, silences, EventsAreOfLine, came_in, carried_by, silent_items, LineEvent, MediumInput, Silence, by_frame, received_after}
+use Rattle.udp_resolver.proofs.Prelude.{◌≡◌, ℕ, List, [], ◌∷◌, ◌++◌, refl, sym, ap, ◌∙◌, arith, append-nil, append_assoc, flat_map-append}
+use Rattle.udp_resolver.proofs.Prelude.{flat_map, bytes_among, Item, Byte, Quiet, Frame, Datagram, Overlong, completed, frames, frames-byte}
+use Rattle.udp_resolver.proofs.Prelude.{silences, EventsAreOfLine, came_in, carried_by, silent_items, LineEvent, MediumInput, Silence}
+use Rattle.udp_resolver.proofs.Prelude.{by_frame, received_after}
 use Rattle.udp_resolver.proofs.EventLaws.{silences-append}
 use Rattle.udp_resolver.proofs.ItemLaws.{calm_byte}
 
@@ -35,7 +38,12 @@ datagrams_after before (Quiet ∷ items) = datagrams_after before items
 silent_after : (before : List ℕ) (items : List Item) → silences (received_after before items) ≡ silent_items items
 silent_after before [] = refl
 silent_after before (Byte b ∷ items) =
-    omega (arith, silences-append (flat_map by_frame (completed before b)) (received_after (before ++ b ∷ []) items), calm_byte before b, silent_after (before ++ b ∷ []) items)
+    omega (
+      arith,
+      silences-append (flat_map by_frame (completed before b)) (received_after (before ++ b ∷ []) items),
+      calm_byte before b,
+      silent_after (before ++ b ∷ []) items,
+    )
 silent_after before (Quiet ∷ items) = omega (arith, silent_after before items)
 
 pub events_are_of_line : EventsAreOfLine

@@ -1,5 +1,7 @@
 -- How the queries grow with events.
-use Rattle.udp_resolver.proofs.Prelude.{◌≡◌, ℕ, ◌+◌, ◌<◌, ◌≤◌, Bool, true, false, ◌&&◌, ◌||◌, eqb, leb, ltb, if◌then◌else◌, List, [], ◌∷◌, ◌++◌, take, refl, sym, ap, ◌∙◌, arith, append-nil, append_assoc, flat_map, list_any, ages, asked_at, open_ones, queries, Question, before_silence, silences, LineEvent, Silence, asked_next}
+use Rattle.udp_resolver.proofs.Prelude.{◌≡◌, ℕ, ◌+◌, ◌<◌, ◌≤◌, Bool, true, false, ◌&&◌, ◌||◌, eqb, leb, ltb, if◌then◌else◌, List, [], ◌∷◌}
+use Rattle.udp_resolver.proofs.Prelude.{◌++◌, take, refl, sym, ap, ◌∙◌, arith, append-nil, append_assoc, flat_map, list_any, ages, asked_at}
+use Rattle.udp_resolver.proofs.Prelude.{open_ones, queries, Question, before_silence, silences, LineEvent, Silence, asked_next}
 use Rattle.udp_resolver.proofs.EventLaws.{one_more, silences-append}
 use Rattle.udp_resolver.proofs.FateLaws.{prefix_kept, prefix_last}
 
@@ -37,7 +39,8 @@ module _ (asked : List Question) where
   -- at an age that was reached before, the same ones are asked
   at_reached : (happened more : List LineEvent) (a : ℕ) → 1 ≤ a → a ≤ silences happened → asked_at asked (happened ++ more) a ≡ asked_at asked happened a
   at_reached happened more a some h =
-      ap (λ b. if b then open_ones asked (before_silence a (happened ++ more)) else []) (within a (silences (happened ++ more)) (silences (happened ++ more)) (omega (arith, silences-append happened more)) refl)
+      ap (λ b. if b then open_ones asked (before_silence a (happened ++ more)) else [])
+      (within a (silences (happened ++ more)) (silences (happened ++ more)) (omega (arith, silences-append happened more)) refl)
       ∙ ap (λ l. open_ones asked l) (prefix_kept a happened more some h)
       ∙ sym (ap (λ b. if b then open_ones asked (before_silence a happened) else []) (within a (silences happened) (silences happened) h refl))
 
@@ -45,7 +48,8 @@ module _ (asked : List Question) where
   at_ahead : (happened : List LineEvent) (a : ℕ) → silences happened < a → asked_at asked happened a ≡ []
   at_ahead happened a h = ap (λ b. if b then open_ones asked (before_silence a happened) else []) (beyond a (silences happened) (silences happened) h refl)
 
-  ahead_none : (happened : List LineEvent) (low : ℕ) (list : List ℕ) → rising low list ≡ true → silences happened ≤ low → flat_map (asked_at asked happened) list ≡ []
+  ahead_none : (happened : List LineEvent) (low : ℕ) (list : List ℕ) → rising low list ≡ true → silences happened ≤ low
+      → flat_map (asked_at asked happened) list ≡ []
   ahead_none happened low [] r h = refl
   ahead_none happened low (a ∷ rest) r h =
       let p = both_true (ltb low a) (rising a rest) r in
@@ -84,7 +88,8 @@ module _ (asked : List Question) where
       let count : silences next ≡ now = one_more happened in
       let again = if list_any (λ a. eqb a now) rest then open_ones asked happened else [] in
       let before = flat_map (asked_at asked happened) rest in
-      elim (eqb a now) as (λ v. eqb a now ≡ v → flat_map (asked_at asked next) (a ∷ rest) ≡ flat_map (asked_at asked happened) (a ∷ rest) ++ (if v || list_any (λ a. eqb a now) rest then open_ones asked happened else [])) [
+      elim (eqb a now) as (λ v. eqb a now ≡ v → flat_map (asked_at asked next) (a ∷ rest) ≡ flat_map (asked_at asked happened) (a ∷ rest)
+      ++ (if v || list_any (λ a. eqb a now) rest then open_ones asked happened else [])) [
         | true ↦ λ e.
             let same = same_of a now e in
             ap (λ l. l ++ flat_map (asked_at asked next) rest)
@@ -92,7 +97,8 @@ module _ (asked : List Question) where
             ∙ ap (λ l. open_ones asked l) (prefix_last a happened [] (sym same)))
             ∙ ap (λ l. open_ones asked happened ++ l) (ahead_none next a rest p.1 (omega (arith, count, same)))
             ∙ append-nil (open_ones asked happened)
-            ∙ sym (ap (λ l. (l ++ before) ++ open_ones asked happened) (at_ahead happened a (omega arith)) ∙ ap (λ l. l ++ open_ones asked happened) (ahead_none happened a rest p.1 (omega arith)))
+            ∙ sym (ap (λ l. (l ++ before) ++ open_ones asked happened) (at_ahead happened a (omega arith))
+            ∙ ap (λ l. l ++ open_ones asked happened) (ahead_none happened a rest p.1 (omega arith)))
         | false ↦ λ e.
             let other = other_of a now e in
             let first : asked_at asked next a ≡ asked_at asked happened a =
@@ -108,7 +114,8 @@ module _ (asked : List Question) where
 
   pub queries_silence : (happened : List LineEvent) → queries asked (happened ++ Silence ∷ []) ≡ queries asked happened ++ asked_next asked happened
   queries_silence happened =
-      ap (λ l. asked ++ l) (more_by happened 0 (take 8 ages) refl) ∙ sym (append_assoc asked (flat_map (asked_at asked happened) (take 8 ages)) (asked_next asked happened))
+      ap (λ l. asked ++ l) (more_by happened 0 (take 8 ages) refl)
+      ∙ sym (append_assoc asked (flat_map (asked_at asked happened) (take 8 ages)) (asked_next asked happened))
 
   pub queries_first : queries asked [] ≡ asked
   queries_first = append-nil asked

@@ -1,5 +1,10 @@
 -- An address that is reported is from a matching reply.
-use Rattle.udp_resolver.proofs.Prelude.{◌≡◌, ℕ, zero, suc, Bool, true, false, cond, eqb, ltb, if◌then◌else◌, List, [], ◌∷◌, ◌++◌, length, drop, Option, None, Some, option_and_then, refl, sym, ap, ◌∙◌, append_assoc, arith, find, word_at, Addr, udp_data, answer_by_message, code_of, is_reply, question_end, Record, answer_by, answer_of_records, is_address, records, answer_to, way_back, Answer, Address, Code, Question, answer_among, fate_by, first_answer, before_silence, is_given_up, last_silence, LineEvent, MediumInput, Silence, AddressesAreFromReplies, Answered, option_or}
+use Rattle.udp_resolver.proofs.Prelude.{◌≡◌, ℕ, zero, suc, Bool, true, false, cond, eqb, ltb, if◌then◌else◌, List, [], ◌∷◌, ◌++◌, length}
+use Rattle.udp_resolver.proofs.Prelude.{drop, Option, None, Some, option_and_then, refl, sym, ap, ◌∙◌, append_assoc, arith, find, word_at}
+use Rattle.udp_resolver.proofs.Prelude.{Addr, udp_data, answer_by_message, code_of, is_reply, question_end, Record, answer_by}
+use Rattle.udp_resolver.proofs.Prelude.{answer_of_records, is_address, records, answer_to, way_back, Answer, Address, Code, Question}
+use Rattle.udp_resolver.proofs.Prelude.{answer_among, fate_by, first_answer, before_silence, is_given_up, last_silence, LineEvent}
+use Rattle.udp_resolver.proofs.Prelude.{MediumInput, Silence, AddressesAreFromReplies, Answered, option_or}
 
 answer_of_fate : (a : Option Answer) (is_over : Bool) (answer : Answer) → fate_by a is_over ≡ Answered answer → a ≡ Some answer
 answer_of_fate (Some a) is_over answer e = cc e
@@ -13,11 +18,19 @@ record Came_with (q : Question) (answer : Answer) (happened : List LineEvent) : 
   received : happened ≡ prefix ++ MediumInput datagram ∷ later
   output : answer_to q.asking q.text datagram ≡ Some answer
 
-received_after : (q : Question) (answer : Answer) (first : LineEvent) (happened : List LineEvent) → Came_with q answer happened → Came_with q answer (first ∷ happened)
-received_after q answer first happened c = record { datagram = c.datagram; prefix = first ∷ c.prefix; later = c.later; received = ap (λ l. first ∷ l) c.received; output = c.output }
+received_after : (q : Question) (answer : Answer) (first : LineEvent) (happened : List LineEvent) → Came_with q answer happened
+    → Came_with q answer (first ∷ happened)
+received_after q answer first happened c = record {
+  datagram = c.datagram;
+  prefix = first ∷ c.prefix;
+  later = c.later;
+  received = ap (λ l. first ∷ l) c.received;
+  output = c.output;
+}
 
 first_or : (q : Question) (answer : Answer) (datagram : List ℕ) (later : List LineEvent) (o : Option Answer) → answer_to q.asking q.text datagram ≡ o
-    → (first_answer q later ≡ Some answer → Came_with q answer later) → option_or o (first_answer q later) ≡ Some answer → Came_with q answer (MediumInput datagram ∷ later)
+    → (first_answer q later ≡ Some answer → Came_with q answer later) → option_or o (first_answer q later) ≡ Some answer
+    → Came_with q answer (MediumInput datagram ∷ later)
 first_or q answer datagram later (Some a) is more e = record { datagram = datagram; prefix = []; later = later; received = refl; output = is ∙ e }
 first_or q answer datagram later None is more e = received_after q answer (MediumInput datagram) later (more e)
 
@@ -77,7 +90,8 @@ picked address None true e = absurd (cc e)
 picked address None false e = absurd (cc e)
 
 sent_text_by : (id : ℕ) (text message : List ℕ) (address : Addr) (short reply sound : Bool) → is_reply id text message ≡ reply → eqb (code_of message) 0 ≡ sound
-    → (if short then None else if reply then (if sound then answer_of_records (word_at message 6) (drop (question_end text) message) else Some (Code (code_of message))) else None) ≡ Some (Address address)
+    → (if short then None else if reply then (if sound then answer_of_records (word_at message 6) (drop (question_end text) message) else
+    Some (Code (code_of message))) else None) ≡ Some (Address address)
     → SentText id text message address
 sent_text_by id text message address true reply sound is ok e = absurd (cc e)
 sent_text_by id text message address false false sound is ok e = absurd (cc e)
@@ -99,7 +113,8 @@ carried_by q datagram address None is e = absurd (cc e)
 carried_by q datagram address (Some message) is e = record {
   message = message;
   carried = is;
-  output = sent_text_by q.asking.id q.text message address (ltb (length message) 12) (is_reply q.asking.id q.text message) (eqb (code_of message) 0) refl refl e;
+  output = sent_text_by q.asking.id q.text message address (ltb (length message) 12) (is_reply q.asking.id q.text message)
+      (eqb (code_of message) 0) refl refl e;
 }
 
 carried : (q : Question) (datagram : List ℕ) (address : Addr) → answer_to q.asking q.text datagram ≡ Some (Address address) → Carried q datagram address

@@ -1,5 +1,8 @@
 -- The queries and the report, put together.
-use Rattle.udp_resolver.proofs.Prelude.{◌≡◌, ◌<◌, ℕ, length, List, Option, map, refl, sym, ap, ◌∙◌, inr, subst, Appends, Answer, Asking, Item, ServeEnd, Rose, AppendsPrefix, appends_by, prefix_by, Question, answer_among, questions, events, lines, Resolves, ResolvesBy, ReportFailed, WroteAll, Asks, Done, RunRepresents, lines_by, Streams, Run}
+use Rattle.udp_resolver.proofs.Prelude.{◌≡◌, ◌<◌, ℕ, length, List, Option, map, refl, sym, ap, ◌∙◌, inr, subst, Appends, Answer, Asking}
+use Rattle.udp_resolver.proofs.Prelude.{Item, ServeEnd, Rose, AppendsPrefix, appends_by, prefix_by, Question, answer_among, questions}
+use Rattle.udp_resolver.proofs.Prelude.{events, lines, Resolves, ResolvesBy, ReportFailed, WroteAll, Asks, Done, RunRepresents, lines_by}
+use Rattle.udp_resolver.proofs.Prelude.{Streams, Run}
 use Rattle.uip_edge.specs.declared.serve_end.ServeEnd.TheVariants as ends
 use Rattle.udp_resolver.proofs.RunLaws.{lines_reported}
 
@@ -28,7 +31,8 @@ module _ (asked : List Question) (n : ℕ) (run : Run) (old new : Streams) where
   }
 
   pub reported_all : (end : ServeEnd) → (end ≡ ends.LinkFault → ⊥) → (end ≡ ends.WriteFault → ⊥) → Asks asked n run old.line new.line end
-      → new.tell.faults ≡ old.tell.faults → ((taken : List Item) → RunRepresents asked taken run → Appends old.tell.written new.tell.written (lines asked (events taken)))
+      → new.tell.faults ≡ old.tell.faults → ((taken : List Item) → RunRepresents asked taken run → Appends old.tell.written new.tell.written
+      (lines asked (events taken)))
       → Resolves asked n old new end
   reported_all ends.End l w a same reported = resolves ends.End ends.End a (whole ends.End a.taken a.by same reported)
   reported_all ends.Budget l w a same reported = resolves ends.Budget ends.Budget a (whole ends.Budget a.taken a.by same reported)
@@ -49,7 +53,8 @@ module _ (asked : List Question) (n : ℕ) (run : Run) (old new : Streams) where
   }
 
   pub reported_part : (end : ServeEnd) → (end ≡ ends.LinkFault → ⊥) → (end ≡ ends.WriteFault → ⊥) → Asks asked n run old.line new.line end
-      → Rose old.tell.faults new.tell.faults → ((taken : List Item) → RunRepresents asked taken run → AppendsPrefix old.tell.written new.tell.written (lines asked (events taken)))
+      → Rose old.tell.faults new.tell.faults → ((taken : List Item) → RunRepresents asked taken run
+      → AppendsPrefix old.tell.written new.tell.written (lines asked (events taken)))
       → ((taken : List Item) → RunRepresents asked taken run → 0 < length (lines asked (events taken))) → Resolves asked n old new ends.WriteFault
   reported_part ends.End l w a rose reported some = resolves ends.End ends.WriteFault a (inr (part ends.End a.taken a.by rose reported some))
   reported_part ends.Budget l w a rose reported some = resolves ends.Budget ends.WriteFault a (inr (part ends.Budget a.taken a.by rose reported some))
@@ -59,12 +64,14 @@ module _ (asked : List Question) (n : ℕ) (run : Run) (old new : Streams) where
 -- all names were reported, or a prefix of the report was written if it failed
 module _ (asking : Asking) (names : List (List ℕ)) (n : ℕ) (run : Run) (old new : Streams) (answers : List (Option Answer)) (same : answers ≡ run.answers.items)
     (end : ServeEnd) (l : end ≡ ends.LinkFault → ⊥) (w : end ≡ ends.WriteFault → ⊥) (a : Asks (questions asking names) n run old.line new.line end) where
-  reported_text : (taken : List Item) → RunRepresents (questions asking names) taken run → lines_by names answers run.clock.given_up ≡ lines (questions asking names) (events taken)
+  reported_text : (taken : List Item) → RunRepresents (questions asking names) taken run → lines_by names answers run.clock.given_up
+      ≡ lines (questions asking names) (events taken)
   reported_text taken k = lines_known asking names taken run answers same k
 
   pub names_reported : new.tell.faults ≡ old.tell.faults → Appends old.tell.written new.tell.written (lines_by names answers run.clock.given_up)
       → Resolves (questions asking names) n old new end
-  names_reported calm whole = reported_all (questions asking names) n run old new end l w a calm (λ taken k. appends_by _ _ _ _ (sym (reported_text taken k)) whole)
+  names_reported calm whole = reported_all (questions asking names) n run old new end l w a calm
+      (λ taken k. appends_by _ _ _ _ (sym (reported_text taken k)) whole)
 
   pub names_part : Rose old.tell.faults new.tell.faults → AppendsPrefix old.tell.written new.tell.written (lines_by names answers run.clock.given_up)
       → 0 < length (lines_by names answers run.clock.given_up) → Resolves (questions asking names) n old new ends.WriteFault

@@ -1,5 +1,12 @@
 -- A run after one more item.
-use Rattle.udp_resolver.proofs.Prelude.{◌≡◌, ℕ, zero, suc, ◌+◌, ◌<◌, Bool, true, false, not, ◌&&◌, leb, if◌then◌else◌, List, [], ◌∷◌, ◌++◌, length, map, take, replicate, get_or, refl, sym, ap, ◌∙◌, arith, append-nil, append_assoc, subst, None, Option, Result, drop_all, map-append, take_more, take-length, flat_map, list_any, refill, is_none, IsAtAge, Answer, Asking, Item, Byte, Quiet, State, WasFed, reported_by, completed, Fed, last_ident, line_text, open_ones, queries, query_texts, Question, all_settled, answer_among, fate_of, is_given_up, next_asking, questions, silences, LineEvent, MediumInput, Silence, by_frame, events, received_after, line_of, lines, Adds, RunRepresents, WritesSome, IsClockAt, asked_next, received_now, is_due, lines_by, unanswered, Clock, Run, bytes_among, SinkView, bytes_among-append}
+use Rattle.udp_resolver.proofs.Prelude.{◌≡◌, ℕ, zero, suc, ◌+◌, ◌<◌, Bool, true, false, not, ◌&&◌, leb, if◌then◌else◌, List, [], ◌∷◌, ◌++◌}
+use Rattle.udp_resolver.proofs.Prelude.{length, map, take, replicate, get_or, refl, sym, ap, ◌∙◌, arith, append-nil, append_assoc, subst}
+use Rattle.udp_resolver.proofs.Prelude.{None, Option, Result, drop_all, map-append, take_more, take-length, flat_map, list_any, refill}
+use Rattle.udp_resolver.proofs.Prelude.{is_none, IsAtAge, Answer, Asking, Item, Byte, Quiet, State, WasFed, reported_by, completed, Fed}
+use Rattle.udp_resolver.proofs.Prelude.{last_ident, line_text, open_ones, queries, query_texts, Question, all_settled, answer_among}
+use Rattle.udp_resolver.proofs.Prelude.{fate_of, is_given_up, next_asking, questions, silences, LineEvent, MediumInput, Silence, by_frame}
+use Rattle.udp_resolver.proofs.Prelude.{events, received_after, line_of, lines, Adds, RunRepresents, WritesSome, IsClockAt, asked_next}
+use Rattle.udp_resolver.proofs.Prelude.{received_now, is_due, lines_by, unanswered, Clock, Run, bytes_among, SinkView, bytes_among-append}
 use Rattle.uip_slip.specs.declared.fed.Fed.TheVariants as fed
 use Rattle.udp_resolver.proofs.EventLaws.{silences-append}
 use Rattle.udp_resolver.proofs.FateLaws.{received_map, map_silence, open_reported, opens}
@@ -27,7 +34,8 @@ refill_same olds news e =
     ap (λ l. take (length olds) (news ++ l)) (drop_all (length news) olds (omega arith))
     ∙ ap (λ l. take (length olds) l) (append-nil news) ∙ ap (λ n. take n news) (sym e) ∙ take-length news
 
-knows_events : (asked : List Question) (items : List Item) (happened : List LineEvent) (bytes : List ℕ) (run : Run) → events items ≡ happened → bytes_among items ≡ bytes
+knows_events : (asked : List Question) (items : List Item) (happened : List LineEvent) (bytes : List ℕ) (run : Run)
+    → events items ≡ happened → bytes_among items ≡ bytes
     → WasFed bytes run.decoder → IsClockAt happened run.clock → run.answers.items ≡ map (answer_among happened) asked
     → run.sender.ident ≡ last_ident 0 (queries asked happened) → RunRepresents asked items run
 knows_events asked items happened bytes run e b fed at answers sent = record {
@@ -56,9 +64,11 @@ knows_byte asked items b old new k fed brings clock sender answers =
     fed (subst (λ (c : Clock). IsClockAt (events items) c) (sym clock) k.at) (ap (λ a. a.items) answers ∙ k.heard) (ap (λ s. s.ident) sender ∙ k.sent)
 
 -- a byte that brings a datagram
-pub knows_came : (asked : List Question) (items : List Item) (b : ℕ) (datagram : List ℕ) (old new : Run) → is_given_up (events items) ≡ false → RunRepresents asked items old
+pub knows_came : (asked : List Question) (items : List Item) (b : ℕ) (datagram : List ℕ) (old new : Run) → is_given_up (events items)
+    ≡ false → RunRepresents asked items old
     → WasFed (bytes_among items ++ b ∷ []) new.decoder → flat_map by_frame (completed (bytes_among items) b) ≡ MediumInput datagram ∷ []
-    → new.clock ≡ old.clock → new.sender ≡ old.sender → new.answers.items ≡ received_now datagram asked old.answers.items → RunRepresents asked (items ++ Byte b ∷ []) new
+    → new.clock ≡ old.clock → new.sender ≡ old.sender → new.answers.items ≡ received_now datagram asked old.answers.items
+    → RunRepresents asked (items ++ Byte b ∷ []) new
 knows_came asked items b datagram old new e k fed brings clock sender answers =
     let es = events items in
     knows_events asked (items ++ Byte b ∷ []) (es ++ MediumInput datagram ∷ []) (bytes_among items ++ b ∷ []) new
@@ -84,7 +94,8 @@ knows_silence asked items old new e k at decoder answers sent =
     ∙ ap (λ l. last_ident 0 l) (sym (queries_silence asked es)))
 
 -- the open questions, by the answers
-pub next_by : (asked : List Question) (items : List Item) (run : Run) (answers : List (Option Answer)) → is_given_up (events items) ≡ false → RunRepresents asked items run
+pub next_by : (asked : List Question) (items : List Item) (run : Run) (answers : List (Option Answer)) → is_given_up (events items) ≡ false
+    → RunRepresents asked items run
     → answers ≡ run.answers.items → is_due (silences (events items) + 1) ≡ true → asked_next asked (events items) ≡ unanswered asked answers
 next_by asked items run answers e k same due =
     ap (λ b. if b then open_ones asked (events items) else []) due

@@ -1,5 +1,9 @@
 -- The loops over names and answers, one step at a time.
-use Rattle.udp_resolver.proofs.Prelude.{◌≡◌, ℕ, ◌+◌, ◌<◌, Bool, List, [], ◌∷◌, ◌++◌, length, drop, get_or, refl, sym, ap, ◌∙◌, append_assoc, arith, length-append, None, Option, Result, Ok, Err, OnErr, set, set-append_seam, drop_more, AppendsPrefix, prefix_by, slip_text, answer_to, query_datagram, Answer, Asking, last_ident, next_ident, query_texts, Question, fate_by, next_asking, questions, fate_text, line_of, Fate, received_now, lines_by, unanswered, unless_answered, option_or, codes}
+use Rattle.udp_resolver.proofs.Prelude.{◌≡◌, ℕ, ◌+◌, ◌<◌, Bool, List, [], ◌∷◌, ◌++◌, length, drop, get_or, refl, sym, ap, ◌∙◌, append_assoc}
+use Rattle.udp_resolver.proofs.Prelude.{arith, length-append, None, Option, Result, Ok, Err, OnErr, set, set-append_seam, drop_more}
+use Rattle.udp_resolver.proofs.Prelude.{AppendsPrefix, prefix_by, slip_text, answer_to, query_datagram, Answer, Asking, last_ident}
+use Rattle.udp_resolver.proofs.Prelude.{next_ident, query_texts, Question, fate_by, next_asking, questions, fate_text, line_of, Fate}
+use Rattle.udp_resolver.proofs.Prelude.{received_now, lines_by, unanswered, unless_answered, option_or, codes}
 
 pub query_texts-append : (ident : ℕ) (xs ys : List Question) → query_texts ident (xs ++ ys) ≡ query_texts ident xs ++ query_texts (last_ident ident xs) ys
 query_texts-append ident [] ys = refl
@@ -31,11 +35,13 @@ module _ {X : Type 0} where
   get_seam now prefix a rest at d size e =
       ap (λ l. get_or l at d) e ∙ ap (λ n. get_or (prefix ++ a ∷ rest) n d) (sym size) ∙ get_seam_at prefix a rest d
 
-  pub set_seam : (now prefix : List X) (a b : X) (rest : List X) (at : ℕ) → length prefix ≡ at → now ≡ prefix ++ a ∷ rest → set now at b ≡ (prefix ++ b ∷ []) ++ rest
+  pub set_seam : (now prefix : List X) (a b : X) (rest : List X) (at : ℕ) → length prefix ≡ at → now ≡ prefix ++ a ∷ rest
+      → set now at b ≡ (prefix ++ b ∷ []) ++ rest
   set_seam now prefix a b rest at size e =
       ap (λ l. set l at b) e ∙ ap (λ n. set (prefix ++ a ∷ rest) n b) (sym size) ∙ set-append_seam prefix a rest b ∙ sym (append_assoc prefix (b ∷ []) rest)
 
-pub received_step : (datagram : List ℕ) (asking after : Asking) (names later : List (List ℕ)) (name : List ℕ) (olds rest : List (Option Answer)) (a b : Option Answer) (whole prefix : List (Option Answer))
+pub received_step : (datagram : List ℕ) (asking after : Asking) (names later : List (List ℕ)) (name : List ℕ)
+    (olds rest : List (Option Answer)) (a b : Option Answer) (whole prefix : List (Option Answer))
     → names ≡ name ∷ later → olds ≡ a ∷ rest → after ≡ next_asking asking → b ≡ option_or a (answer_to asking name datagram)
     → whole ≡ prefix ++ received_now datagram (questions asking names) olds
     → whole ≡ (prefix ++ b ∷ []) ++ received_now datagram (questions after later) rest
@@ -46,7 +52,8 @@ received_step datagram asking after names later name olds rest a b whole prefix 
     ∙ ap (λ x. prefix ++ b ∷ received_now datagram (questions x later) rest) (sym k)
     ∙ sym (append_assoc prefix (b ∷ []) (received_now datagram (questions after later) rest))
 
-pub unanswered_step : (asking after : Asking) (names later : List (List ℕ)) (name : List ℕ) (olds rest : List (Option Answer)) (a : Option Answer) (whole prefix : List Question)
+pub unanswered_step : (asking after : Asking) (names later : List (List ℕ)) (name : List ℕ) (olds rest : List (Option Answer))
+    (a : Option Answer) (whole prefix : List Question)
     → names ≡ name ∷ later → olds ≡ a ∷ rest → after ≡ next_asking asking
     → whole ≡ prefix ++ unanswered (questions asking names) olds
     → whole ≡ (prefix ++ unless_answered (record { asking = asking; text = name }) a) ++ unanswered (questions after later) rest
@@ -85,7 +92,8 @@ question_moves asking after names answers name at whole prefix size within is ne
     (here names at name within is) (drop_more answers at None (omega (arith, size, within))) next e
 
 -- nothing is left after the last name
-pub received_none : (datagram : List ℕ) (asking : Asking) (names : List (List ℕ)) (olds : List (Option Answer)) → names ≡ [] → received_now datagram (questions asking names) olds ≡ []
+pub received_none : (datagram : List ℕ) (asking : Asking) (names : List (List ℕ)) (olds : List (Option Answer)) → names ≡ []
+    → received_now datagram (questions asking names) olds ≡ []
 received_none datagram asking names olds e = ap (λ l. received_now datagram (questions asking l) olds) e
 
 -- what has something in its middle has something

@@ -1,5 +1,15 @@
 -- Calls on a handle, one after the other, keep the promise.
-use Rattle.uip_app_c.proofs.Prelude.{OpensAndProtects, Key, Option, key_by, own_rules, ◌≡◌, ◌∙◌, ℕ, ◌+◌, ◌<◌, Bool, if◌then◌else◌, List, [], ◌∷◌, ◌++◌, length, refl, sym, ap, subst, arith, IsPrefixOf, Snapshot, Act, Mac, CallsSlot, DoesNothing, FrameCall, GuardedLink, InputsFrame, IsFrameOfBytes, Makes, acts_before, ether_brings_bytes, interface_at, station_events_by, Network, DidInTurn, program_calls, IsOfLine, call_few, each_by, each_with, events_of_call, program_goes_home, node_of_call, periodic_events, program_conforms, is_own_port, messages_text, no_message, numbers_of, own_output_model, own_spec, HasCaptured, next_message, with_change, Station, All, IsAddr, is_for_closed_port, AnsweredCall, AppCall, AppCallsConform, AppTraceConforms, Calls, Captures, CouldWrite, IsCallOfBytes, Kept, Listens, OfEachCall, Writes, app_program, call_at, change_by, connection_after, first_station, link_of, ports_after_call, station_after_call, station_after_calls, text_in_call, undropped, choose, AbstractNode, Event, Periodic, connection_in, run, Addr}
+use Rattle.uip_app_c.proofs.Prelude.{OpensAndProtects, Key, Option, key_by, own_rules, ◌≡◌, ◌∙◌, ℕ, ◌+◌, ◌<◌, Bool, if◌then◌else◌, List, []}
+use Rattle.uip_app_c.proofs.Prelude.{◌∷◌, ◌++◌, length, refl, sym, ap, subst, arith, IsPrefixOf, Snapshot, Act, Mac, CallsSlot, DoesNothing}
+use Rattle.uip_app_c.proofs.Prelude.{FrameCall, GuardedLink, InputsFrame, IsFrameOfBytes, Makes, acts_before, ether_brings_bytes}
+use Rattle.uip_app_c.proofs.Prelude.{interface_at, station_events_by, Network, DidInTurn, program_calls, IsOfLine, call_few, each_by}
+use Rattle.uip_app_c.proofs.Prelude.{each_with, events_of_call, program_goes_home, node_of_call, periodic_events, program_conforms}
+use Rattle.uip_app_c.proofs.Prelude.{is_own_port, messages_text, no_message, numbers_of, own_output_model, own_spec, HasCaptured}
+use Rattle.uip_app_c.proofs.Prelude.{next_message, with_change, Station, All, IsAddr, is_for_closed_port, AnsweredCall, AppCall}
+use Rattle.uip_app_c.proofs.Prelude.{AppCallsConform, AppTraceConforms, Calls, Captures, CouldWrite, IsCallOfBytes, Kept, Listens}
+use Rattle.uip_app_c.proofs.Prelude.{OfEachCall, Writes, app_program, call_at, change_by, connection_after, first_station, link_of}
+use Rattle.uip_app_c.proofs.Prelude.{ports_after_call, station_after_call, station_after_calls, text_in_call, undropped, choose}
+use Rattle.uip_app_c.proofs.Prelude.{AbstractNode, Event, Periodic, connection_in, run, Addr}
 use Rattle.std.proofs.lemmas.List.{length-map}
 use Rattle.line_laws.specs.Prelude.{events_among}
 use Rattle.frame_device.specs.Newest.{NewestConforms}
@@ -26,8 +36,10 @@ module _ (own : Addr) (mac : Mac) (network : Network) (key : Option Key) where
 
   follows_after : (call : AppCall) (s : Station Act) → FollowsAt s → FollowsAt (after call s)
   follows_after call s f =
-      subst (λ (n : AbstractNode). Follows any_port same_part same_numbers own_spec alone n) (sym (node_of_call app_program own_spec is_own_port link own call s))
-      (run_follows any_port same_part same_numbers own_spec alone is_own_port (events_of_call app_program own_spec is_own_port link own call s) (with_change (change_by call s) s.node)
+      subst (λ (n : AbstractNode). Follows any_port same_part same_numbers own_spec alone n)
+      (sym (node_of_call app_program own_spec is_own_port link own call s))
+      (run_follows any_port same_part same_numbers own_spec alone is_own_port (events_of_call app_program own_spec is_own_port link own call
+      s) (with_change (change_by call s) s.node)
       (change_follows any_port same_part same_numbers own_spec alone (change_by call s) s.node f))
 
   -- ---- of one call
@@ -49,16 +61,19 @@ module _ (own : Addr) (mac : Mac) (network : Network) (key : Option Key) where
 
   -- the periodic call after a message was written
   called : (slot taken : ℕ) (text : List ℕ) (last : Bool) (s : Station Act)
-      → (after (Writes slot taken text last) s).node ≡ (run own_spec is_own_port (Periodic slot ∷ []) (with_change (change_by (Writes slot taken text last) s) s.node)).node
+      → (after (Writes slot taken text last) s).node
+      ≡ (run own_spec is_own_port (Periodic slot ∷ []) (with_change (change_by (Writes slot taken text last) s) s.node)).node
   called slot taken text last s =
       node_of_call app_program own_spec is_own_port link own (Writes slot taken text last) s
-      ∙ ap (λ (events : List Event). (run own_spec is_own_port events (with_change (change_by (Writes slot taken text last) s) s.node)).node) (periodic_events (acts_before link.link slot) slot)
+      ∙ ap (λ (events : List Event). (run own_spec is_own_port events (with_change (change_by (Writes slot taken text last) s)
+      s.node)).node) (periodic_events (acts_before link.link slot) slot)
 
   captures_one : (call : AppCall) (s : Station Act) → FollowsAt s → IsGood call s → Captures own mac network key call s
   captures_one (Calls call) s f good = tt
   captures_one (Listens port) s f good = tt
   captures_one (Writes slot taken text last) s f good =
-      subst (λ (n : AbstractNode). HasCaptured (next_message slot taken text last s.node) (connection_in slot s.node) (connection_in slot n)) (sym (called slot taken text last s))
+      subst (λ (n : AbstractNode). HasCaptured (next_message slot taken text last s.node) (connection_in slot s.node)
+      (connection_in slot n)) (sym (called slot taken text last s))
       (alone_captured s.node slot taken text last f good.0 good.1)
 
   -- ---- what the program wrote
@@ -69,22 +84,28 @@ module _ (own : Addr) (mac : Mac) (network : Network) (key : Option Key) where
   abbrev HoldsNext : AbstractNode → ℕ → ℕ → List ℕ → Type 0
   HoldsNext n count slot text = HoldsAfter any_port same_part same_numbers own_spec alone n count slot text
 
-  call_leaves : (call : FrameCall) (n : AbstractNode) → Follows any_port same_part same_numbers own_spec alone n → (count slot : ℕ) (text : List ℕ) → count + 1 < 4294967296 → HoldsAt n count slot text
+  call_leaves : (call : FrameCall) (n : AbstractNode) → Follows any_port same_part same_numbers own_spec alone n
+      → (count slot : ℕ) (text : List ℕ) → count + 1 < 4294967296 → HoldsAt n count slot text
       → HoldsNext (run own_spec is_own_port (events_among (station_events_by link is_own_port n call)) n).node count slot (text ++ [])
   call_leaves call n f count slot text low h =
-      few_leave any_port same_part same_numbers own_spec alone is_own_port (events_among (station_events_by link is_own_port n call)) (call_few (interface_at own mac network) (own_rules key) is_own_port n call) n f count slot text low h
+      few_leave any_port same_part same_numbers own_spec alone is_own_port (events_among (station_events_by link is_own_port n call))
+      (call_few (interface_at own mac network) (own_rules key) is_own_port n call) n f count slot text low h
 
-  one_leaves : (call : AppCall) (s : Station Act) → FollowsAt s → IsGood call s → (count slot : ℕ) (text : List ℕ) → count + 1 < 4294967296 → HoldsAt s.node count slot text
+  one_leaves : (call : AppCall) (s : Station Act) → FollowsAt s → IsGood call s → (count slot : ℕ) (text : List ℕ) → count + 1 < 4294967296
+      → HoldsAt s.node count slot text
       → HoldsNext (after call s).node count slot (text ++ text_in_call slot call)
   one_leaves (Calls call) s f good count slot before low h =
-      subst (λ (n : AbstractNode). HoldsNext n count slot (before ++ [])) (sym (node_of_call app_program own_spec is_own_port link own (Calls call) s)) (call_leaves call s.node f count slot before low h)
+      subst (λ (n : AbstractNode). HoldsNext n count slot (before ++ []))
+      (sym (node_of_call app_program own_spec is_own_port link own (Calls call) s)) (call_leaves call s.node f count slot before low h)
   one_leaves (Listens port) s f good count slot before low h =
-      subst (λ (n : AbstractNode). HoldsNext n count slot (before ++ [])) (sym (node_of_call app_program own_spec is_own_port link own (Listens port) s)) (call_leaves DoesNothing s.node f count slot before low h)
+      subst (λ (n : AbstractNode). HoldsNext n count slot (before ++ []))
+      (sym (node_of_call app_program own_spec is_own_port link own (Listens port) s)) (call_leaves DoesNothing s.node f count slot before low h)
   one_leaves (Writes at taken text last) s f good count slot before low h =
       subst (λ (n : AbstractNode). HoldsNext n count slot (before ++ text_in_call slot (Writes at taken text last))) (sym (called at taken text last s))
       (alone_wrote s.node at taken text last f good.0 good.1 count slot before h)
 
-  all_leave : (calls : List AppCall) (s : Station Act) → FollowsAt s → OfEachCall own mac network key IsGood calls s → (count slot : ℕ) (text : List ℕ) → count + length calls < 4294967296 → HoldsAt s.node count slot text
+  all_leave : (calls : List AppCall) (s : Station Act) → FollowsAt s → OfEachCall own mac network key IsGood calls s
+      → (count slot : ℕ) (text : List ℕ) → count + length calls < 4294967296 → HoldsAt s.node count slot text
       → HasWrittenText (connection_in slot (station_after_calls own mac network key calls s).node)
       (text_written (station_after_call own mac network key) (λ (s : Station Act). s.node) text_in_call slot calls s text)
   all_leave [] s f good count slot text low h = h.has
@@ -95,11 +116,14 @@ module _ (own : Addr) (mac : Mac) (network : Network) (key : Option Key) where
 
 -- ---- the law
 
-messages_sent : (c : Connection) (exchanges : List Exchange) (it : NewestConforms (own_output_model c.sockets.own_port.0) c exchanges) → IsPrefixOf (it.conforms.account 0).stream (messages_text c.part.snapshots)
+messages_sent : (c : Connection) (exchanges : List Exchange) (it : NewestConforms (own_output_model c.sockets.own_port.0) c exchanges)
+    → IsPrefixOf (it.conforms.account 0).stream (messages_text c.part.snapshots)
 messages_sent c exchanges it =
-    subst (λ (ks : List Snapshot). IsPrefixOf (it.conforms.account 0).stream (messages_text ks)) it.snapshots (newest_text (own_output_model c.sockets.own_port.0) c exchanges it).0.2.prefix
+    subst (λ (ks : List Snapshot). IsPrefixOf (it.conforms.account 0).stream (messages_text ks)) it.snapshots
+    (newest_text (own_output_model c.sockets.own_port.0) c exchanges it).0.2.prefix
 
-undropped_conform : (own : Addr) → IsAddr own → (mac : Mac) (network : Network) (secret : Option (List ℕ)) (all : List AnsweredCall) → All IsCallOfBytes (program_calls all)
+undropped_conform : (own : Addr) → IsAddr own → (mac : Mac) (network : Network) (secret : Option (List ℕ)) (all : List AnsweredCall)
+    → All IsCallOfBytes (program_calls all)
     → (closed opened old new : Kept) → OpensAndProtects own mac network secret closed opened old → DidInTurn Did all old new
     → AppTraceConforms own mac network (key_by secret) all
 undropped_conform own is mac network secret all bytes closed opened old new start did =
@@ -111,12 +135,15 @@ undropped_conform own is mac network secret all bytes closed opened old new star
     let link : GuardedLink Act = link_of own mac network key in
     let f = first_follows any_port same_part same_numbers own_spec alone own numbers in
     let good = each_with app_program own_spec is_own_port link own IsCallOfBytes CouldWrite calls s bytes exact.could in
-    let trace = program_conforms app_program own_spec is_own_port link own (ether_brings_bytes (interface_at own mac network)) own_output_model own_speaks.steady own_speaks.bytes own_speaks.speaks numbers own_words is all
-    (each_by app_program own_spec is_own_port link own (FollowsAt own mac network key) (follows_after own mac network key) (IsGood own mac network key) (IsOfLine app_program own_spec is_own_port link own) (of_line own mac network key) calls s f good) exact.frames in
+    let trace = program_conforms app_program own_spec is_own_port link own (ether_brings_bytes (interface_at own mac network))
+    own_output_model own_speaks.steady own_speaks.bytes own_speaks.speaks numbers own_words is all
+    (each_by app_program own_spec is_own_port link own (FollowsAt own mac network key) (follows_after own mac network key)
+    (IsGood own mac network key) (IsOfLine app_program own_spec is_own_port link own) (of_line own mac network key) calls s f good) exact.frames in
     record {
       trace = trace;
       sent = λ slot live. messages_sent (connection_after own mac network key all slot) _ (trace.newest slot live);
-      captured = each_by app_program own_spec is_own_port link own (FollowsAt own mac network key) (follows_after own mac network key) (IsGood own mac network key) (Captures own mac network key) (captures_one own mac network key) calls s f good;
+      captured = each_by app_program own_spec is_own_port link own (FollowsAt own mac network key) (follows_after own mac network key)
+          (IsGood own mac network key) (Captures own mac network key) (captures_one own mac network key) calls s f good;
       written = λ few slot.
           (all_leave own mac network key calls s f good 0 slot [] (let size = length-map all (λ (it : AnsweredCall). it.call) in omega (arith, few, size))
           (first_holds any_port same_part same_numbers own_spec alone own numbers refl slot)).text_is;
@@ -136,9 +163,11 @@ calls_of_bytes : (ports : List ℕ) (all : List AnsweredCall) → All IsCallOfBy
 calls_of_bytes ports [] are = All-nil IsCallOfBytes
 calls_of_bytes ports (it ∷ all) are =
     let next : List ℕ = ports_after_call it.call ports in
-    All-cons IsCallOfBytes (call_at ports it.call) (program_calls (undropped next all)) (call_of_bytes ports it.call (All-head IsCallOfBytes it.call (program_calls all) are))
+    All-cons IsCallOfBytes (call_at ports it.call) (program_calls (undropped next all))
+    (call_of_bytes ports it.call (All-head IsCallOfBytes it.call (program_calls all) are))
     (calls_of_bytes next all (All-tail IsCallOfBytes it.call (program_calls all) are))
 
 pub calls_conform : AppCallsConform
 calls_conform own is mac network secret all bytes closed opened old new start did =
-    undropped_conform own is mac network secret (undropped [] all) (calls_of_bytes [] all bytes) closed opened old new start (did_undropped own mac network secret all closed opened old new start did).0
+    undropped_conform own is mac network secret (undropped [] all) (calls_of_bytes [] all bytes) closed opened old new start
+    (did_undropped own mac network secret all closed opened old new start did).0

@@ -1,5 +1,14 @@
 -- Calls on a handle, one after the other, are exact.
-use Rattle.uip_app_c.proofs.Prelude.{AnswersFrame, OpensAndProtects, drop, Key, Option, Rules, ether_frames, guarded_link, key_by, key_of, own_rules, output_of_call, station_after_frame, AbstractNode, Act, Addr, All, AnsweredCall, AppCall, AreAtOpenPorts, Bool, Calls, CallsAreExact, CallsSlot, CouldWrite, DidCall, DidCalls, DidInTurn, DoesNothing, Ethernet, FrameCall, HasOne, InputsFrame, IsExact, Kept, List, Listens, Mac, Network, None, OwnAnswers, OwnEther, OwnInputs, OwnListens, OwnWrites, PlainMessage, Represents, RepresentsStation, Some, Station, Writes, [], all_exact, ap, app_program, before_program_call, call_at, choose, connection_in, events_of_call, first_station, interface_at, is_for_closed_port, is_open_port, is_own_port, link_of, no_message, node_of_call, numbers_of, own_spec, ports_after, ports_after_call, ports_of, program_calls, program_frame, station_after_call, station_after_calls, subst, sym, undropped, with_port, with_written, ℕ, ◌∙◌, ◌∷◌, ◌≡◌}
+use Rattle.uip_app_c.proofs.Prelude.{AnswersFrame, OpensAndProtects, drop, Key, Option, Rules, ether_frames, guarded_link, key_by, key_of}
+use Rattle.uip_app_c.proofs.Prelude.{own_rules, output_of_call, station_after_frame, AbstractNode, Act, Addr, All, AnsweredCall, AppCall}
+use Rattle.uip_app_c.proofs.Prelude.{AreAtOpenPorts, Bool, Calls, CallsAreExact, CallsSlot, CouldWrite, DidCall, DidCalls, DidInTurn}
+use Rattle.uip_app_c.proofs.Prelude.{DoesNothing, Ethernet, FrameCall, HasOne, InputsFrame, IsExact, Kept, List, Listens, Mac, Network}
+use Rattle.uip_app_c.proofs.Prelude.{None, OwnAnswers, OwnEther, OwnInputs, OwnListens, OwnWrites, PlainMessage, Represents}
+use Rattle.uip_app_c.proofs.Prelude.{RepresentsStation, Some, Station, Writes, [], all_exact, ap, app_program, before_program_call, call_at}
+use Rattle.uip_app_c.proofs.Prelude.{choose, connection_in, events_of_call, first_station, interface_at, is_for_closed_port, is_open_port}
+use Rattle.uip_app_c.proofs.Prelude.{is_own_port, link_of, no_message, node_of_call, numbers_of, own_spec, ports_after, ports_after_call}
+use Rattle.uip_app_c.proofs.Prelude.{ports_of, program_calls, program_frame, station_after_call, station_after_calls, subst, sym, undropped}
+use Rattle.uip_app_c.proofs.Prelude.{with_port, with_written, ℕ, ◌∙◌, ◌∷◌, ◌≡◌}
 use Rattle.frame_device.proofs.Arrivals.{frame_each, slot_each}
 use Rattle.own_node.proofs.OpenPorts.{IsAt, first_at, run_at, stays_open}
 use Rattle.own_node.proofs.GuardedPorts.{arriving_at}
@@ -70,10 +79,13 @@ module _ (own : Addr) (mac : Mac) (network : Network) (key : Option Key) where
 
   -- what a call of the device leads to, under the rules of its guard
   answered : (x y : OwnEther) (call : FrameCall) (s : Station Act) (handed : List ℕ) → Here x s → AnswersFrame ghosts ether_link call x y handed
-      → Here y (station_after_frame own_spec is_own_port (link_of own mac network key) call s) × (handed ≡ output_of_call own_spec is_own_port (link_of own mac network key) own call s)
+      → Here y (station_after_frame own_spec is_own_port (link_of own mac network key) call s)
+      × (handed ≡ output_of_call own_spec is_own_port (link_of own mac network key) own call s)
   answered x y call s handed here it =
-      let both = subst (λ (r : Rules). Represented y (station_after_frame own_spec is_own_port (guarded_link (ether_frames (interface_at own mac network)) r) call s)
-      × (handed ≡ output_of_call own_spec is_own_port (guarded_link (ether_frames (interface_at own mac network)) r) own call s)) here.1 (it.each (interface_at own mac network) own_spec own s here.0) in
+      let both = subst (λ (r : Rules). Represented y
+      (station_after_frame own_spec is_own_port (guarded_link (ether_frames (interface_at own mac network)) r) call s)
+      × (handed ≡ output_of_call own_spec is_own_port (guarded_link (ether_frames (interface_at own mac network)) r) own call s)) here.1
+      (it.each (interface_at own mac network) own_spec own s here.0) in
       ((both.0, it.rules ∙ here.1), both.1)
 
   abbrev sent_at : AppCall → Station Act → List ℕ
@@ -87,7 +99,8 @@ module _ (own : Addr) (mac : Mac) (network : Network) (key : Option Key) where
     wrote : handed ≡ sent_at call s
     could : CouldWrite call s
 
-  by_call : (call : FrameCall) (d : OwnEther) (s : Station Act) (a b : Kept) (handed : List ℕ) → a ≡ Some d → Here d s → OwnAnswers call a b handed → Step (Calls call) s b handed
+  by_call : (call : FrameCall) (d : OwnEther) (s : Station Act) (a b : Kept) (handed : List ℕ) → a ≡ Some d → Here d s
+      → OwnAnswers call a b handed → Step (Calls call) s b handed
   by_call call d s a b handed is here it =
       let from = answered it.before it.after call s handed (subst (λ (x : OwnEther). Here x s) (sym (same_own it.before d (sym it.was ∙ is))) here) it.holds in
       record { after = it.after; is = it.is; here = from.0; wrote = from.1; could = tt }
@@ -98,7 +111,11 @@ module _ (own : Addr) (mac : Mac) (network : Network) (key : Option Key) where
       → Here between (record { acts = s.acts; node = with_written message s.node })
   written_here d between message s link rules changes here = (
     record {
-      represented = record { meant = here.0.represented.meant; address = here.0.represented.address; represented = changes s.node here.0.represented.represented };
+      represented = record {
+        meant = here.0.represented.meant;
+        address = here.0.represented.address;
+        represented = changes s.node here.0.represented.represented;
+      };
       acted = subst (λ (x : Ethernet). ether_link.did x (interface_at own mac network) s.acts) (sym link) here.0.acted;
     },
     rules ∙ here.1,
@@ -109,8 +126,10 @@ module _ (own : Addr) (mac : Mac) (network : Network) (key : Option Key) where
   by_write slot taken text last d s a b handed is here it =
       let at : Here it.before s = subst (λ (x : OwnEther). Here x s) (sym (same_own it.before d (sym it.was ∙ is))) here in
       let between = written_here it.before it.between it.writes.message s it.link it.guarded it.writes.changes at in
-      let named = subst (λ (m : PlainMessage). Here it.between (record { acts = s.acts; node = with_written m s.node })) (it.writes.next s.node at.0.represented.represented) between in
-      let from = answered it.between it.after (CallsSlot slot) (before_program_call app_program own_spec is_own_port (link_of own mac network key) own (Writes slot taken text last) s) handed named it.answers in
+      let named = subst (λ (m : PlainMessage). Here it.between (record { acts = s.acts; node = with_written m s.node }))
+      (it.writes.next s.node at.0.represented.represented) between in
+      let from = answered it.between it.after (CallsSlot slot) (before_program_call app_program own_spec is_own_port
+      (link_of own mac network key) own (Writes slot taken text last) s) handed named it.answers in
       record { after = it.after; is = it.is; here = from.0; wrote = from.1; could = it.could s.node at.0.represented.represented }
 
   -- a port was opened, which no connection sees
@@ -167,7 +186,8 @@ module _ (own : Addr) (mac : Mac) (network : Network) (key : Option Key) where
 
   -- a call that makes this call of the device
   makes_at : (ports : List ℕ) (call : AppCall) (s : Station Act) → AtPorts ports s
-      → All (IsAt (is_open_port ports)) (events_of_call app_program own_spec is_own_port (link_of own mac network key) own call s) → AtPorts ports (after call s)
+      → All (IsAt (is_open_port ports)) (events_of_call app_program own_spec is_own_port (link_of own mac network key) own call s)
+      → AtPorts ports (after call s)
   makes_at ports call s each are =
       subst (λ (n : AbstractNode). AreAtOpenPorts ports n) (sym (node_of_call app_program own_spec is_own_port (link_of own mac network key) own call s))
       (run_at own_spec is_own_port (is_open_port ports) (events_of_call app_program own_spec is_own_port (link_of own mac network key) own call s)
@@ -177,20 +197,25 @@ module _ (own : Addr) (mac : Mac) (network : Network) (key : Option Key) where
   call_at_ports ports (Calls (InputsFrame frame)) s each =
       choose (λ (call : FrameCall). AtPorts ports (after (Calls call) s)) (is_for_closed_port ports frame) DoesNothing (InputsFrame frame) (λ e. each)
       (λ e. makes_at ports (Calls (InputsFrame frame)) s each
-      (frame_each (interface_at own mac network) (own_rules key) is_own_port s.node (IsAt (is_open_port ports)) frame (λ kind. guarded_all (IsAt (is_open_port ports)) (own_rules key) is_own_port s.node (drop 14 frame) (arriving_at key s.node.addr ports frame kind e) (λ slot within live. each slot live))))
+      (frame_each (interface_at own mac network) (own_rules key) is_own_port s.node (IsAt (is_open_port ports)) frame
+      (λ kind. guarded_all (IsAt (is_open_port ports)) (own_rules key) is_own_port s.node (drop 14 frame)
+      (arriving_at key s.node.addr ports frame kind e) (λ slot within live. each slot live))))
   call_at_ports ports (Calls (CallsSlot slot)) s each =
-      makes_at ports (Calls (CallsSlot slot)) s each (slot_each (interface_at own mac network) (own_rules key) is_own_port s.node (IsAt (is_open_port ports)) slot tt)
+      makes_at ports (Calls (CallsSlot slot)) s each (slot_each (interface_at own mac network) (own_rules key) is_own_port s.node
+      (IsAt (is_open_port ports)) slot tt)
   call_at_ports ports (Calls DoesNothing) s each = each
   call_at_ports ports (Writes slot taken text last) s each =
       makes_at ports (Writes slot taken text last) s each
-      (slot_each (interface_at own mac network) (own_rules key) is_own_port (before_program_call app_program own_spec is_own_port (link_of own mac network key) own (Writes slot taken text last) s).node
+      (slot_each (interface_at own mac network) (own_rules key) is_own_port (before_program_call app_program own_spec is_own_port
+      (link_of own mac network key) own (Writes slot taken text last) s).node
       (IsAt (is_open_port ports)) slot tt)
   call_at_ports ports (Listens port) s each = λ slot live. stays_open port (connection_in slot s.node).sockets.own_port.0 ports (each slot live)
 
   pub calls_at_ports : (ports : List ℕ) (all : List AnsweredCall) (s : Station Act) → AtPorts ports s
       → AtPorts (ports_after (program_calls all) ports) (station_after_calls own mac network key (program_calls (undropped ports all)) s)
   calls_at_ports ports [] s each = each
-  calls_at_ports ports (it ∷ all) s each = calls_at_ports (ports_after_call it.call ports) all (after (call_at ports it.call) s) (call_at_ports ports it.call s each)
+  calls_at_ports ports (it ∷ all) s each = calls_at_ports (ports_after_call it.call ports) all (after (call_at ports it.call) s)
+      (call_at_ports ports it.call s each)
 
   abbrev KeptHere : Kept → Station Act → Type 0
   KeptHere kept s = HasOne OwnEther (λ d. Here d s) kept
@@ -209,7 +234,8 @@ record Opened (own : Addr) (mac : Mac) (network : Network) (key : Option Key) (o
   here : Here own mac network key device (first_station own)
   ports : ports_of device ≡ []
 
-begins : (own : Addr) (mac : Mac) (network : Network) (secret : Option (List ℕ)) (closed opened old : Kept) → OpensAndProtects own mac network secret closed opened old → Opened own mac network (key_by secret) old
+begins : (own : Addr) (mac : Mac) (network : Network) (secret : Option (List ℕ)) (closed opened old : Kept)
+    → OpensAndProtects own mac network secret closed opened old → Opened own mac network (key_by secret) old
 begins own mac network None closed opened old it =
     let fresh = it.0.1 in
     record { device = fresh.0; is = it.1 ∙ fresh.1; here = (fresh.2.fresh.represented, fresh.2.fresh.rules_are); ports = fresh.2.ports }
@@ -219,7 +245,8 @@ begins own mac network (Some secret) closed opened old it =
     let x : OwnEther = it.1.before in
     let same : d ≡ x = same_own d x (sym fresh.1 ∙ it.1.was) in
     let here : RepresentsStation ghosts ether_link (interface_at own mac network) own_spec own x (first_station own) =
-    subst (λ (y : OwnEther). RepresentsStation ghosts ether_link (interface_at own mac network) own_spec own y (first_station own)) same fresh.2.fresh.represented in
+    subst (λ (y : OwnEther). RepresentsStation ghosts ether_link (interface_at own mac network) own_spec own y (first_station own)) same
+    fresh.2.fresh.represented in
     let rules : x.guard.rules ≡ own_rules None = ap (λ (y : OwnEther). y.guard.rules) (sym same) ∙ fresh.2.fresh.rules_are in
     let set : it.1.after ≡ record x { guard = record x.guard { rules = record x.guard.rules { key = Some (key_of secret) } } } = it.1.holds in
     record {
@@ -237,7 +264,8 @@ pub undropped_exact : (own : Addr) (mac : Mac) (network : Network) (secret : Opt
 undropped_exact own mac network secret all closed opened old new start did =
     let o = begins own mac network secret closed opened old start in
     let key : Option Key = key_by secret in
-    let exact = all_exact app_program own_spec is_own_port (link_of own mac network key) own (KeptHere own mac network key) CouldWrite Did (one_call own mac network key) all (first_station own) old new
+    let exact = all_exact app_program own_spec is_own_port (link_of own mac network key) own (KeptHere own mac network key) CouldWrite Did
+    (one_call own mac network key) all (first_station own) old new
     (o.device, o.is, o.here) did in
     record { frames = exact.frames; could = exact.each; represents = exact.here }
 

@@ -3,9 +3,12 @@ pub use Rattle.app_events.specs.Prelude.{IsPrefixOf, Snapshot, IsAddr}
 pub use Rattle.c_calls.specs.Prelude.{HasOne}
 pub use Rattle.ethernet_arp.specs.Prelude.{Act}
 pub use Rattle.ethernet_arp.specs.declared.mac.Mac.{Mac}
-pub use Rattle.frame_device.proofs.ProgramLaws.{IsOfLine, call_few, each_by, each_with, events_of_call, program_goes_home, node_of_call, periodic_events, program_conforms, all_exact}
+pub use Rattle.frame_device.proofs.ProgramLaws.{IsOfLine, call_few, each_by, each_with, events_of_call, program_goes_home, node_of_call}
+pub use Rattle.frame_device.proofs.ProgramLaws.{periodic_events, program_conforms, all_exact}
 pub use Rattle.frame_device.specs.FrameCalls.{station_after_frame_call as station_after_frame}
-pub use Rattle.frame_device.specs.Prelude.{AnswersFrame, CallsSlot, DoesNothing, FrameCall, GuardedLink, InputsFrame, RepresentsStation, ether_frames, guarded_link, interface_at, output_of_call, IsFrameOfBytes, Makes, acts_before, ether_brings_bytes, station_events_by}
+pub use Rattle.frame_device.specs.Prelude.{AnswersFrame, CallsSlot, DoesNothing, FrameCall, GuardedLink, InputsFrame, RepresentsStation}
+pub use Rattle.frame_device.specs.Prelude.{ether_frames, guarded_link, interface_at, output_of_call, IsFrameOfBytes, Makes, acts_before}
+pub use Rattle.frame_device.specs.Prelude.{ether_brings_bytes, station_events_by}
 pub use Rattle.frame_device.specs.ProgramCalls.{DidInTurn, program_calls, before_program_call, program_frame}
 pub use Rattle.frame_device.specs.declared.ether.Ethernet.{Ethernet}
 pub use Rattle.frame_device.specs.declared.network.Network.{Network}
@@ -13,13 +16,19 @@ pub use Rattle.guarded_node.specs.declared.guard.Rules.{Rules}
 pub use Rattle.sip_hash.specs.SipHash.{key_of}
 pub use Rattle.sip_hash.specs.declared.key.Key.{Key}
 pub use Rattle.raw_box.proofs.Moving.{Opened, opens_well, HeapRow, makes_null_well, gives_parts_well, takes_parts_well}
-pub use Rattle.own_app.specs.Prelude.{PlainMessage, is_own_port, own_spec, with_port, with_written, messages_text, no_message, numbers_of, own_output_model, is_open_port}
+pub use Rattle.own_app.specs.Prelude.{PlainMessage, is_own_port, own_spec, with_port, with_written, messages_text, no_message, numbers_of}
+pub use Rattle.own_app.specs.Prelude.{own_output_model, is_open_port}
 pub use Rattle.own_node.specs.Prelude.{is_for_closed_port, HasCaptured, next_message, with_change, AreAtOpenPorts}
 pub use Rattle.serve_loop.specs.Prelude.{Station}
-pub use Rattle.std.proofs.Common.{Bool, List, [], ◌∷◌, ap, refl, subst, sym, ℕ, ◌∙◌, ◌≡◌, ◌+◌, ◌<◌, if◌then◌else◌, ◌++◌, length, arith, drop}
+pub use Rattle.std.proofs.Common.{Bool, List, [], ◌∷◌, ap, refl, subst, sym, ℕ, ◌∙◌, ◌≡◌, ◌+◌, ◌<◌, if◌then◌else◌, ◌++◌, length, arith}
+pub use Rattle.std.proofs.Common.{drop}
 pub use Rattle.std.proofs.lemmas.Bool.{false≢true}
 pub use Rattle.std.specs.Prelude.{All, is_some, None, Option, Some, true}
-pub use Rattle.uip_app_c.specs.Prelude.{OpensAndProtects, key_by, own_rules, AnsweredCall, AppCall, Calls, CallsAreExact, CouldWrite, DeviceRow, DidCall, DidCalls, IsExact, Kept, Listens, OpensOwn, OwnAnswers, OwnEther, OwnListens, OwnInputs, OwnWrites, Writes, call_at, first_station, holds, link_of, ports_after, ports_after_call, ports_of, station_after_call, undropped, AppCallsConform, AppTraceConforms, Captures, IsCallOfBytes, OfEachCall, app_program, change_by, connection_after, station_after_calls, text_in_call}
+pub use Rattle.uip_app_c.specs.Prelude.{OpensAndProtects, key_by, own_rules, AnsweredCall, AppCall, Calls, CallsAreExact, CouldWrite}
+pub use Rattle.uip_app_c.specs.Prelude.{DeviceRow, DidCall, DidCalls, IsExact, Kept, Listens, OpensOwn, OwnAnswers, OwnEther, OwnListens}
+pub use Rattle.uip_app_c.specs.Prelude.{OwnInputs, OwnWrites, Writes, call_at, first_station, holds, link_of, ports_after, ports_after_call}
+pub use Rattle.uip_app_c.specs.Prelude.{ports_of, station_after_call, undropped, AppCallsConform, AppTraceConforms, Captures, IsCallOfBytes}
+pub use Rattle.uip_app_c.specs.Prelude.{OfEachCall, app_program, change_by, connection_after, station_after_calls, text_in_call}
 pub use Rattle.uip_app_c.specs.declared.held.Held.{Held}
 pub use Rattle.uip_node.proofs.Basics.{choose}
 pub use Rattle.uip_node.specs.Prelude.{AbstractNode, Represents, Event, Periodic, connection_in, run}

@@ -1,5 +1,19 @@
 -- Calls on a handle, one after the other, keep the promise.
-use Rattle.uip_both_c.proofs.Prelude.{Key, Option, ProtectsBoth, both_rules, key_by, All, ◌≡◌, ◌∙◌, ℕ, ◌+◌, ◌<◌, Bool, true, false, if◌then◌else◌, List, [], ◌∷◌, ◌++◌, length, map, sym, ap, subst, arith, length-map, AppSpec, IsAddr, IsPrefixOf, IsU32, Snapshot, others_stay, own_u32, pair_u32, second_back, with_own_u32, change_own, own_numbers, Act, Mac, files_of, words, words_bytes, words_short, CallsSlot, DoesNothing, FrameCall, GuardedLink, InputsFrame, IsFrameOfBytes, Makes, acts_before, ether_brings_bytes, interface_at, station_events_by, Network, DidInTurn, program_calls, IsOfLine, at_end, call_few, each_by, each_with, events_of_call, program_goes_home, node_of_call, periodic_events, program_conforms, PlainMessage, is_own_port, messages_text, no_message, numbers_of, own_output_model, own_spec, write_message, HasCaptured, next_message_at, own_connection, with_change, Station, File, AnsweredCall, BothCall, BothCallsConform, BothTraceConforms, Calls, Captures, CouldWrite, Gives, IsCallOfBytes, Kept, Listens, OfEachCall, OpensBoth, Writes, both_model, both_program, both_spec, call_at, change_by, connection_after, first_both_numbers, first_station, is_both_port, is_dropped, link_of, own_in, ports_after_call, station_after_call, station_after_calls, text_in_call, undropped, choose, first_numbers, value_pages, value_spec, write_value, first_words, written_words, AbstractNode, Event, Periodic, connection_in, run, Addr}
+use Rattle.uip_both_c.proofs.Prelude.{Key, Option, ProtectsBoth, both_rules, key_by, All, ◌≡◌, ◌∙◌, ℕ, ◌+◌, ◌<◌, Bool, true, false}
+use Rattle.uip_both_c.proofs.Prelude.{if◌then◌else◌, List, [], ◌∷◌, ◌++◌, length, map, sym, ap, subst, arith, length-map, AppSpec, IsAddr}
+use Rattle.uip_both_c.proofs.Prelude.{IsPrefixOf, IsU32, Snapshot, others_stay, own_u32, pair_u32, second_back, with_own_u32, change_own}
+use Rattle.uip_both_c.proofs.Prelude.{own_numbers, Act, Mac, files_of, words, words_bytes, words_short, CallsSlot, DoesNothing, FrameCall}
+use Rattle.uip_both_c.proofs.Prelude.{GuardedLink, InputsFrame, IsFrameOfBytes, Makes, acts_before, ether_brings_bytes, interface_at}
+use Rattle.uip_both_c.proofs.Prelude.{station_events_by, Network, DidInTurn, program_calls, IsOfLine, at_end, call_few, each_by, each_with}
+use Rattle.uip_both_c.proofs.Prelude.{events_of_call, program_goes_home, node_of_call, periodic_events, program_conforms, PlainMessage}
+use Rattle.uip_both_c.proofs.Prelude.{is_own_port, messages_text, no_message, numbers_of, own_output_model, own_spec, write_message}
+use Rattle.uip_both_c.proofs.Prelude.{HasCaptured, next_message_at, own_connection, with_change, Station, File, AnsweredCall, BothCall}
+use Rattle.uip_both_c.proofs.Prelude.{BothCallsConform, BothTraceConforms, Calls, Captures, CouldWrite, Gives, IsCallOfBytes, Kept, Listens}
+use Rattle.uip_both_c.proofs.Prelude.{OfEachCall, OpensBoth, Writes, both_model, both_program, both_spec, call_at, change_by}
+use Rattle.uip_both_c.proofs.Prelude.{connection_after, first_both_numbers, first_station, is_both_port, is_dropped, link_of, own_in}
+use Rattle.uip_both_c.proofs.Prelude.{ports_after_call, station_after_call, station_after_calls, text_in_call, undropped, choose}
+use Rattle.uip_both_c.proofs.Prelude.{first_numbers, value_pages, value_spec, write_value, first_words, written_words, AbstractNode, Event}
+use Rattle.uip_both_c.proofs.Prelude.{Periodic, connection_in, run, Addr}
 use Rattle.std.proofs.lemmas.List.Elements.{All-cons, All-head, All-nil, All-tail}
 use Rattle.app_pair.specs.PairSpec.{CanBePaired, own_snapshot}
 use Rattle.line_laws.specs.Prelude.{events_among}
@@ -14,7 +28,8 @@ use Rattle.own_node.specs.Written.{is_accepted, text_written}
 use Rattle.own_node.proofs.Alone.{own_words}
 use Rattle.own_node.proofs.Containing.{view, view_own}
 use Rattle.own_node.proofs.InPair.{in_pair, pair_captured, pair_message, pair_wrote, second_numbers, second_part}
-use Rattle.own_node.proofs.WrittenLaws.{Follows, HasWrittenText, Holds, HoldsAfter, change_follows, change_leaves, first_follows, first_holds, run_follows}
+use Rattle.own_node.proofs.WrittenLaws.{Follows, HasWrittenText, Holds, HoldsAfter, change_follows, change_leaves, first_follows}
+use Rattle.own_node.proofs.WrittenLaws.{first_holds, run_follows}
 use Rattle.pair_laws.specs.PairLines.{own_model}
 use Rattle.pair_laws.proofs.PairLines.{speaks_on_lines}
 use Rattle.tcp_machine.specs.Prelude.{Connection}
@@ -43,8 +58,10 @@ module _ (files : List File) (own : Addr) (mac : Mac) (network : Network) (key :
 
   follows_after : (call : BothCall) (s : Station Act) → FollowsAt s → FollowsAt (after call s)
   follows_after call s f =
-      subst (λ (n : AbstractNode). Follows is_own_port second_part second_numbers spec (in_pair (value_spec files) pages_pair) n) (sym (node_of_call both_program spec is_both_port link own call s))
-      (run_follows is_own_port second_part second_numbers spec (in_pair (value_spec files) pages_pair) is_both_port (events_of_call both_program spec is_both_port link own call s) (with_change (change_by call s) s.node)
+      subst (λ (n : AbstractNode). Follows is_own_port second_part second_numbers spec (in_pair (value_spec files) pages_pair) n)
+      (sym (node_of_call both_program spec is_both_port link own call s))
+      (run_follows is_own_port second_part second_numbers spec (in_pair (value_spec files) pages_pair) is_both_port
+      (events_of_call both_program spec is_both_port link own call s) (with_change (change_by call s) s.node)
       (change_follows is_own_port second_part second_numbers spec (in_pair (value_spec files) pages_pair) (change_by call s) s.node f))
 
   -- ---- of one call
@@ -65,25 +82,30 @@ module _ (files : List File) (own : Addr) (mac : Mac) (network : Network) (key :
     tt,
     λ numbers h. (let message : PlainMessage = next_message_at taken text last (own_in slot s.node) in
         with_own_u32 true (write_message message (own_numbers true numbers)) numbers
-        (written_u32 message (own_numbers true numbers) (pair_message (value_spec files) pages_pair s.node slot taken text last f good.0 good.1) (own_u32 true numbers h)) h),
+        (written_u32 message (own_numbers true numbers) (pair_message (value_spec files) pages_pair s.node slot taken text last f good.0
+        good.1) (own_u32 true numbers h)) h),
   )
   of_line (Gives number text) s f good = (
     tt,
-    λ numbers h. with_own_u32 false (write_value number text (own_numbers false numbers)) numbers (written_words number text (own_numbers false numbers) good.0 (own_u32 false numbers h)) h,
+    λ numbers h. with_own_u32 false (write_value number text (own_numbers false numbers)) numbers
+        (written_words number text (own_numbers false numbers) good.0 (own_u32 false numbers h)) h,
   )
 
   -- the periodic call after a message was written
   called : (slot taken : ℕ) (text : List ℕ) (last : Bool) (s : Station Act)
-      → (after (Writes slot taken text last) s).node ≡ (run spec is_both_port (Periodic slot ∷ []) (with_change (change_by (Writes slot taken text last) s) s.node)).node
+      → (after (Writes slot taken text last) s).node
+      ≡ (run spec is_both_port (Periodic slot ∷ []) (with_change (change_by (Writes slot taken text last) s) s.node)).node
   called slot taken text last s =
       node_of_call both_program spec is_both_port link own (Writes slot taken text last) s
-      ∙ ap (λ (events : List Event). (run spec is_both_port events (with_change (change_by (Writes slot taken text last) s) s.node)).node) (periodic_events (acts_before link.link slot) slot)
+      ∙ ap (λ (events : List Event). (run spec is_both_port events (with_change (change_by (Writes slot taken text last) s) s.node)).node)
+      (periodic_events (acts_before link.link slot) slot)
 
   captures_one : (call : BothCall) (s : Station Act) → FollowsAt s → IsGood call s → Captures files own mac network key call s
   captures_one (Calls call) s f good = tt
   captures_one (Listens port) s f good = tt
   captures_one (Writes slot taken text last) s f good =
-      subst (λ (n : AbstractNode). HasCaptured (next_message_at taken text last (own_in slot s.node)) (own_connection (connection_in slot s.node)) (own_connection (connection_in slot n))) (sym (called slot taken text last s))
+      subst (λ (n : AbstractNode). HasCaptured (next_message_at taken text last (own_in slot s.node))
+      (own_connection (connection_in slot s.node)) (own_connection (connection_in slot n))) (sym (called slot taken text last s))
       (pair_captured (value_spec files) pages_pair s.node slot taken text last f good.0 good.1)
   captures_one (Gives number text) s f good = tt
 
@@ -95,28 +117,36 @@ module _ (files : List File) (own : Addr) (mac : Mac) (network : Network) (key :
   abbrev HoldsNext : AbstractNode → ℕ → ℕ → List ℕ → Type 0
   HoldsNext n count slot text = HoldsAfter is_own_port second_part second_numbers spec (in_pair (value_spec files) pages_pair) n count slot text
 
-  call_leaves : (call : FrameCall) (n : AbstractNode) → Follows is_own_port second_part second_numbers spec (in_pair (value_spec files) pages_pair) n → (count slot : ℕ) (text : List ℕ) → count + 1 < 4294967296 → HoldsAt n count slot text
+  call_leaves : (call : FrameCall) (n : AbstractNode) → Follows is_own_port second_part second_numbers spec
+      (in_pair (value_spec files) pages_pair) n → (count slot : ℕ) (text : List ℕ) → count + 1 < 4294967296 → HoldsAt n count slot text
       → HoldsNext (run spec is_both_port (events_among (station_events_by link is_both_port n call)) n).node count slot (text ++ [])
   call_leaves call n f count slot text low h =
-      few_leave is_own_port second_part second_numbers spec (in_pair (value_spec files) pages_pair) is_both_port (events_among (station_events_by link is_both_port n call)) (call_few (interface_at own mac network) (both_rules key) is_both_port n call) n f count slot text low h
+      few_leave is_own_port second_part second_numbers spec (in_pair (value_spec files) pages_pair) is_both_port
+      (events_among (station_events_by link is_both_port n call)) (call_few (interface_at own mac network) (both_rules key) is_both_port n
+      call) n f count slot text low h
 
-  one_leaves : (call : BothCall) (s : Station Act) → FollowsAt s → IsGood call s → (count slot : ℕ) (text : List ℕ) → count + 1 < 4294967296 → HoldsAt s.node count slot text
+  one_leaves : (call : BothCall) (s : Station Act) → FollowsAt s → IsGood call s → (count slot : ℕ) (text : List ℕ) → count + 1 < 4294967296
+      → HoldsAt s.node count slot text
       → HoldsNext (after call s).node count slot (text ++ text_in_call slot call)
   one_leaves (Calls call) s f good count slot before low h =
-      subst (λ (n : AbstractNode). HoldsNext n count slot (before ++ [])) (sym (node_of_call both_program spec is_both_port link own (Calls call) s)) (call_leaves call s.node f count slot before low h)
+      subst (λ (n : AbstractNode). HoldsNext n count slot (before ++ []))
+      (sym (node_of_call both_program spec is_both_port link own (Calls call) s)) (call_leaves call s.node f count slot before low h)
   one_leaves (Listens port) s f good count slot before low h =
-      subst (λ (n : AbstractNode). HoldsNext n count slot (before ++ [])) (sym (node_of_call both_program spec is_both_port link own (Listens port) s)) (call_leaves DoesNothing s.node f count slot before low h)
+      subst (λ (n : AbstractNode). HoldsNext n count slot (before ++ []))
+      (sym (node_of_call both_program spec is_both_port link own (Listens port) s)) (call_leaves DoesNothing s.node f count slot before low h)
   one_leaves (Writes at taken text last) s f good count slot before low h =
       subst (λ (n : AbstractNode). HoldsNext n count slot (before ++ text_in_call slot (Writes at taken text last))) (sym (called at taken text last s))
       (pair_wrote (value_spec files) pages_pair s.node at taken text last f good.0 good.1 count slot before h)
   one_leaves (Gives number text) s f good count slot before low h =
       let change : List ℕ → List ℕ = change_own false (write_value number text) in
       subst (λ (n : AbstractNode). HoldsNext n count slot (before ++ [])) (sym (node_of_call both_program spec is_both_port link own (Gives number text) s))
-      (call_leaves DoesNothing (with_change change s.node) (change_follows is_own_port second_part second_numbers spec (in_pair (value_spec files) pages_pair) change s.node f) count slot before low
+      (call_leaves DoesNothing (with_change change s.node) (change_follows is_own_port second_part second_numbers spec
+      (in_pair (value_spec files) pages_pair) change s.node f) count slot before low
       (change_leaves is_own_port second_part second_numbers spec (in_pair (value_spec files) pages_pair) change s.node count slot before
       (others_stay false (write_value number text (own_numbers false s.node.numbers)) s.node.numbers) h))
 
-  all_leave : (calls : List BothCall) (s : Station Act) → FollowsAt s → OfEachCall files own mac network key IsGood calls s → (count slot : ℕ) (text : List ℕ) → count + length calls < 4294967296 → HoldsAt s.node count slot text
+  all_leave : (calls : List BothCall) (s : Station Act) → FollowsAt s → OfEachCall files own mac network key IsGood calls s
+      → (count slot : ℕ) (text : List ℕ) → count + length calls < 4294967296 → HoldsAt s.node count slot text
       → HasWrittenText (view is_own_port second_part second_numbers (connection_in slot (station_after_calls files own mac network key calls s).node))
       (text_written (station_after_call files own mac network key) (λ (s : Station Act). s.node) text_in_call slot calls s text)
   all_leave [] s f good count slot text low h = h.has
@@ -128,12 +158,15 @@ module _ (files : List File) (own : Addr) (mac : Mac) (network : Network) (key :
 -- ---- the applications on the wire
 
 -- what is sent at a port of the program's application
-messages_sent : (files : List File) (c : Connection) (exchanges : List Exchange) (it : NewestConforms (both_model files c.sockets.own_port.0) c exchanges) → is_own_port c.sockets.own_port.0 ≡ true
+messages_sent : (files : List File) (c : Connection) (exchanges : List Exchange)
+    (it : NewestConforms (both_model files c.sockets.own_port.0) c exchanges) → is_own_port c.sockets.own_port.0 ≡ true
     → IsPrefixOf (it.conforms.account 0).stream (messages_text (own_connection c).part.snapshots)
 messages_sent files c exchanges it mine =
     let model_is : both_model files c.sockets.own_port.0 ≡ own_model true (own_output_model c.sockets.own_port.0) =
-    ap (λ (b : Bool). if b then own_model true (own_output_model c.sockets.own_port.0) else own_model false (at_every_port (value_pages files) c.sockets.own_port.0)) mine in
-    let text = subst (λ (model : OutputModel). TextConforms model it.newest.incarnation (it.conforms.account 0)) model_is (newest_text (both_model files c.sockets.own_port.0) c exchanges it) in
+    ap (λ (b : Bool). if b then own_model true (own_output_model c.sockets.own_port.0) else own_model false
+    (at_every_port (value_pages files) c.sockets.own_port.0)) mine in
+    let text = subst (λ (model : OutputModel). TextConforms model it.newest.incarnation (it.conforms.account 0)) model_is
+    (newest_text (both_model files c.sockets.own_port.0) c exchanges it) in
     subst (λ (ks : List Snapshot). IsPrefixOf (it.conforms.account 0).stream (messages_text (map (own_snapshot true) ks))) it.snapshots text.0.2.prefix
 
 both_words : (files : List File) → All IsU32 (first_both_numbers files)
@@ -141,8 +174,10 @@ both_words files = pair_u32 (first_numbers files) (numbers_of 0 no_message) (fir
 
 -- ---- the law
 
-undropped_conform : (image : List ℕ) (own : Addr) → IsAddr own → (mac : Mac) (network : Network) (secret : Option (List ℕ)) (all : List AnsweredCall) → All IsCallOfBytes (program_calls all)
-    → (closed opened old new : Kept) → (opens : OpensBoth image own.0 mac.0 network.mask.0 network.router.0 closed opened) → ProtectsBoth secret opened old → DidInTurn Did all old new
+undropped_conform : (image : List ℕ) (own : Addr) → IsAddr own → (mac : Mac) (network : Network) (secret : Option (List ℕ))
+    (all : List AnsweredCall) → All IsCallOfBytes (program_calls all)
+    → (closed opened old new : Kept) → (opens : OpensBoth image own.0 mac.0 network.mask.0 network.router.0 closed opened)
+    → ProtectsBoth secret opened old → DidInTurn Did all old new
     → BothTraceConforms (files_of opens.site) own mac network (key_by secret) all
 undropped_conform image own is mac network secret all bytes closed opened old new opens protects did =
     let key : Option Key = key_by secret in
@@ -159,7 +194,8 @@ undropped_conform image own is mac network secret all bytes closed opened old ne
     let speaks = speaks_on_lines is_own_port (value_spec files) own_spec (at_every_port (value_pages files)) own_output_model
     record {
       steady = steady_of (value_spec files) (value_pages files) lawful;
-      bytes = page_bytes (value_spec files) (value_pages files) lawful (λ delivered captures bytes are. made_of_bytes_by words words_bytes opens.site of.bytes delivered captures are);
+      bytes = page_bytes (value_spec files) (value_pages files) lawful (λ delivered captures bytes are. made_of_bytes_by words words_bytes
+          opens.site of.bytes delivered captures are);
       speaks = paged_everywhere (value_spec files) (value_pages files) lawful;
       port = pages.port;
     }
@@ -168,17 +204,23 @@ undropped_conform image own is mac network secret all bytes closed opened old ne
     let f = first_follows is_own_port second_part second_numbers spec contains own numbers in
     let good = each_with both_program spec is_both_port link own IsCallOfBytes CouldWrite calls s bytes exact.could in
     let ends = at_end both_program spec is_both_port link own (FollowsAt files own mac network key) (follows_after files own mac network key) calls s f in
-    let trace = program_conforms both_program spec is_both_port link own (ether_brings_bytes (interface_at own mac network)) (both_model files) speaks.steady speaks.bytes speaks.speaks numbers (both_words files) is all
-    (each_by both_program spec is_both_port link own (FollowsAt files own mac network key) (follows_after files own mac network key) (IsGood files own mac network key) (IsOfLine both_program spec is_both_port link own) (of_line files own mac network key) calls s f good) exact.frames in
+    let trace = program_conforms both_program spec is_both_port link own (ether_brings_bytes (interface_at own mac network))
+    (both_model files) speaks.steady speaks.bytes speaks.speaks numbers (both_words files) is all
+    (each_by both_program spec is_both_port link own (FollowsAt files own mac network key) (follows_after files own mac network key)
+    (IsGood files own mac network key) (IsOfLine both_program spec is_both_port link own) (of_line files own mac network key) calls s f good) exact.frames in
     record {
       trace = trace;
       sent = λ slot live mine. messages_sent files (connection_after files own mac network key all slot) _ (trace.newest slot live) mine;
-      captured = each_by both_program spec is_both_port link own (FollowsAt files own mac network key) (follows_after files own mac network key) (IsGood files own mac network key) (Captures files own mac network key) (captures_one files own mac network key) calls s f good;
+      captured = each_by both_program spec is_both_port link own (FollowsAt files own mac network key)
+          (follows_after files own mac network key) (IsGood files own mac network key) (Captures files own mac network key)
+          (captures_one files own mac network key) calls s f good;
       written = λ few slot mine.
           (let c : Connection = connection_after files own mac network key all slot in
-          let has = all_leave files own mac network key calls s f good 0 slot [] (let size = length-map all (λ (it : AnsweredCall). it.call) in omega (arith, few, size))
+          let has = all_leave files own mac network key calls s f good 0 slot []
+          (let size = length-map all (λ (it : AnsweredCall). it.call) in omega (arith, few, size))
           (first_holds is_own_port second_part second_numbers spec contains own numbers (second_back (first_numbers files) (numbers_of 0 no_message)) slot) in
-          ap (λ (x : Connection). messages_text x.part.snapshots) (sym (view_own is_own_port second_part second_numbers c (ap is_own_port (ends.at_port slot) ∙ mine))) ∙ has.text_is);
+          ap (λ (x : Connection). messages_text x.part.snapshots)
+          (sym (view_own is_own_port second_part second_numbers c (ap is_own_port (ends.at_port slot) ∙ mine))) ∙ has.text_is);
       home = λ six. program_goes_home both_program spec is_both_port (interface_at own mac network) (both_rules key) own six calls s tt;
     }
 
@@ -196,7 +238,8 @@ calls_of_bytes : (ports : List ℕ) (all : List AnsweredCall) → All IsCallOfBy
 calls_of_bytes ports [] are = All-nil IsCallOfBytes
 calls_of_bytes ports (it ∷ all) are =
     let next : List ℕ = ports_after_call it.call ports in
-    All-cons IsCallOfBytes (call_at ports it.call) (program_calls (undropped next all)) (call_of_bytes ports it.call (All-head IsCallOfBytes it.call (program_calls all) are))
+    All-cons IsCallOfBytes (call_at ports it.call) (program_calls (undropped next all))
+    (call_of_bytes ports it.call (All-head IsCallOfBytes it.call (program_calls all) are))
     (calls_of_bytes next all (All-tail IsCallOfBytes it.call (program_calls all) are))
 
 pub calls_conform : BothCallsConform

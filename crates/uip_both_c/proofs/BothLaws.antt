@@ -1,5 +1,16 @@
 -- Calls on a handle, one after the other, are exact.
-use Rattle.uip_both_c.proofs.Prelude.{AnswersFrame, OpensAndProtects, Key, Option, RepresentsStation, Rules, both_rules, drop, ether_frames, guarded_link, key_by, key_of, output_of_call, station_after_frame, AbstractNode, Act, Addr, All, AnsweredCall, AppState, AreAtOpenPorts, Bool, BothAnswers, BothApps, BothAtStation, BothCall, BothEther, BothGives, BothInputs, BothListens, BothWrites, Calls, CallsAreExact, CallsSlot, CouldWrite, DidCall, DidCalls, DidInTurn, DoesNothing, Ethernet, File, FrameCall, Gives, HasOne, InputsFrame, IsExact, Kept, List, Listens, Mac, Network, None, PlainMessage, Represents, Some, Station, Writes, [], all_exact, ap, before_program_call, both, both_program, both_spec, call_at, change_own, choose, connection_in, eqb, events_of_call, files_of, first_both_numbers, first_station, interface_at, is_both_port, is_dropped, is_open_port, link_of, node_of_call, ports_after, ports_after_call, ports_of, program_calls, program_frame, site_of, station_after_call, station_after_calls, subst, sym, true, undropped, with_change, with_port, with_ports_of, write_message, ℕ, ◌∙◌, ◌∷◌, ◌≡◌}
+use Rattle.uip_both_c.proofs.Prelude.{AnswersFrame, OpensAndProtects, Key, Option, RepresentsStation, Rules, both_rules, drop, ether_frames}
+use Rattle.uip_both_c.proofs.Prelude.{guarded_link, key_by, key_of, output_of_call, station_after_frame, AbstractNode, Act, Addr, All}
+use Rattle.uip_both_c.proofs.Prelude.{AnsweredCall, AppState, AreAtOpenPorts, Bool, BothAnswers, BothApps, BothAtStation, BothCall}
+use Rattle.uip_both_c.proofs.Prelude.{BothEther, BothGives, BothInputs, BothListens, BothWrites, Calls, CallsAreExact, CallsSlot}
+use Rattle.uip_both_c.proofs.Prelude.{CouldWrite, DidCall, DidCalls, DidInTurn, DoesNothing, Ethernet, File, FrameCall, Gives, HasOne}
+use Rattle.uip_both_c.proofs.Prelude.{InputsFrame, IsExact, Kept, List, Listens, Mac, Network, None, PlainMessage, Represents, Some}
+use Rattle.uip_both_c.proofs.Prelude.{Station, Writes, [], all_exact, ap, before_program_call, both, both_program, both_spec, call_at}
+use Rattle.uip_both_c.proofs.Prelude.{change_own, choose, connection_in, eqb, events_of_call, files_of, first_both_numbers, first_station}
+use Rattle.uip_both_c.proofs.Prelude.{interface_at, is_both_port, is_dropped, is_open_port, link_of, node_of_call, ports_after}
+use Rattle.uip_both_c.proofs.Prelude.{ports_after_call, ports_of, program_calls, program_frame, site_of, station_after_call}
+use Rattle.uip_both_c.proofs.Prelude.{station_after_calls, subst, sym, true, undropped, with_change, with_port, with_ports_of}
+use Rattle.uip_both_c.proofs.Prelude.{write_message, ℕ, ◌∙◌, ◌∷◌, ◌≡◌}
 use Rattle.app_pair.specs.declared.pair.AppPair.TheVariants as pair
 use Rattle.frame_device.proofs.Arrivals.{frame_each, slot_each}
 use Rattle.own_node.proofs.OpenPorts.{IsAt, first_at, or_more, run_at, stays_open}
@@ -55,8 +66,15 @@ one_undropped ports (Calls (InputsFrame frame)) a b handed has it = inputs_undro
 one_undropped ports (Calls (CallsSlot slot)) a b handed has it =
     (it, (it.after, it.is, ports_stay it.before it.after it.holds.kept ∙ ports_were ports a it.before has it.was))
 one_undropped ports (Calls DoesNothing) a b handed has it = (it, (has.0, it.0 ∙ has.1, has.2))
-one_undropped ports (Writes slot taken text last) a b handed has it =
-    (it, (it.after, it.is, ports_stay it.between it.after it.answers.kept ∙ ports_stay it.before it.between it.writes.kept ∙ ports_were ports a it.before has it.was))
+one_undropped ports (Writes slot taken text last) a b handed has it = (
+  it,
+  (
+    it.after,
+    it.is,
+    ports_stay it.between it.after it.answers.kept ∙ ports_stay it.before it.between it.writes.kept
+        ∙ ports_were ports a it.before has it.was,
+  ),
+)
 one_undropped ports (Gives number text) a b handed has it =
     (it, (it.0.after, it.0.is, ports_stay it.0.before it.0.after it.0.holds.kept ∙ ports_were ports a it.0.before has it.0.was))
 one_undropped ports (Listens port) a b handed has it =
@@ -100,20 +118,27 @@ module _ (files : List File) (own : Addr) (mac : Mac) (network : Network) (key :
 
   -- what a call of the device leads to, under the rules of its guard
   answered : (x y : BothEther) (call : FrameCall) (s : Station Act) (handed : List ℕ) → Here x s → AnswersFrame both ether_link call x y handed
-      → Here y (station_after_frame (both_spec files) is_both_port (link_of own mac network key) call s) × (handed ≡ output_of_call (both_spec files) is_both_port (link_of own mac network key) own call s)
+      → Here y (station_after_frame (both_spec files) is_both_port (link_of own mac network key) call s)
+      × (handed ≡ output_of_call (both_spec files) is_both_port (link_of own mac network key) own call s)
   answered x y call s handed here it =
-      let from = subst (λ (r : Rules). RepresentsStation both ether_link (interface_at own mac network) (both_spec files) own y (station_after_frame (both_spec files) is_both_port (guarded_link (ether_frames (interface_at own mac network)) r) call s)
-      × (handed ≡ output_of_call (both_spec files) is_both_port (guarded_link (ether_frames (interface_at own mac network)) r) own call s)) here.rules_are (it.each (interface_at own mac network) (both_spec files) own s here.station) in
+      let from = subst (λ (r : Rules). RepresentsStation both ether_link (interface_at own mac network) (both_spec files) own y
+      (station_after_frame (both_spec files) is_both_port (guarded_link (ether_frames (interface_at own mac network)) r) call s)
+      × (handed ≡ output_of_call (both_spec files) is_both_port (guarded_link (ether_frames (interface_at own mac network)) r) own call s))
+      here.rules_are (it.each (interface_at own mac network) (both_spec files) own s here.station) in
       (record { files_are = files_stay x y it.kept here.files_are; station = from.0; rules_are = it.rules ∙ here.rules_are }, from.1)
 
-  by_call : (call : FrameCall) (d : BothEther) (s : Station Act) (a b : Kept) (handed : List ℕ) → a ≡ Some d → Here d s → BothAnswers call a b handed → Step (Calls call) s b handed
+  by_call : (call : FrameCall) (d : BothEther) (s : Station Act) (a b : Kept) (handed : List ℕ) → a ≡ Some d → Here d s
+      → BothAnswers call a b handed → Step (Calls call) s b handed
   by_call call d s a b handed is here it =
-      let from = answered it.before it.after call s handed (subst (λ (x : BothEther). Here x s) (sym (same_both it.before d (sym it.was ∙ is))) here) it.holds in
+      let from = answered it.before it.after call s handed
+      (subst (λ (x : BothEther). Here x s) (sym (same_both it.before d (sym it.was ∙ is))) here) it.holds in
       record { after = it.after; is = it.is; here = from.0; wrote = from.1; could = tt }
 
   -- a message was written, at the station before the periodic call
-  written_here : (d between : BothEther) (message : PlainMessage) (s : Station Act) → between.frames ≡ d.frames → between.guard.rules ≡ d.guard.rules → both.config between.node.shared ≡ both.config d.node.shared
-      → ((n : AbstractNode) → Represents both d.node n n.history → Represents both between.node (with_change (change_own true (write_message message)) n) n.history) → Here d s
+  written_here : (d between : BothEther) (message : PlainMessage) (s : Station Act) → between.frames ≡ d.frames
+      → between.guard.rules ≡ d.guard.rules → both.config between.node.shared ≡ both.config d.node.shared
+      → ((n : AbstractNode) → Represents both d.node n n.history
+      → Represents both between.node (with_change (change_own true (write_message message)) n) n.history) → Here d s
       → Here between (record { acts = s.acts; node = with_change (change_own true (write_message message)) s.node })
   written_here d between message s link rules kept changes here = record {
     rules_are = rules ∙ here.rules_are;
@@ -135,10 +160,12 @@ module _ (files : List File) (own : Addr) (mac : Mac) (network : Network) (key :
       let between = written_here it.before it.between it.writes.message s it.link it.guarded it.writes.kept it.writes.changes at in
       let named = subst (λ (m : PlainMessage). Here it.between (record { acts = s.acts; node = with_change (change_own true (write_message m)) s.node }))
       (it.writes.next s.node at.station.represented.represented) between in
-      let from = answered it.between it.after (CallsSlot slot) (before_program_call both_program (both_spec files) is_both_port (link_of own mac network key) own (Writes slot taken text last) s) handed named it.answers in
+      let from = answered it.between it.after (CallsSlot slot) (before_program_call both_program (both_spec files) is_both_port
+      (link_of own mac network key) own (Writes slot taken text last) s) handed named it.answers in
       record { after = it.after; is = it.is; here = from.0; wrote = from.1; could = it.could s.node at.station.represented.represented }
 
-  by_value : (number : ℕ) (text : List ℕ) (d : BothEther) (s : Station Act) (a b : Kept) (handed : List ℕ) → a ≡ Some d → Here d s → BothGives number text a b → handed ≡ []
+  by_value : (number : ℕ) (text : List ℕ) (d : BothEther) (s : Station Act) (a b : Kept) (handed : List ℕ) → a ≡ Some d → Here d s
+      → BothGives number text a b → handed ≡ []
       → Step (Gives number text) s b handed
   by_value number text d s a b handed is here it none =
       let at : Here it.before s = subst (λ (x : BothEther). Here x s) (sym (same_both it.before d (sym it.was ∙ is))) here in
@@ -209,10 +236,13 @@ module _ (files : List File) (own : Addr) (mac : Mac) (network : Network) (key :
 
   -- a call that makes this call of the device
   makes_at : (ports : List ℕ) (call : BothCall) (s : Station Act) → AtPorts ports s
-      → All (IsAt (is_open_port (WEB_PORT ∷ ports))) (events_of_call both_program (both_spec files) is_both_port (link_of own mac network key) own call s) → AtPorts ports (after call s)
+      → All (IsAt (is_open_port (WEB_PORT ∷ ports))) (events_of_call both_program (both_spec files) is_both_port
+      (link_of own mac network key) own call s) → AtPorts ports (after call s)
   makes_at ports call s each are =
-      subst (λ (n : AbstractNode). AreAtOpenPorts (WEB_PORT ∷ ports) n) (sym (node_of_call both_program (both_spec files) is_both_port (link_of own mac network key) own call s))
-      (run_at (both_spec files) is_both_port (is_open_port (WEB_PORT ∷ ports)) (events_of_call both_program (both_spec files) is_both_port (link_of own mac network key) own call s)
+      subst (λ (n : AbstractNode). AreAtOpenPorts (WEB_PORT ∷ ports) n)
+      (sym (node_of_call both_program (both_spec files) is_both_port (link_of own mac network key) own call s))
+      (run_at (both_spec files) is_both_port (is_open_port (WEB_PORT ∷ ports)) (events_of_call both_program (both_spec files) is_both_port
+      (link_of own mac network key) own call s)
       (before_program_call both_program (both_spec files) is_both_port (link_of own mac network key) own call s).node each are)
 
   more_open : (port p : ℕ) (ports : List ℕ) → is_open_port (WEB_PORT ∷ ports) p ≡ true → is_open_port (WEB_PORT ∷ with_port port ports) p ≡ true
@@ -223,13 +253,16 @@ module _ (files : List File) (own : Addr) (mac : Mac) (network : Network) (key :
       choose (λ (call : FrameCall). AtPorts ports (after (Calls call) s)) (is_dropped ports frame) DoesNothing (InputsFrame frame) (λ e. each)
       (λ e. makes_at ports (Calls (InputsFrame frame)) s each
       (frame_each (interface_at own mac network) (both_rules key) is_both_port s.node (IsAt (is_open_port (WEB_PORT ∷ ports))) frame
-      (λ kind. guarded_all (IsAt (is_open_port (WEB_PORT ∷ ports))) (both_rules key) is_both_port s.node (drop 14 frame) (arriving_at key s.node.addr (WEB_PORT ∷ ports) frame kind e) (λ slot within live. each slot live))))
+      (λ kind. guarded_all (IsAt (is_open_port (WEB_PORT ∷ ports))) (both_rules key) is_both_port s.node (drop 14 frame)
+      (arriving_at key s.node.addr (WEB_PORT ∷ ports) frame kind e) (λ slot within live. each slot live))))
   call_at_ports ports (Calls (CallsSlot slot)) s each =
-      makes_at ports (Calls (CallsSlot slot)) s each (slot_each (interface_at own mac network) (both_rules key) is_both_port s.node (IsAt (is_open_port (WEB_PORT ∷ ports))) slot tt)
+      makes_at ports (Calls (CallsSlot slot)) s each (slot_each (interface_at own mac network) (both_rules key) is_both_port s.node
+      (IsAt (is_open_port (WEB_PORT ∷ ports))) slot tt)
   call_at_ports ports (Calls DoesNothing) s each = each
   call_at_ports ports (Writes slot taken text last) s each =
       makes_at ports (Writes slot taken text last) s each
-      (slot_each (interface_at own mac network) (both_rules key) is_both_port (before_program_call both_program (both_spec files) is_both_port (link_of own mac network key) own (Writes slot taken text last) s).node
+      (slot_each (interface_at own mac network) (both_rules key) is_both_port (before_program_call both_program (both_spec files)
+      is_both_port (link_of own mac network key) own (Writes slot taken text last) s).node
       (IsAt (is_open_port (WEB_PORT ∷ ports))) slot tt)
   call_at_ports ports (Gives number text) s each = each
   call_at_ports ports (Listens port) s each = λ slot live. more_open port (connection_in slot s.node).sockets.own_port.0 ports (each slot live)
@@ -237,7 +270,8 @@ module _ (files : List File) (own : Addr) (mac : Mac) (network : Network) (key :
   pub calls_at_ports : (ports : List ℕ) (all : List AnsweredCall) (s : Station Act) → AtPorts ports s
       → AtPorts (ports_after (program_calls all) ports) (station_after_calls files own mac network key (program_calls (undropped ports all)) s)
   calls_at_ports ports [] s each = each
-  calls_at_ports ports (it ∷ all) s each = calls_at_ports (ports_after_call it.call ports) all (after (call_at ports it.call) s) (call_at_ports ports it.call s each)
+  calls_at_ports ports (it ∷ all) s each = calls_at_ports (ports_after_call it.call ports) all (after (call_at ports it.call) s)
+      (call_at_ports ports it.call s each)
 
   abbrev KeptHere : Kept → Station Act → Type 0
   KeptHere kept s = HasOne BothEther (λ d. Here d s) kept
@@ -256,7 +290,8 @@ record Opened (files : List File) (own : Addr) (mac : Mac) (network : Network) (
   here : Here files own mac network key device (first_station files own)
   ports : ports_of device ≡ []
 
-begins : (files : List File) (own : Addr) (mac : Mac) (network : Network) (secret : Option (List ℕ)) (closed opened old : Kept) → OpensAndProtects files own mac network secret closed opened old
+begins : (files : List File) (own : Addr) (mac : Mac) (network : Network) (secret : Option (List ℕ)) (closed opened old : Kept)
+    → OpensAndProtects files own mac network secret closed opened old
     → Opened files own mac network (key_by secret) old
 begins files own mac network None closed opened old it =
     let fresh = it.0.1 in
@@ -286,17 +321,20 @@ begins files own mac network (Some secret) closed opened old it =
       ports = ap (λ (y : BothEther). ports_of y) set ∙ ap (λ (y : BothEther). ports_of y) (sym same) ∙ fresh.2.ports;
     }
 
-pub undropped_exact : (files : List File) (own : Addr) (mac : Mac) (network : Network) (secret : Option (List ℕ)) (all : List AnsweredCall) (closed opened old new : Kept)
+pub undropped_exact : (files : List File) (own : Addr) (mac : Mac) (network : Network) (secret : Option (List ℕ)) (all : List AnsweredCall)
+    (closed opened old new : Kept)
     → OpensAndProtects files own mac network secret closed opened old → DidInTurn Did all old new → IsExact files own mac network (key_by secret) all new
 undropped_exact files own mac network secret all closed opened old new start did =
     let o = begins files own mac network secret closed opened old start in
     let key : Option Key = key_by secret in
-    let exact = all_exact both_program (both_spec files) is_both_port (link_of own mac network key) own (KeptHere files own mac network key) CouldWrite Did (one_call files own mac network key) all (first_station files own) old new
+    let exact = all_exact both_program (both_spec files) is_both_port (link_of own mac network key) own (KeptHere files own mac network key)
+    CouldWrite Did (one_call files own mac network key) all (first_station files own) old new
     (o.device, o.is, o.here) did in
     record { frames = exact.frames; could = exact.each; represents = exact.here }
 
 -- without the frames that are dropped, from the start
-pub did_undropped : (files : List File) (own : Addr) (mac : Mac) (network : Network) (secret : Option (List ℕ)) (all : List AnsweredCall) (closed opened old new : Kept)
+pub did_undropped : (files : List File) (own : Addr) (mac : Mac) (network : Network) (secret : Option (List ℕ)) (all : List AnsweredCall)
+    (closed opened old new : Kept)
     → OpensAndProtects files own mac network secret closed opened old → DidCalls all old new
     → DidInTurn Did (undropped [] all) old new × HasOne BothEther (λ d. ports_of d ≡ ports_after (program_calls all) []) new
 did_undropped files own mac network secret all closed opened old new start did =
@@ -308,6 +346,7 @@ calls_exact files own mac network secret all closed opened old new start did =
       undropped_exact files own mac network secret (undropped [] all) closed opened old new start undropped_did.0,
       record {
         ports = undropped_did.1;
-        connections = calls_at_ports files own mac network (key_by secret) [] all (first_station files own) (first_at (is_open_port (WEB_PORT ∷ [])) own (first_both_numbers files));
+        connections = calls_at_ports files own mac network (key_by secret) [] all (first_station files own)
+            (first_at (is_open_port (WEB_PORT ∷ [])) own (first_both_numbers files));
       },
     )

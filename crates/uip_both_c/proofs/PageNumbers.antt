@@ -1,5 +1,6 @@
 -- The numbers of a node with both applications: those of the pages, then those of the application of the program's own.
-use Rattle.uip_both_c.proofs.Prelude.{◌≡◌, ℕ, List, false, sym, ap, ◌∙◌, BothShared, DeviceWeb, OwnShared, WebContent, both, change_own, first_back, first_kept, numbers_of_first, pair_numbers, with_own, write_value}
+use Rattle.uip_both_c.proofs.Prelude.{◌≡◌, ℕ, List, false, sym, ap, ◌∙◌, BothShared, DeviceWeb, OwnShared, WebContent, both, change_own}
+use Rattle.uip_both_c.proofs.Prelude.{first_back, first_kept, numbers_of_first, pair_numbers, with_own, write_value}
 use Rattle.uip_device.specs.contracts.value_pages.ValuePagesApp.TheImpl.{ghosts as page_ghosts}
 use Rattle.own_app.specs.contracts.app.OwnAppApp.TheImpl.{ghosts as own_ghosts}
 
@@ -11,7 +12,8 @@ pub config_kept : (old : BothShared) (first : DeviceWeb) → first.web ≡ old.f
 config_kept old first same = ap (λ (web : WebContent). config_with old.second web) same
 
 -- nor the other numbers
-pub value_set : (number : ℕ) (text : List ℕ) (old : BothShared) (first : DeviceWeb) → page_ghosts.numbers first ≡ write_value number text (page_ghosts.numbers old.first)
+pub value_set : (number : ℕ) (text : List ℕ) (old : BothShared) (first : DeviceWeb) → page_ghosts.numbers first ≡ write_value number text
+    (page_ghosts.numbers old.first)
     → both.numbers (record old { first = first }) ≡ change_own false (write_value number text) (both.numbers old)
 value_set number text old first set =
     let xs : List ℕ = page_ghosts.numbers old.first in

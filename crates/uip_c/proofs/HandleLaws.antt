@@ -1,5 +1,12 @@
 -- Moves on a handle, one after the other, are moves of its device.
-use Rattle.uip_c.proofs.Prelude.{All, IsAddr, IsByte, File, HasSoundScripts, IsLoaded, SiteContent, files_of, is_served, made_of_bytes_by, keeps_page_laws_by, word_calls, words, words_bytes, words_short, Item, Addr, Call, Calls, CallsForDatagram, Drains, Feeds, Inputs, Answered, Answers, AnswersAll, AnswersMove, Changes, datagrams_handed, left_text_of, lefts_of, line_handed, moves_of, IsOfBytes, CallsConform, Bring, Move, DeviceRepresents, WebDevice, first_numbers, value_spec, value_pages, web_datagrams_sent, web_line_sent, web_node_after, web_rules, write_value, answers_nothing, datagrams_reported, line_served, line_view, node_represents, keeps_calls, first_words, written_words, IsLine, Kept, NoDevice, OnEther, OnLine, Did, DidAll, ConformOnWire, HandleAnswers, HandleGives, IsReady, LineIsServed, left_text_in, lefts_in}
+use Rattle.uip_c.proofs.Prelude.{All, IsAddr, IsByte, File, HasSoundScripts, IsLoaded, SiteContent, files_of, is_served, made_of_bytes_by}
+use Rattle.uip_c.proofs.Prelude.{keeps_page_laws_by, word_calls, words, words_bytes, words_short, Item, Addr, Call, Calls, CallsForDatagram}
+use Rattle.uip_c.proofs.Prelude.{Drains, Feeds, Inputs, Answered, Answers, AnswersAll, AnswersMove, Changes, datagrams_handed, left_text_of}
+use Rattle.uip_c.proofs.Prelude.{lefts_of, line_handed, moves_of, IsOfBytes, CallsConform, Bring, Move, DeviceRepresents, WebDevice}
+use Rattle.uip_c.proofs.Prelude.{first_numbers, value_spec, value_pages, web_datagrams_sent, web_line_sent, web_node_after, web_rules}
+use Rattle.uip_c.proofs.Prelude.{write_value, answers_nothing, datagrams_reported, line_served, line_view, node_represents, keeps_calls}
+use Rattle.uip_c.proofs.Prelude.{first_words, written_words, IsLine, Kept, NoDevice, OnEther, OnLine, Did, DidAll, ConformOnWire}
+use Rattle.uip_c.proofs.Prelude.{HandleAnswers, HandleGives, IsReady, LineIsServed, left_text_in, lefts_in}
 use Rattle.std.proofs.Common.{◌≡◌, ℕ, List, [], ◌∷◌, ◌++◌, None as NothingLeft, Option, refl, sym, ap, ◌∙◌, subst}
 use Rattle.uip_device.specs.contracts.value_pages.ValuePagesApp.TheImpl.{ghosts}
 use Rattle.uip_device.specs.Calls.{DoesNothing}
@@ -74,7 +81,8 @@ on_devices (it ∷ all) d a c is more =
       lefts = ap (λ l. left_text_of first.after ∷ l) later.lefts ∙ ap (λ (o : Kept). left_text_in o ∷ lefts_in all b c more.2) (sym first.is);
     }
 
-module _ (files : List File) (own : Addr) (key : Option Key) (all : List Answered) (old new : Kept) (ready : IsReady files own key old) (answered : DidAll all old new) where
+module _ (files : List File) (own : Addr) (key : Option Key) (all : List Answered) (old new : Kept) (ready : IsReady files own key old)
+    (answered : DidAll all old new) where
   abbrev opened : WebDevice
   opened = ready.0
 
@@ -82,10 +90,16 @@ module _ (files : List File) (own : Addr) (key : Option Key) (all : List Answere
   devices = on_devices all opened old new ready.1 answered
 
   pub c_line : IsLine (λ d. line_handed all ++ left_text_of d ≡ web_line_sent files key own (moves_of all)) new
-  c_line = (devices.last, devices.is, line_view ghosts (value_spec files) write_value (first_numbers files) own (web_rules key) all opened devices.last ready.2.fresh devices.answers)
+  c_line = (
+    devices.last,
+    devices.is,
+    line_view ghosts (value_spec files) write_value (first_numbers files) own (web_rules key) all opened
+        devices.last ready.2.fresh devices.answers,
+  )
 
   pub c_datagrams : datagrams_handed all ≡ web_datagrams_sent files key own (moves_of all)
-  c_datagrams = datagrams_reported ghosts (value_spec files) write_value (first_numbers files) own (web_rules key) all opened devices.last ready.2.fresh devices.answers
+  c_datagrams = datagrams_reported ghosts (value_spec files) write_value (first_numbers files) own (web_rules key) all opened devices.last
+      ready.2.fresh devices.answers
 
   pub c_represents : IsLine (λ d. DeviceRepresents files own d (web_node_after files key own (moves_of all))) new
   c_represents =
@@ -104,21 +118,25 @@ module _ (files : List File) (own : Addr) (key : Option Key) (all : List Answere
       → LineIsServed (value_spec files) is_served (first_numbers files) own (web_rules key) pace items (line_handed all)
   c_served pace items bring handed =
       let last : handed.0 ≡ devices.last = same_line handed.0 devices.last (sym handed.1 ∙ devices.is) in
-      line_served ghosts (value_spec files) write_value (first_numbers files) own (web_rules key) all opened devices.last ready.2.fresh devices.answers pace items bring
+      line_served ghosts (value_spec files) write_value (first_numbers files) own (web_rules key) all opened devices.last ready.2.fresh
+      devices.answers pace items bring
       (subst (λ (d : WebDevice). d.left ≡ NothingLeft) last handed.2)
 
-module _ (site : SiteContent) (loaded : IsLoaded site) (image : All IsByte site.image) (sound : HasSoundScripts word_calls (files_of site)) (own : Addr) (is : IsAddr own) where
+module _ (site : SiteContent) (loaded : IsLoaded site) (image : All IsByte site.image) (sound : HasSoundScripts word_calls (files_of site))
+    (own : Addr) (is : IsAddr own) where
   pub c_keeps : (key : Option Key) (all : List Answered) → All IsOfBytes (moves_of all) → (old new : Kept) → IsReady (files_of site) own key old
       → (did : DidAll all old new) → ConformOnWire (files_of site) own key all (lefts_in all old new did)
   c_keeps key all bytes old new ready did =
       let files : List File = files_of site in
       let on : OnDevices all ready.0 old new did = on_devices all ready.0 old new ready.1 did in
-      let Of : List (List ℕ) → Type 0 = λ l. CallsConform (value_spec files) (value_pages files) is_served write_value (first_numbers files) (web_rules key) own all l in
+      let Of : List (List ℕ) → Type 0 = λ l. CallsConform (value_spec files) (value_pages files) is_served write_value (first_numbers files)
+      (web_rules key) own all l in
       let calls : Of (lefts_in all old new did) = subst Of on.lefts
       (keeps_calls ghosts (value_spec files) (value_pages files) (keeps_page_laws_by words words_short site loaded sound)
       (λ delivered captures bytes are. made_of_bytes_by words words_bytes site image delivered captures are)
       write_value written_words (first_numbers files) (first_words files) own is (web_rules key) all bytes ready.0 on.last ready.2.fresh on.answers) in
       record {
         calls = calls;
-        wire = wire_conforms (at_every_port (value_pages files)) is_served (lens key own) (lens_is_shift.shift key own) (flat_map (λ it. it.turns) calls.moves) calls.keeps;
+        wire = wire_conforms (at_every_port (value_pages files)) is_served (lens key own) (lens_is_shift.shift key own)
+            (flat_map (λ it. it.turns) calls.moves) calls.keeps;
       }

@@ -1,17 +1,23 @@
 -- What opening a device on Ethernet and setting a value in it give.
-use Rattle.uip_c.proofs.Prelude.{◌≡◌, List, ℕ, refl, subst, sym, files_of, Addr, Mac, Network, ChangesNumbers, IsFreshFrameDevice, DeviceWeb, ChangesNode, IsFirstShared, IsOfImage, WebNode, first_numbers, value_spec, write_value, IsOpenedEther, interface_at, EtherWeb, None, web_rules}
+use Rattle.uip_c.proofs.Prelude.{◌≡◌, List, ℕ, refl, subst, sym, files_of, Addr, Mac, Network, ChangesNumbers, IsFreshFrameDevice}
+use Rattle.uip_c.proofs.Prelude.{DeviceWeb, ChangesNode, IsFirstShared, IsOfImage, WebNode, first_numbers, value_spec, write_value}
+use Rattle.uip_c.proofs.Prelude.{IsOpenedEther, interface_at, EtherWeb, None, web_rules}
 use Rattle.frame_device.specs.contracts.ether.EthernetFrames.TheImpl.{ghosts as ether_link}
 use Rattle.uip_device.specs.contracts.value_pages.ValuePagesApp.TheImpl.{ghosts}
 
-pub opened_ether : (image : List ℕ) (own : Addr) (mac : Mac) (network : Network) (d : EtherWeb) (shared : DeviceWeb) → d.node.shared ≡ shared → IsFirstShared image shared
-    → IsFreshFrameDevice ghosts ether_link (interface_at own mac network) (value_spec (files_of shared.web.site)) (ghosts.numbers shared) (web_rules None) own d → IsOpenedEther image own mac network d
+pub opened_ether : (image : List ℕ) (own : Addr) (mac : Mac) (network : Network) (d : EtherWeb) (shared : DeviceWeb)
+    → d.node.shared ≡ shared → IsFirstShared image shared
+    → IsFreshFrameDevice ghosts ether_link (interface_at own mac network) (value_spec (files_of shared.web.site)) (ghosts.numbers shared)
+    (web_rules None) own d → IsOpenedEther image own mac network d
 opened_ether image own mac network d shared same first fresh =
-    let numbered = subst (λ (l : List ℕ). IsFreshFrameDevice ghosts ether_link (interface_at own mac network) (value_spec (files_of shared.web.site)) l (web_rules None) own d) first.numbers fresh in
+    let numbered = subst (λ (l : List ℕ). IsFreshFrameDevice ghosts ether_link (interface_at own mac network)
+    (value_spec (files_of shared.web.site)) l (web_rules None) own d) first.numbers fresh in
     record {
       site = subst (λ (s : DeviceWeb). IsOfImage image s.web.site) (sym same) first.site;
       fresh = record {
         files_are = refl;
-        fresh = subst (λ (s : DeviceWeb). IsFreshFrameDevice ghosts ether_link (interface_at own mac network) (value_spec (files_of s.web.site)) (first_numbers (files_of s.web.site)) (web_rules None) own d) (sym same) numbered;
+        fresh = subst (λ (s : DeviceWeb). IsFreshFrameDevice ghosts ether_link (interface_at own mac network)
+            (value_spec (files_of s.web.site)) (first_numbers (files_of s.web.site)) (web_rules None) own d) (sym same) numbered;
       };
     }
 

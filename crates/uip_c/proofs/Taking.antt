@@ -1,5 +1,7 @@
 -- What a handle keeps, by its kind.
-use Rattle.uip_c.proofs.Prelude.{◌≡◌, ◌∙◌, List, refl, sym, ap, false≢true, true, false, Some, WebDevice, EtherWeb, Kept, NoDevice, OnEther, OnLine, is_on_ether, is_on_line, node_in, kept_of, node_of, AnyDevice, Ether, Line, AbstractNode, Addr, File, HasAbstractNode, NodeRepresents}
+use Rattle.uip_c.proofs.Prelude.{◌≡◌, ◌∙◌, List, refl, sym, ap, false≢true, true, false, Some, WebDevice, EtherWeb, Kept, NoDevice, OnEther}
+use Rattle.uip_c.proofs.Prelude.{OnLine, is_on_ether, is_on_line, node_in, kept_of, node_of, AnyDevice, Ether, Line, AbstractNode, Addr}
+use Rattle.uip_c.proofs.Prelude.{File, HasAbstractNode, NodeRepresents}
 
 pub line_of : (k : Kept) → is_on_line k ≡ true → (x : WebDevice) × (k ≡ OnLine x)
 line_of NoDevice there = absurd (false≢true there)

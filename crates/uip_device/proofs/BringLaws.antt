@@ -1,6 +1,12 @@
 -- The events that a guarded node takes over moves with bytes are those of a line: datagrams of bytes, the RST of a connection, frames that
 -- are too long and calls of slots.
-use Rattle.uip_device.proofs.Prelude.{All, ◌≡◌, ℕ, ◌+◌, ◌<◌, Bool, true, List, [], ◌∷◌, ◌++◌, if◌then◌else◌, length, map, refl, ap, ◌∙◌, inr, arith, All-append, All-cons, All-head, All-nil, All-tail, Addr, AppSpec, IsAddr, IsByte, IsU32, Byte, Frame, Datagram, Overlong, completed, AbstractNode, Event, Periodic, event_of, initial_node, run, step, choose, CarriesBytes, is_beat, came_by, slip_brings_bytes, IsOfLine, of_bytes, of_overlong, of_call, Arrival, Due, Received, Rules, TooLong, arrival_of, arrivals_after, arrivals_by, arriving, events_at, guarded_events, tick_arrivals, Call, Calls, CallsForDatagram, DoesNothing, Drains, Feeds, Inputs, IsOfBytes, KeepsU32, Gives, Makes, Move, Writing, bytes_of_move, run_move}
+use Rattle.uip_device.proofs.Prelude.{All, ◌≡◌, ℕ, ◌+◌, ◌<◌, Bool, true, List, [], ◌∷◌, ◌++◌, if◌then◌else◌, length, map, refl, ap, ◌∙◌}
+use Rattle.uip_device.proofs.Prelude.{inr, arith, All-append, All-cons, All-head, All-nil, All-tail, Addr, AppSpec, IsAddr, IsByte, IsU32}
+use Rattle.uip_device.proofs.Prelude.{Byte, Frame, Datagram, Overlong, completed, AbstractNode, Event, Periodic, event_of, initial_node}
+use Rattle.uip_device.proofs.Prelude.{run, step, choose, CarriesBytes, is_beat, came_by, slip_brings_bytes, IsOfLine, of_bytes, of_overlong}
+use Rattle.uip_device.proofs.Prelude.{of_call, Arrival, Due, Received, Rules, TooLong, arrival_of, arrivals_after, arrivals_by, arriving}
+use Rattle.uip_device.proofs.Prelude.{events_at, guarded_events, tick_arrivals, Call, Calls, CallsForDatagram, DoesNothing, Drains, Feeds}
+use Rattle.uip_device.proofs.Prelude.{Inputs, IsOfBytes, KeepsU32, Gives, Makes, Move, Writing, bytes_of_move, run_move}
 use Rattle.app_events.specs.Prelude.{is_live}
 use Rattle.guarded_node.proofs.ArrivingBytes.{arriving_low}
 use Rattle.guarded_node.proofs.Resets.{there}
@@ -52,8 +58,10 @@ bytes_bring pace before (b ∷ bytes) h are =
     let due : List Arrival = if is_beat pace (length before + 1) then tick_arrivals else [] in
     All-append IsComing (frame ++ due) (arrivals_after pace behind (map Byte bytes))
     (All-append IsComing frame due (frames_bring (completed before b) (slip_brings_bytes before b h (All-head IsByte b bytes are)))
-    (choose (λ (l : List Arrival). All IsComing l) (is_beat pace (length before + 1)) _ _ (λ e. slots_bring (0 ∷ 1 ∷ 2 ∷ 3 ∷ 4 ∷ 5 ∷ 6 ∷ 7 ∷ 8 ∷ 9 ∷ [])) (λ e. All-nil IsComing)))
-    (bytes_bring pace behind bytes (All-append IsByte before (b ∷ []) h (All-cons IsByte b [] (All-head IsByte b bytes are) (All-nil IsByte))) (All-tail IsByte b bytes are))
+    (choose (λ (l : List Arrival). All IsComing l) (is_beat pace (length before + 1)) _ _
+    (λ e. slots_bring (0 ∷ 1 ∷ 2 ∷ 3 ∷ 4 ∷ 5 ∷ 6 ∷ 7 ∷ 8 ∷ 9 ∷ [])) (λ e. All-nil IsComing)))
+    (bytes_bring pace behind bytes (All-append IsByte before (b ∷ []) h (All-cons IsByte b [] (All-head IsByte b bytes are)
+    (All-nil IsByte))) (All-tail IsByte b bytes are))
 
 call_brings : (before : List ℕ) (call : Call) → IsOfBytes (Makes call) → All IsByte before → All IsComing (arrivals_by before call)
 call_brings before (Feeds bytes) is h = bytes_bring 0 before bytes h is
@@ -95,7 +103,8 @@ module _ (m : AppSpec) (steady : IsSteady m) (sends : SendsBytes m) (served : �
           sound_after events (step m served n e).node (All-tail (IsOfLine own) e events of)
           (step_all m steady sends served own is_own n e (All-head (IsOfLine own) e events of) sound).0
 
-  resets_on_line : (n : AbstractNode) → Stands n → (slot : ℕ) → slot < length n.connections → is_live (connection_in slot n).state ≡ true → IsOfLine own (gives_up (connection_in slot n))
+  resets_on_line : (n : AbstractNode) → Stands n → (slot : ℕ) → slot < length n.connections → is_live (connection_in slot n).state ≡ true
+      → IsOfLine own (gives_up (connection_in slot n))
   resets_on_line n st slot within live =
       let c : Connection = connection_in slot n in
       comes_on_line own c.sockets (reset_by c) is_own (live_fits m steady sends n slot c st.sound (there n slot within) live) (reset_sound c)
@@ -132,17 +141,23 @@ module _ (m : AppSpec) (steady : IsSteady m) (sends : SendsBytes m) (served : �
       steps : All (IsStep own) (steps_of_move gives before move n)
       after : Stands (run_move m served gives rules before move n).node
 
-    move_happens : (gives : Writing) → KeepsU32 gives → (before : List ℕ) (move : Move) (n : AbstractNode) → IsOfBytes move → All IsByte before → Stands n → MoveHappens gives before move n
+    move_happens : (gives : Writing) → KeepsU32 gives → (before : List ℕ) (move : Move) (n : AbstractNode) → IsOfBytes move
+        → All IsByte before → Stands n → MoveHappens gives before move n
     move_happens gives words before (Makes call) n is h st =
         let arrivals : List Arrival = arrivals_by before call in
         let of : AllOf (guarded_events rules m served arrivals n) = all_arrive arrivals n st (call_brings before call is h) in
         record { steps = all_happen own (guarded_events rules m served arrivals n) of; after = stands_after (guarded_events rules m served arrivals n) n of st }
     move_happens gives words before (Gives number text) n is h st = record {
       steps = All-cons (IsStep own) (ChangesNumbers (gives number text)) [] (λ numbers are. words number text numbers is are) (All-nil (IsStep own));
-      after = record { addr = st.addr; sound = changed_sound m steady sends n (gives number text) (words number text n.numbers is st.sound.fit.numbers) st.sound };
+      after = record {
+        addr = st.addr;
+        sound = changed_sound m steady sends n (gives number text)
+            (words number text n.numbers is st.sound.fit.numbers) st.sound;
+      };
     }
 
-    steps_after : (gives : Writing) → KeepsU32 gives → (before : List ℕ) (moves : List Move) (n : AbstractNode) → All IsByte before → All IsOfBytes moves → Stands n
+    steps_after : (gives : Writing) → KeepsU32 gives → (before : List ℕ) (moves : List Move) (n : AbstractNode) → All IsByte before
+        → All IsOfBytes moves → Stands n
         → All (IsStep own) (steps_of gives before moves n)
     steps_after gives words before [] n h are st = All-nil (IsStep own)
     steps_after gives words before (move ∷ moves) n h are st =
@@ -151,9 +166,11 @@ module _ (m : AppSpec) (steady : IsSteady m) (sends : SendsBytes m) (served : �
         let first = move_happens gives words before move n is h st in
         let next : AbstractNode = (run_move m served gives rules before move n).node in
         All-append (IsStep own) (steps_of_move gives before move n) (steps_of gives behind moves next) first.steps
-        (steps_after gives words behind moves next (All-append IsByte before (bytes_of_move move) h (bytes_low move is)) (All-tail IsOfBytes move moves are) first.after)
+        (steps_after gives words behind moves next (All-append IsByte before (bytes_of_move move) h (bytes_low move is))
+        (All-tail IsOfBytes move moves are) first.after)
 
     pub steps_are : (gives : Writing) → KeepsU32 gives → (numbers : List ℕ) → All IsU32 numbers → (moves : List Move) → All IsOfBytes moves
         → All (IsStep own) (steps_of gives [] moves (initial_node own numbers))
     steps_are gives words numbers low moves are =
-        steps_after gives words [] moves (initial_node own numbers) (All-nil IsByte) are (record { addr = refl; sound = starts_sound m steady sends own numbers low })
+        steps_after gives words [] moves (initial_node own numbers) (All-nil IsByte) are
+        (record { addr = refl; sound = starts_sound m steady sends own numbers low })

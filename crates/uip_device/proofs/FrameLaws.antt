@@ -1,5 +1,6 @@
 -- What bytes bring without a pace.
-use Rattle.uip_device.proofs.Prelude.{◌≡◌, ℕ, List, [], ◌∷◌, ◌++◌, map, refl, sym, ap, ◌∙◌, append-nil, map-append, Byte, Frame, completed, frames, completed_by, completed_reported, arrival_of, arrivals_after}
+use Rattle.uip_device.proofs.Prelude.{◌≡◌, ℕ, List, [], ◌∷◌, ◌++◌, map, refl, sym, ap, ◌∙◌, append-nil, map-append, Byte, Frame, completed}
+use Rattle.uip_device.proofs.Prelude.{frames, completed_by, completed_reported, arrival_of, arrivals_after}
 
 -- bytes bring the frames that they complete
 completed_arrivals : (before bytes : List ℕ) → arrivals_after 0 before (map Byte bytes) ≡ map arrival_of (completed_by before bytes)

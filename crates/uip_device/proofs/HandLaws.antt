@@ -1,8 +1,12 @@
 -- A datagram's text in pieces.
-use Rattle.uip_device.proofs.Prelude.{◌≡◌, ℕ, ◌≤◌, List, [], ◌∷◌, ◌++◌, length, take, sym, ap, ◌∙◌, append_assoc, arith, length-append, true, Option, length-take-le, flat_map-append, false≢true, is_some, append-nil, Addr, Buffer, datagram_in, escaped, escaped_byte, slip_text, IsSentOver, Key, Reply, leaving, rest_text, text_sent, wire_text}
+use Rattle.uip_device.proofs.Prelude.{◌≡◌, ℕ, ◌≤◌, List, [], ◌∷◌, ◌++◌, length, take, sym, ap, ◌∙◌, append_assoc, arith, length-append}
+use Rattle.uip_device.proofs.Prelude.{true, Option, length-take-le, flat_map-append, false≢true, is_some, append-nil, Addr, Buffer}
+use Rattle.uip_device.proofs.Prelude.{datagram_in, escaped, escaped_byte, slip_text, IsSentOver, Key, Reply, leaving, rest_text, text_sent}
+use Rattle.uip_device.proofs.Prelude.{wire_text}
 
 -- a prefix is put, and its text is no longer pending
-pub prefix_put : (before made rest prefix after : List ℕ) → made ≡ before ++ escaped prefix → rest ≡ prefix ++ after → made ++ rest_text after ≡ before ++ rest_text rest
+pub prefix_put : (before made rest prefix after : List ℕ) → made ≡ before ++ escaped prefix → rest ≡ prefix ++ after
+    → made ++ rest_text after ≡ before ++ rest_text rest
 prefix_put before made rest prefix after put parts =
     let marks = 192 ∷ [] in
     ap (λ l. l ++ rest_text after) put

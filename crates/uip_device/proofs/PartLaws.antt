@@ -1,5 +1,6 @@
 -- What a decoder knows of its area.
-use Rattle.uip_device.proofs.Prelude.{◌≡◌, ◌||◌, ℕ, true, false, List, [], ◌∷◌, if◌then◌else◌, refl, sym, ap, ◌∙◌, arith, eqb-true, length, take_all, nat_eq, suc, take, zero, PartState, WasFed, is_free, open_bytes, state_in}
+use Rattle.uip_device.proofs.Prelude.{◌≡◌, ◌||◌, ℕ, true, false, List, [], ◌∷◌, if◌then◌else◌, refl, sym, ap, ◌∙◌, arith, eqb-true, length}
+use Rattle.uip_device.proofs.Prelude.{take_all, nat_eq, suc, take, zero, PartState, WasFed, is_free, open_bytes, state_in}
 
 -- an area without a byte of an open frame may change
 open_nothing : (p : PartState) (a : List ℕ) → p.over ≡ false → is_free p ≡ true → open_bytes (state_in a p) ≡ []

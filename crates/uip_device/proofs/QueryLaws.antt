@@ -1,5 +1,10 @@
 -- What is kept of a request, by what the pages represent.
-use Rattle.uip_device.proofs.Prelude.{◌≡◌, ℕ, Bool, false, true, List, [], ◌∷◌, Option, None, Some, refl, sym, ap, subst, ◌∙◌, option_map, length, take, cond, ◌||◌, ◌+◌, ◌-◌, drop, position, length-drop, length-take, arith, before_first, list_any, nat_eq, slice_get, eqb-true, drop_all, take_all, AppState, AreApart, SiteContent, files_of, FileId, no_place, place_is, CompactRepresent, cut_at, found, missing, whole, Space, Line, is_query_mark, is_stop, none_at_all, word_of, File, file_named, has_name, place_of, target_of, wanted, QueryContent, kept_query, kept_text, place_wanted, query_after, query_by, query_in, text_after_mark}
+use Rattle.uip_device.proofs.Prelude.{◌≡◌, ℕ, Bool, false, true, List, [], ◌∷◌, Option, None, Some, refl, sym, ap, subst, ◌∙◌, option_map}
+use Rattle.uip_device.proofs.Prelude.{length, take, cond, ◌||◌, ◌+◌, ◌-◌, drop, position, length-drop, length-take, arith, before_first}
+use Rattle.uip_device.proofs.Prelude.{list_any, nat_eq, slice_get, eqb-true, drop_all, take_all, AppState, AreApart, SiteContent, files_of}
+use Rattle.uip_device.proofs.Prelude.{FileId, no_place, place_is, CompactRepresent, cut_at, found, missing, whole, Space, Line}
+use Rattle.uip_device.proofs.Prelude.{is_query_mark, is_stop, none_at_all, word_of, File, file_named, has_name, place_of, target_of, wanted}
+use Rattle.uip_device.proofs.Prelude.{QueryContent, kept_query, kept_text, place_wanted, query_after, query_by, query_in, text_after_mark}
 use Rattle.std.specs.Str.{bytes_eq}
 use Rattle.std.proofs.lemmas.Option.{slice_get-get_or}
 use Rattle.std.proofs.lemmas.List.Quantifiers.{position-Some}

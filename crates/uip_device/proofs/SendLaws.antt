@@ -1,5 +1,8 @@
 -- What a guarded node sends for what arrives.
-use Rattle.uip_device.proofs.Prelude.{◌≡◌, ℕ, Bool, Buffer, List, [], ◌∷◌, ◌++◌, None, Option, true, false, refl, sym, ap, ◌∙◌, append-nil, subst, Ghosts, Addr, Node, seen, Event, Reply, AbstractNode, AppSpec, Ran, run, step, Represents, IsNode, node_on, HandsOut, SendsOver, TookArrivals, datagram_sent, text_sent, Arrival, TooLong, Guard, GuardCounts, Key, counted_at, events_at, guarded_run, IsSentOver, HasRun, TakesEvents, leaving}
+use Rattle.uip_device.proofs.Prelude.{◌≡◌, ℕ, Bool, Buffer, List, [], ◌∷◌, ◌++◌, None, Option, true, false, refl, sym, ap, ◌∙◌, append-nil}
+use Rattle.uip_device.proofs.Prelude.{subst, Ghosts, Addr, Node, seen, Event, Reply, AbstractNode, AppSpec, Ran, run, step, Represents}
+use Rattle.uip_device.proofs.Prelude.{IsNode, node_on, HandsOut, SendsOver, TookArrivals, datagram_sent, text_sent, Arrival, TooLong, Guard}
+use Rattle.uip_device.proofs.Prelude.{GuardCounts, Key, counted_at, events_at, guarded_run, IsSentOver, HasRun, TakesEvents, leaving}
 use Rattle.serve_loop.proofs.AddrLaws.{step-addr}
 use Rattle.uip_node.specs.Events.Event.{Overlong}
 
@@ -8,7 +11,8 @@ run_addr m served [] n = refl
 run_addr m served (e ∷ events) n = run_addr m served events (step m served n e).node ∙ step-addr m served n e
 
 -- nothing is sent
-pub silent_text : (key : Option Key) (own : Addr) (replies : List Reply) (sent : Option ℕ) (packet : Buffer) → sent ≡ None → IsSentOver (leaving key) own replies sent packet
+pub silent_text : (key : Option Key) (own : Addr) (replies : List Reply) (sent : Option ℕ) (packet : Buffer) → sent ≡ None
+    → IsSentOver (leaving key) own replies sent packet
     → text_sent key own replies ≡ []
 silent_text key own [] sent packet none is = refl
 silent_text key own (reply ∷ []) sent packet none is = absurd (cc (sym none ∙ is.answer))
@@ -23,7 +27,8 @@ module _ {A S : Type 0} (g : Ghosts A S) where
       → SendsOver g arrivals guard guarded a b P → SendsOver g others guard guarded a b P
   sends_by arrivals others guard guarded a b P same v = subst (λ (l : List Arrival). SendsOver g l guard guarded a b P) (sym same) v
 
-  pub sends_so : (arrivals : List Arrival) (guard guarded : Guard) (a b : Node A S) (P Q : Addr → List Reply → Type 0) → ((own : Addr) (replies : List Reply) → P own replies → Q own replies)
+  pub sends_so : (arrivals : List Arrival) (guard guarded : Guard) (a b : Node A S) (P Q : Addr → List Reply → Type 0)
+      → ((own : Addr) (replies : List Reply) → P own replies → Q own replies)
       → SendsOver g arrivals guard guarded a b P → SendsOver g arrivals guard guarded a b Q
   sends_so arrivals guard guarded a b P Q on v = record {
     kept = v.kept;
@@ -34,7 +39,8 @@ module _ {A S : Type 0} (g : Ghosts A S) where
   }
 
   -- a frame was received in the packet before
-  pub sends_from : (arrivals : List Arrival) (guard guarded : Guard) (a mid b : Node A S) (q : Buffer) (P : Addr → List Reply → Type 0) → mid ≡ record a { packet = q }
+  pub sends_from : (arrivals : List Arrival) (guard guarded : Guard) (a mid b : Node A S) (q : Buffer) (P : Addr → List Reply → Type 0)
+      → mid ≡ record a { packet = q }
       → SendsOver g arrivals guard guarded mid b P → SendsOver g arrivals guard guarded a b P
   sends_from arrivals guard guarded a mid b q P is v = record {
     kept = v.kept ∙ ap (λ (x : Node A S). g.config x.shared) is;
@@ -50,7 +56,8 @@ module _ {A S : Type 0} (g : Ghosts A S) where
 
   -- a frame that was too long
   pub sends_overlong : (guard : Guard) (a b : Node A S) (P : Addr → List Reply → Type 0) → g.config b.shared ≡ g.config a.shared
-      → ((n : AbstractNode) → Represents g a n n.history → Represents g b (step (g.app_spec (g.config a.shared)) g.served n Overlong).node (seen Overlong n.history))
+      → ((n : AbstractNode) → Represents g a n n.history → Represents g b (step (g.app_spec (g.config a.shared)) g.served n Overlong).node
+      (seen Overlong n.history))
       → ((own : Addr) → P own []) → SendsOver g (TooLong ∷ []) guard guard a b P
   sends_overlong guard a b P same steps q = record {
     kept = same;

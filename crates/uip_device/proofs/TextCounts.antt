@@ -83,5 +83,6 @@ module _ (mss : ℕ) (some : 0 < mss) where
               omega (arith, inside n (a + x) ns i, inside n a ns h, ceil_step (n - (a + x)), ap (λ k. div_ceil k mss) e)
           | inr i ↦ omega (arith, behind n (a + x) ns i, inside n a ns h, most_at_start ns (a + x - n), ceil_some (n - a) (omega (arith, h)))
         ]
-        | inr h ↦ (let e : a + x - n ≡ a - n + x = omega (arith, h) in omega (arith, behind n (a + x) ns (omega (arith, h)), ap (λ k. left_in ns k) e, behind n a ns h, rest h))
+        | inr h ↦ (let e : a + x - n ≡ a - n + x = omega (arith, h) in
+            omega (arith, behind n (a + x) ns (omega (arith, h)), ap (λ k. left_in ns k) e, behind n a ns h, rest h))
       ]

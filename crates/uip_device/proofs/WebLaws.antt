@@ -1,5 +1,8 @@
 -- The numbers of a device with a web server: the hits, followed by the values.
-use Rattle.uip_device.proofs.Prelude.{All, ◌≡◌, ℕ, ◌+◌, ◌-◌, ◌*◌, ◌≤◌, List, ◌∷◌, ◌++◌, drop, length, length-append, replicate, take, refl, sym, ap, ◌∙◌, arith, lit<, Option, option_map, slice_index_or, option_map_or, drop_at, take_at, All-append, All-cons, All-drop, All-replicate, All-take, IsByte, IsU32, File, FileId, hits_of, place_of, no_hits, no_values, value_given, KeepsU32, first_numbers, write_value}
+use Rattle.uip_device.proofs.Prelude.{All, ◌≡◌, ℕ, ◌+◌, ◌-◌, ◌*◌, ◌≤◌, List, ◌∷◌, ◌++◌, drop, length, length-append, replicate, take, refl}
+use Rattle.uip_device.proofs.Prelude.{sym, ap, ◌∙◌, arith, lit<, Option, option_map, slice_index_or, option_map_or, drop_at, take_at}
+use Rattle.uip_device.proofs.Prelude.{All-append, All-cons, All-drop, All-replicate, All-take, IsByte, IsU32, File, FileId, hits_of}
+use Rattle.uip_device.proofs.Prelude.{place_of, no_hits, no_values, value_given, KeepsU32, first_numbers, write_value}
 
 -- a value is set after the hits, which stay
 pub written_after : (number : ℕ) (text hits values : List ℕ) → length values ≡ 528

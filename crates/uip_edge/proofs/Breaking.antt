@@ -1,5 +1,6 @@
 -- A text whose writing broke off.
-use Rattle.uip_edge.proofs.Prelude.{◌≡◌, ◌<◌, ℕ, List, [], ◌++◌, Option, length, sym, ap, ◌∙◌, append_assoc, arith, length-append, subst, Appends, AppendsPrefix, BreaksOff}
+use Rattle.uip_edge.proofs.Prelude.{◌≡◌, ◌<◌, ℕ, List, [], ◌++◌, Option, length, sym, ap, ◌∙◌, append_assoc, arith, length-append, subst}
+use Rattle.uip_edge.proofs.Prelude.{Appends, AppendsPrefix, BreaksOff}
 use Rattle.uip_edge.proofs.Reported.{Appends-then, appends_by}
 
 -- other names for what precedes a text and for the text
@@ -27,11 +28,13 @@ breaks_then us vs text a b c first h = record {
 }
 
 -- what precedes a text belongs to it, and so does what was to follow
-pub breaks_whole : (before text more whole : List ℕ) (a b : Option (List ℕ)) → whole ≡ (before ++ text) ++ more → BreaksOff before text a b → BreaksOff [] whole a b
+pub breaks_whole : (before text more whole : List ℕ) (a b : Option (List ℕ)) → whole ≡ (before ++ text) ++ more → BreaksOff before text a b
+    → BreaksOff [] whole a b
 breaks_whole before text more whole a b e h = record {
   some = let some = h.some in omega (arith, some, ap (λ l. length l) e, length-append (before ++ text) more, length-append before text);
   prefix = before ++ h.prefix;
   rest = h.rest ++ more;
-  cut = e ∙ ap (λ l. (before ++ l) ++ more) h.cut ∙ ap (λ l. l ++ more) (sym (append_assoc before h.prefix h.rest)) ∙ append_assoc (before ++ h.prefix) h.rest more;
+  cut = e ∙ ap (λ l. (before ++ l) ++ more) h.cut ∙ ap (λ l. l ++ more) (sym (append_assoc before h.prefix h.rest))
+      ∙ append_assoc (before ++ h.prefix) h.rest more;
   written = h.written;
 }

@@ -1,5 +1,8 @@
 -- Known bytes and items, one call after the other.
-use Rattle.uip_edge.proofs.Prelude.{◌≡◌, ℕ, List, [], ◌∷◌, ◌++◌, Option, None, Some, refl, sym, ◌∙◌, append_assoc, append-nil, ◌-◌, take, drop, length, map, ◌+◌, ◌≤◌, arith, length-append, ap, Result, Ok, Err, OnErr, take_rest, take-append-drop, drop-drop, Byte, Quiet, Appends, Keeps, Consumes, TookAll, bytes_among, ShelfView, AppendsPrefix, Item}
+use Rattle.uip_edge.proofs.Prelude.{◌≡◌, ℕ, List, [], ◌∷◌, ◌++◌, Option, None, Some, refl, sym, ◌∙◌, append_assoc, append-nil, ◌-◌, take}
+use Rattle.uip_edge.proofs.Prelude.{drop, length, map, ◌+◌, ◌≤◌, arith, length-append, ap, Result, Ok, Err, OnErr, take_rest}
+use Rattle.uip_edge.proofs.Prelude.{take-append-drop, drop-drop, Byte, Quiet, Appends, Keeps, Consumes, TookAll, bytes_among, ShelfView}
+use Rattle.uip_edge.proofs.Prelude.{AppendsPrefix, Item}
 
 pub Appends-none : (a : Option (List ℕ)) → Appends a a []
 Appends-none None = tt

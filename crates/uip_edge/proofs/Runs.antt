@@ -1,5 +1,7 @@
 -- The bytes before the first silence.
-use Rattle.uip_edge.proofs.Prelude.{◌≡◌, ℕ, ◌+◌, ◌≤◌, ◌<◌, List, [], ◌∷◌, ◌++◌, take, drop, length, map, get_or, refl, sym, ap, ◌∙◌, arith, min, nat_lt, true, false, take-append-drop, drop_more, drop_all, length-take-le, drop-drop, ltb-true, ltb-false, Item, Byte, Quiet, byte_run}
+use Rattle.uip_edge.proofs.Prelude.{◌≡◌, ℕ, ◌+◌, ◌≤◌, ◌<◌, List, [], ◌∷◌, ◌++◌, take, drop, length, map, get_or, refl, sym, ap, ◌∙◌, arith}
+use Rattle.uip_edge.proofs.Prelude.{min, nat_lt, true, false, take-append-drop, drop_more, drop_all, length-take-le, drop-drop, ltb-true}
+use Rattle.uip_edge.proofs.Prelude.{ltb-false, Item, Byte, Quiet, byte_run}
 
 byte_run-append : (bs : List ℕ) (rest : List Item) → byte_run (map Byte bs ++ rest) ≡ byte_run rest + length bs
 byte_run-append [] rest = omega arith

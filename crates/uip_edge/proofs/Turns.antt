@@ -1,5 +1,6 @@
 -- Turns at a line, one after the other.
-use Rattle.uip_edge.proofs.Prelude.{◌≡◌, ℕ, ◌+◌, ◌<◌, ◌≤◌, List, ◌++◌, length, map, take, ◌∙◌, arith, length-append, length-map, length-take-le, Item, Byte, ServeEnd, Ended, Consumes, EndsBy, IsCalm, LineView, TurnsBy}
+use Rattle.uip_edge.proofs.Prelude.{◌≡◌, ℕ, ◌+◌, ◌<◌, ◌≤◌, List, ◌++◌, length, map, take, ◌∙◌, arith, length-append, length-map}
+use Rattle.uip_edge.proofs.Prelude.{length-take-le, Item, Byte, ServeEnd, Ended, Consumes, EndsBy, IsCalm, LineView, TurnsBy}
 use Rattle.uip_edge.specs.declared.serve_end.ServeEnd.TheVariants as ends
 use Rattle.uip_edge.proofs.Reported.{none_more, took_all}
 

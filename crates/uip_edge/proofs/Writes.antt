@@ -1,5 +1,6 @@
 -- Texts written one after the other.
-use Rattle.uip_edge.proofs.Prelude.{◌≡◌, ℕ, List, [], ◌++◌, refl, sym, subst, Result, Ok, Err, IsErr, arith, Appends, HasCause, SinkView, AppendsPrefix, Writes}
+use Rattle.uip_edge.proofs.Prelude.{◌≡◌, ℕ, List, [], ◌++◌, refl, sym, subst, Result, Ok, Err, IsErr, arith, Appends, HasCause, SinkView}
+use Rattle.uip_edge.proofs.Prelude.{AppendsPrefix, Writes}
 use Rattle.uip_edge.proofs.Reported.{Appends-none, Appends-then, prefix_more, prefix_then}
 
 pub writes_by : {T E : Type 0} (r : Result T E) (a b : SinkView) (xs ys : List ℕ) → ys ≡ xs → Writes a b r xs → Writes a b r ys

@@ -1,5 +1,8 @@
 -- A header that was written passes every check and is read back, whatever follows it.
-use Rattle.uip_ipv4.proofs.Prelude.{◌≡◌, ℕ, ◌+◌, ◌-◌, ◌%◌, ◌≤◌, Bool, true, false, not, ◌||◌, List, [], ◌∷◌, ◌++◌, length, length-append, take, slice_index, Some, refl, ap, ◌∙◌, arith, eqb, ltb, if◌then◌else◌, Ok, Result, common_steps, bytes_eq, folded_closes, same_word, checksum_of, folded, word_sum, word_at, Proto, Icmp, Tcp, IpHead, IpFate, head_bytes, numbered_head, numbered_with, head_or_fate, head_by, proto_of, number_of, ReadsBack}
+use Rattle.uip_ipv4.proofs.Prelude.{◌≡◌, ℕ, ◌+◌, ◌-◌, ◌%◌, ◌≤◌, Bool, true, false, not, ◌||◌, List, [], ◌∷◌, ◌++◌, length, length-append}
+use Rattle.uip_ipv4.proofs.Prelude.{take, slice_index, Some, refl, ap, ◌∙◌, arith, eqb, ltb, if◌then◌else◌, Ok, Result, common_steps}
+use Rattle.uip_ipv4.proofs.Prelude.{bytes_eq, folded_closes, same_word, checksum_of, folded, word_sum, word_at, Proto, Icmp, Tcp, IpHead}
+use Rattle.uip_ipv4.proofs.Prelude.{IpFate, head_bytes, numbered_head, numbered_with, head_or_fate, head_by, proto_of, number_of, ReadsBack}
 
 pub passes : {A : Type 0} (b : Bool) (x y z : A) → b ≡ false → y ≡ z → (if b then x else y) ≡ z
 passes true x y z e h = absurd (cc)

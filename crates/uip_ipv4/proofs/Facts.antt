@@ -1,9 +1,13 @@
 -- What holds for a datagram that passes every check.
 -- [add: fate] IP: what holds of a datagram that passes the further check.
-use Rattle.uip_ipv4.proofs.Prelude.{◌≡◌, ℕ, ◌%◌, ◌≤◌, Bool, true, false, not, ◌||◌, List, length, take, slice_index, refl, sym, ap, arith, ltb, eqb, if◌then◌else◌, Ok, Err, Result, Option, Some, None, common_steps, bytes_eq, address_at, checksum_of, word_at, Proto, IpHead, IpFate, Short, Version, Length, Fragment, Checksum, NotOurs, head_or_fate, head_by, proto_of, IsHeadOf}
+use Rattle.uip_ipv4.proofs.Prelude.{◌≡◌, ℕ, ◌%◌, ◌≤◌, Bool, true, false, not, ◌||◌, List, length, take, slice_index, refl, sym, ap, arith}
+use Rattle.uip_ipv4.proofs.Prelude.{ltb, eqb, if◌then◌else◌, Ok, Err, Result, Option, Some, None, common_steps, bytes_eq, address_at}
+use Rattle.uip_ipv4.proofs.Prelude.{checksum_of, word_at, Proto, IpHead, IpFate, Short, Version, Length, Fragment, Checksum, NotOurs}
+use Rattle.uip_ipv4.proofs.Prelude.{head_or_fate, head_by, proto_of, IsHeadOf}
 
 all_passed : (short version length fragment sum other : Bool) (rest : Result IpHead IpFate) (head : IpHead)
-    → (if short then Err Short else if version then Err Version else if length then Err Length else if fragment then Err Fragment else if sum then Err Checksum else if other then Err NotOurs else rest) ≡ Ok head
+    → (if short then Err Short else if version then Err Version else if length then Err Length else if fragment then Err Fragment else if
+    sum then Err Checksum else if other then Err NotOurs else rest) ≡ Ok head
     → (length ≡ false) × (sum ≡ false) × (rest ≡ Ok head)
 all_passed true version length fragment sum other rest head e = cc
 all_passed false true length fragment sum other rest head e = cc

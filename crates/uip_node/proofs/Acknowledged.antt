@@ -1,5 +1,9 @@
 -- A step moves the acknowledged position to the end of what was outstanding, or leaves it.
-use Rattle.uip_node.proofs.Prelude.{◌≡◌, ℕ, ◌+◌, ◌≤◌, Bool, true, false, not, ◌&&◌, ◌⊎◌, inl, inr, List, refl, ap, ◌∙◌, sym, subst, arith, ltb, PlainSegment, has_fin, has_rst, Beat, AppSpec, Now, State, Closed, SynRcvd, Established, CloseWait, FinWait1, FinWait2, Closing, TimeWait, LastAck, Connection, Outcome, ask, asked, closes, prepared, is_out_of_order, is_acked, rests, has_text, with_part, in_established, peer_closes, stays_established, fin_acked, fin_waits, by_state, on_segment, by_beat, grows_older, on_tick, polls}
+use Rattle.uip_node.proofs.Prelude.{◌≡◌, ℕ, ◌+◌, ◌≤◌, Bool, true, false, not, ◌&&◌, ◌⊎◌, inl, inr, List, refl, ap, ◌∙◌, sym, subst, arith}
+use Rattle.uip_node.proofs.Prelude.{ltb, PlainSegment, has_fin, has_rst, Beat, AppSpec, Now, State, Closed, SynRcvd, Established, CloseWait}
+use Rattle.uip_node.proofs.Prelude.{FinWait1, FinWait2, Closing, TimeWait, LastAck, Connection, Outcome, ask, asked, closes, prepared}
+use Rattle.uip_node.proofs.Prelude.{is_out_of_order, is_acked, rests, has_text, with_part, in_established, peer_closes, stays_established}
+use Rattle.uip_node.proofs.Prelude.{fin_acked, fin_waits, by_state, on_segment, by_beat, grows_older, on_tick, polls}
 use Rattle.uip_node.proofs.Basics.{choose, ltb-zero}
 use Rattle.uip_node.proofs.Cases.{asked_by, is_ask, no_ask_again, on_tick_by, wanted_unmoved}
 
@@ -35,7 +39,8 @@ module _ (m : AppSpec) where
       like acked c o.connection (ask m (at o.connection) fresh o.connection o.numbers).connection h.moves u.iss u.acked (omega (arith, none))))
       h.moves
 
-  established_moves : (acked flag : Bool) (c b : Connection) (numbers : List ℕ) (s : PlainSegment) → Moves acked c b → OutMoves acked c (in_established m flag b numbers s)
+  established_moves : (acked flag : Bool) (c b : Connection) (numbers : List ℕ) (s : PlainSegment) → Moves acked c b
+      → OutMoves acked c (in_established m flag b numbers s)
   unfolding in_established peer_closes stays_established
   established_moves acked flag c b numbers s h =
       choose (λ x. OutMoves acked c x) (has_fin s.flags) _ _
@@ -60,13 +65,18 @@ module _ (m : AppSpec) where
   by_state_moves CloseWait true c numbers s = record { moves = goes c _ refl refl; idle = λ z. refl }
   by_state_moves CloseWait false c numbers s = record { moves = stays false c _ refl refl (omega arith); idle = λ z. absurd (cc) }
   by_state_moves FinWait1 true c numbers s =
-      choose (λ x. OutMoves true c x) (has_fin s.flags) _ _ (λ e. record { moves = goes c _ refl refl; idle = λ z. absurd (cc) }) (λ e. record { moves = goes c _ refl refl; idle = λ z. absurd (cc) })
+      choose (λ x. OutMoves true c x) (has_fin s.flags) _ _ (λ e. record { moves = goes c _ refl refl; idle = λ z. absurd (cc) })
+      (λ e. record { moves = goes c _ refl refl; idle = λ z. absurd (cc) })
   by_state_moves FinWait1 false c numbers s =
       choose (λ x. OutMoves false c x) (has_fin s.flags) _ _ (λ e. record { moves = stays false c _ refl refl (omega arith); idle = λ z. absurd (cc) })
-      (λ e. choose (λ x. OutMoves false c x) (has_text s) _ _ (λ f. record { moves = stays false c _ refl refl (omega arith); idle = λ z. absurd (cc) }) (λ f. record { moves = stays false c c refl refl (omega arith); idle = λ z. absurd (cc) }))
+      (λ e. choose (λ x. OutMoves false c x) (has_text s) _ _
+      (λ f. record { moves = stays false c _ refl refl (omega arith); idle = λ z. absurd (cc) })
+      (λ f. record { moves = stays false c c refl refl (omega arith); idle = λ z. absurd (cc) }))
   by_state_moves FinWait2 acked c numbers s =
       choose (λ x. OutMoves acked c x) (has_fin s.flags) _ _ (λ e. record { moves = stays acked c _ refl refl (omega arith); idle = λ z. absurd (cc) })
-      (λ e. choose (λ x. OutMoves acked c x) (has_text s) _ _ (λ f. record { moves = stays acked c _ refl refl (omega arith); idle = λ z. absurd (cc) }) (λ f. record { moves = stays acked c c refl refl (omega arith); idle = λ z. absurd (cc) }))
+      (λ e. choose (λ x. OutMoves acked c x) (has_text s) _ _
+      (λ f. record { moves = stays acked c _ refl refl (omega arith); idle = λ z. absurd (cc) })
+      (λ f. record { moves = stays acked c c refl refl (omega arith); idle = λ z. absurd (cc) }))
   by_state_moves Closing true c numbers s = record { moves = goes c _ refl refl; idle = λ z. absurd (cc) }
   by_state_moves Closing false c numbers s = record { moves = stays false c c refl refl (omega arith); idle = λ z. absurd (cc) }
   by_state_moves LastAck true c numbers s = record { moves = goes c _ refl refl; idle = λ z. absurd (cc) }
@@ -78,8 +88,10 @@ module _ (m : AppSpec) where
   segment_moves c numbers s =
       let acked : Bool = not (has_rst s.flags) && is_acked c s in
       choose (λ x. OutMoves acked c x) (has_rst s.flags) _ _ (λ e. record { moves = stays acked c _ refl refl (omega arith); idle = λ z. absurd (cc) })
-      (λ e. choose (λ x. OutMoves acked c x) (is_out_of_order c s) _ _ (λ f. record { moves = stays acked c c refl refl (omega arith); idle = λ z. absurd (cc) })
-      (λ f. subst (λ b. OutMoves b c (by_state m c.state (is_acked c s) c numbers s)) (sym (ap (λ b. not b && is_acked c s) e)) (by_state_moves c.state (is_acked c s) c numbers s)))
+      (λ e. choose (λ x. OutMoves acked c x) (is_out_of_order c s) _ _
+      (λ f. record { moves = stays acked c c refl refl (omega arith); idle = λ z. absurd (cc) })
+      (λ f. subst (λ b. OutMoves b c (by_state m c.state (is_acked c s) c numbers s)) (sym (ap (λ b. not b && is_acked c s) e))
+      (by_state_moves c.state (is_acked c s) c numbers s)))
 
   by_beat_moves : (b : Beat) (c : Connection) (numbers : List ℕ) → OutMoves false c (by_beat m b c numbers)
   by_beat_moves Beat.Wait c numbers = record { moves = stays false c _ refl refl (omega arith); idle = λ z. absurd (cc) }

@@ -1,5 +1,8 @@
 -- Facts about lists, parts of a text, and numbers modulo 2^32.
-use Rattle.uip_node.proofs.Prelude.{◌≡◌, ℕ, zero, suc, ◌+◌, ◌<◌, ◌≤◌, Bool, true, false, if◌then◌else◌, not, ◌&&◌, ◌||◌, ◌⊎◌, inl, inr, List, [], ◌∷◌, ◌++◌, length, take, drop, refl, sym, ap, ◌∙◌, subst, arith, Some, slice_get, length-append, length-take, length-drop, append-nil, eqb, ltb, common_steps, take-append-le, take-append-drop, take-add, wrap, PlainSegment, has_syn, has_fin, occupies_sequence_space, IsPrefixOf}
+use Rattle.uip_node.proofs.Prelude.{◌≡◌, ℕ, zero, suc, ◌+◌, ◌<◌, ◌≤◌, Bool, true, false, if◌then◌else◌, not, ◌&&◌, ◌||◌, ◌⊎◌, inl, inr}
+use Rattle.uip_node.proofs.Prelude.{List, [], ◌∷◌, ◌++◌, length, take, drop, refl, sym, ap, ◌∙◌, subst, arith, Some, slice_get}
+use Rattle.uip_node.proofs.Prelude.{length-append, length-take, length-drop, append-nil, eqb, ltb, common_steps, take-append-le}
+use Rattle.uip_node.proofs.Prelude.{take-append-drop, take-add, wrap, PlainSegment, has_syn, has_fin, occupies_sequence_space, IsPrefixOf}
 
 -- a text is a slice of a page at an offset
 pub record IsPart (page text : List ℕ) (at : ℕ) : Type 0 where
@@ -43,7 +46,8 @@ pub part_none : (p : List ℕ) → IsPart p [] 0
 part_none p = record { fits = omega arith; same = refl }
 
 prefix_is_part : (p xs : List ℕ) → IsPrefixOf xs p → IsPart p xs 0
-prefix_is_part p xs h = subst (λ x. IsPart x xs 0) h.joined (let own : IsPart xs xs 0 = record { fits = omega arith; same = sym (Rattle.std.proofs.Math.Seq.take-length xs) } in part_grows xs h.rest xs 0 own)
+prefix_is_part p xs h = subst (λ x. IsPart x xs 0) h.joined
+    (let own : IsPart xs xs 0 = record { fits = omega arith; same = sym (Rattle.std.proofs.Math.Seq.take-length xs) } in part_grows xs h.rest xs 0 own)
 
 -- a prefix of a text, and the part that follows it
 pub prefix_joins : (p xs ys : List ℕ) → IsPrefixOf xs p → IsPart p ys (length xs) → IsPrefixOf (xs ++ ys) p
@@ -140,4 +144,5 @@ only_some P s x e h = subst P (let f : s ≡ x = cc in f) h
 
 pub nothing_placed : (s : PlainSegment) → has_syn s.flags ≡ false → has_fin s.flags ≡ false → s.text ≡ [] → occupies_sequence_space s ≡ true → ⊥
 nothing_placed s a b c h =
-    let z : ltb 0 (length s.text) || (has_syn s.flags || has_fin s.flags) ≡ false = ap (λ t. ltb 0 (length t) || (has_syn s.flags || has_fin s.flags)) c ∙ ap (λ x. x || has_fin s.flags) a ∙ b in absurd (cc)
+    let z : ltb 0 (length s.text) || (has_syn s.flags || has_fin s.flags) ≡ false = ap
+    (λ t. ltb 0 (length t) || (has_syn s.flags || has_fin s.flags)) c ∙ ap (λ x. x || has_fin s.flags) a ∙ b in absurd (cc)

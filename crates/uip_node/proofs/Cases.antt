@@ -1,5 +1,9 @@
 -- A fact about a step of a connection by its cases: each walk is made once, for every law.
-use Rattle.uip_node.proofs.Prelude.{◌≡◌, ℕ, ◌+◌, Bool, true, false, List, refl, ap, eqb, ltb, REST_TIME, beat_at, Beat, AppSpec, Now, State, Closed, SynRcvd, Established, CloseWait, FinWait1, FinWait2, Closing, TimeWait, LastAck, Want, Nothing, Send, Close, Abort, Connection, is_resting, Outcome, after_own_fin, leaves, closes, peer_has_closed, idles, does_as_wanted, ask, asked_for, asked, is_open, limit_of, grows_older, outstanding, by_beat, rests_on, polls, ticks_established, tick_by, on_tick, Step}
+use Rattle.uip_node.proofs.Prelude.{◌≡◌, ℕ, ◌+◌, Bool, true, false, List, refl, ap, eqb, ltb, REST_TIME, beat_at, Beat, AppSpec, Now, State}
+use Rattle.uip_node.proofs.Prelude.{Closed, SynRcvd, Established, CloseWait, FinWait1, FinWait2, Closing, TimeWait, LastAck, Want, Nothing}
+use Rattle.uip_node.proofs.Prelude.{Send, Close, Abort, Connection, is_resting, Outcome, after_own_fin, leaves, closes, peer_has_closed}
+use Rattle.uip_node.proofs.Prelude.{idles, does_as_wanted, ask, asked_for, asked, is_open, limit_of, grows_older, outstanding, by_beat}
+use Rattle.uip_node.proofs.Prelude.{rests_on, polls, ticks_established, tick_by, on_tick, Step}
 use Rattle.tcp_machine.specs.Connection.{is_live}
 use Rattle.uip_node.proofs.Basics.{choose, ltb-zero}
 
@@ -57,10 +61,12 @@ module _ (m : AppSpec) where
   wanted_unmoved (Send n) fresh c numbers = record { sockets = refl; irs = refl; taken = refl; iss = refl; acked = refl; part = refl }
   wanted_unmoved Nothing fresh c numbers =
       let same : Unmoved c c = record { sockets = refl; irs = refl; taken = refl; iss = refl; acked = refl; part = refl } in
-      choose (λ (o : Outcome). Unmoved c o.connection) (peer_has_closed c.state) _ _ (λ e. record { sockets = refl; irs = refl; taken = refl; iss = refl; acked = refl; part = refl })
+      choose (λ (o : Outcome). Unmoved c o.connection) (peer_has_closed c.state) _ _
+      (λ e. record { sockets = refl; irs = refl; taken = refl; iss = refl; acked = refl; part = refl })
       (λ e. choose (λ (o : Outcome). Unmoved c o.connection) fresh _ _ (λ f. same) (λ f. same))
 
-  asked_for_by : (P : Outcome → Type 0) (at : Connection → Now) (o : Outcome) (s : Step) → ((fresh : Bool) → s ≡ Step.Ask fresh → P (ask m (at o.connection) fresh o.connection o.numbers)) → P o → P (asked_for m at o s)
+  asked_for_by : (P : Outcome → Type 0) (at : Connection → Now) (o : Outcome) (s : Step)
+      → ((fresh : Bool) → s ≡ Step.Ask fresh → P (ask m (at o.connection) fresh o.connection o.numbers)) → P o → P (asked_for m at o s)
   asked_for_by P at o (Step.Ask fresh) a h = a fresh refl
   asked_for_by P at o Step.Drop a h = h
   asked_for_by P at o Step.Ack a h = h
@@ -70,7 +76,8 @@ module _ (m : AppSpec) where
   asked_for_by P at o Step.Reset a h = h
 
   -- the application is asked, or nothing changes
-  pub asked_by : (P : Outcome → Type 0) (at : Connection → Now) (o : Outcome) → (is_ask o.step ≡ true → (fresh : Bool) → P (ask m (at o.connection) fresh o.connection o.numbers)) → P o → P (asked m at o)
+  pub asked_by : (P : Outcome → Type 0) (at : Connection → Now) (o : Outcome)
+      → (is_ask o.step ≡ true → (fresh : Bool) → P (ask m (at o.connection) fresh o.connection o.numbers)) → P o → P (asked m at o)
   asked_by P at o a h = asked_for_by P at o o.step (λ fresh e. a (ap is_ask e) fresh) h
 
   -- ---- a tick
@@ -95,7 +102,8 @@ module _ (m : AppSpec) where
 
   by_poll : (P : Outcome → Type 0) (c : Connection) (numbers : List ℕ) → c.state ≡ Established → OfTick P c numbers → P (ticks_established m c numbers)
   unfolding ticks_established
-  by_poll P c numbers e g = choose P (ltb 0 c.len) _ _ (λ l. g.beats (ap is_resting e) (beat_at (limit_of c.state) (c.age + 1))) (λ l. g.polled e (ltb-zero c.len l))
+  by_poll P c numbers e g = choose P (ltb 0 c.len) _ _ (λ l. g.beats (ap is_resting e) (beat_at (limit_of c.state) (c.age + 1)))
+      (λ l. g.polled e (ltb-zero c.len l))
 
   by_tick : (P : Outcome → Type 0) (st : State) (c : Connection) (numbers : List ℕ) → c.state ≡ st → OfTick P c numbers → P (tick_by m st c numbers)
   by_tick P Closed c numbers e g = g.none

@@ -1,5 +1,7 @@
 -- The table: which connection serves a pair of sockets.
-use Rattle.uip_node.proofs.Prelude.{position_from, position_from-zero, ◌≡◌, ℕ, zero, suc, ◌+◌, true, false, List, [], ◌∷◌, set, map, replicate, cond, position, refl, sym, ap, ◌∙◌, subst, arith, Option, Some, None, slice_get, slice_index_or, if◌then◌else◌, Sockets, Connection, closed, serves, serving}
+use Rattle.uip_node.proofs.Prelude.{position_from, position_from-zero, ◌≡◌, ℕ, zero, suc, ◌+◌, true, false, List, [], ◌∷◌, set, map}
+use Rattle.uip_node.proofs.Prelude.{replicate, cond, position, refl, sym, ap, ◌∙◌, subst, arith, Option, Some, None, slice_get}
+use Rattle.uip_node.proofs.Prelude.{slice_index_or, if◌then◌else◌, Sockets, Connection, closed, serves, serving}
 use Rattle.uip_node.proofs.Basics.{both_ways}
 
 pub data Written (X : Type 0) (xs : List X) (i : ℕ) (new : X) (j : ℕ) (y : X) : Type 0 where
@@ -62,12 +64,14 @@ Free p table = (k : ℕ) (x : Connection) → slice_get table k ≡ Some x → s
 
 -- at most one connection serves a pair of sockets
 abbrev pub Single : List Connection → Type 0
-Single table = (p : Sockets) (i j : ℕ) (x y : Connection) → slice_get table i ≡ Some x → slice_get table j ≡ Some y → serves p x ≡ true → serves p y ≡ true → i ≡ j
+Single table = (p : Sockets) (i j : ℕ) (x y : Connection) → slice_get table i ≡ Some x → slice_get table j ≡ Some y → serves p x ≡ true
+    → serves p y ≡ true → i ≡ j
 
 single_tail : (c : Connection) (cs : List Connection) → Single (c ∷ cs) → Single cs
 single_tail c cs h = λ p i j x y a b u v. (let e : suc i ≡ suc j = h p (suc i) (suc j) x y a b u v in omega arith)
 
-pub serving_is : (table : List Connection) (p : Sockets) (i : ℕ) (x : Connection) → Single table → slice_get table i ≡ Some x → serves p x ≡ true → serving p table ≡ x
+pub serving_is : (table : List Connection) (p : Sockets) (i : ℕ) (x : Connection) → Single table → slice_get table i ≡ Some x
+    → serves p x ≡ true → serving p table ≡ x
 serving_is [] p i x h g s = absurd (cc)
 serving_is (c ∷ cs) p zero x h g s = let e : c ≡ x = cc in ap (λ b. if b then c else serving p cs) (ap (serves p) e ∙ s) ∙ e
 serving_is (c ∷ cs) p (suc i) x h g s =
@@ -151,7 +155,10 @@ module _ (table : List Connection) (single : Single table) (i : ℕ) (old : Conn
         | served j g u ↦ (let m : j ≡ i → ⊥ = λ e. (let z : Some old ≡ Some (serving p table) = sym at ∙ ap (slice_get table) (sym e) ∙ g in
             let y : serves p old ≡ true = (let q : old ≡ serving p table = cc in ap (serves p) q ∙ u) in absurd (cc)) in
             serving_is (set table i new) p j (serving p table) single_set (get_set_other table i new j m ∙ g) u)
-        | free f ↦ serving_free (set table i new) p (λ k x g. elim (get_set table i new k x g) [ here e h ↦ ap (serves p) (sym h) ∙ n | there m h ↦ f k x h ]) ∙ sym (serving_free table p f)
+        | free f ↦ serving_free (set table i new) p (λ k x g. elim (get_set table i new k x g) [
+          | here e h ↦ ap (serves p) (sym h) ∙ n
+          | there m h ↦ f k x h
+        ]) ∙ sym (serving_free table p f)
       ]
 
 -- a table of closed connections serves nobody

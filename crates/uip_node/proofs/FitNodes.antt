@@ -1,10 +1,17 @@
 -- Every connection of a node has captures of snapshots alone, and an address and a port that fit their types.
-use Rattle.uip_node.proofs.Prelude.{All, position_from, position_from-zero, ◌≡◌, ℕ, zero, suc, ◌+◌, ◌<◌, ◌≤◌, Bool, not, ◌&&◌, List, [], ◌∷◌, length, refl, sym, ap, ◌∙◌, subst, arith, Option, Some, None, slice_get, slice_index_or, position, cond, length-set, PlainSegment, has_rst, AppSpec, IsSteady, IsSnapshot, IsNow, IsU32, IsByte, IsAddr, Sockets, Connection, closed, serves, is_plain_syn, Outcome, accept, on_segment, on_tick, Event, Reply, EchoReplied, Silent, IpRefused, IcmpRefused, TcpRefused, EchoAsked, Arrived, Overlong, Periodic, initial_number, AbstractNode, NodeStep, snapshot, happened, connection_in, slot_for_syn, opens_in, opens, for_no_connection, arrives_at, remembers, step, serving, IsEvent}
+use Rattle.uip_node.proofs.Prelude.{All, position_from, position_from-zero, ◌≡◌, ℕ, zero, suc, ◌+◌, ◌<◌, ◌≤◌, Bool, not, ◌&&◌, List, []}
+use Rattle.uip_node.proofs.Prelude.{◌∷◌, length, refl, sym, ap, ◌∙◌, subst, arith, Option, Some, None, slice_get, slice_index_or, position}
+use Rattle.uip_node.proofs.Prelude.{cond, length-set, PlainSegment, has_rst, AppSpec, IsSteady, IsSnapshot, IsNow, IsU32, IsByte, IsAddr}
+use Rattle.uip_node.proofs.Prelude.{Sockets, Connection, closed, serves, is_plain_syn, Outcome, accept, on_segment, on_tick, Event, Reply}
+use Rattle.uip_node.proofs.Prelude.{EchoReplied, Silent, IpRefused, IcmpRefused, TcpRefused, EchoAsked, Arrived, Overlong, Periodic}
+use Rattle.uip_node.proofs.Prelude.{initial_number, AbstractNode, NodeStep, snapshot, happened, connection_in, slot_for_syn, opens_in}
+use Rattle.uip_node.proofs.Prelude.{opens, for_no_connection, arrives_at, remembers, step, serving, IsEvent}
 use Rattle.tcp_machine.specs.Connection.{is_live}
 use Rattle.uip_node.proofs.Finding.{syn_slot_within}
 use Rattle.uip_node.proofs.Stepping.{slice_get-element}
 use Rattle.uip_node.proofs.Basics.{choose, only_some}
-use Rattle.uip_node.proofs.Fits.{FitConn, FitOut, all_nil, all_cons, set_conns, snapshot_fits, asked_fits, accepted_fits, on_segment_fits, on_tick_fits}
+use Rattle.uip_node.proofs.Fits.{FitConn, FitOut, all_nil, all_cons, set_conns, snapshot_fits, asked_fits, accepted_fits, on_segment_fits}
+use Rattle.uip_node.proofs.Fits.{on_tick_fits}
 
 abbrev pub FitConns : List Connection → Type 0
 FitConns table = (i : ℕ) (c : Connection) → slice_get table i ≡ Some c → FitConn c
@@ -22,7 +29,11 @@ pub closed_fits : FitConn closed
 closed_fits = record {
   rest = λ r. absurd (cc);
   snapshots = all_nil IsSnapshot;
-  addr = record { four = refl; all_bytes = all_cons IsByte 0 (0 ∷ 0 ∷ 0 ∷ []) (omega arith) (all_cons IsByte 0 (0 ∷ 0 ∷ []) (omega arith) (all_cons IsByte 0 (0 ∷ []) (omega arith) (all_cons IsByte 0 [] (omega arith) (all_nil IsByte)))) };
+  addr = record {
+    four = refl;
+    all_bytes = all_cons IsByte 0 (0 ∷ 0 ∷ 0 ∷ []) (omega arith) (all_cons IsByte 0 (0 ∷ 0 ∷ []) (omega arith)
+        (all_cons IsByte 0 (0 ∷ []) (omega arith) (all_cons IsByte 0 [] (omega arith) (all_nil IsByte))));
+  };
   port = omega arith;
 }
 
@@ -46,7 +57,8 @@ placed_from : {X : Type 0} (p : X → Bool) (at : ℕ) (xs : List X) (i : ℕ) �
 placed_from p at [] i h = absurd (cc)
 placed_from p at (x ∷ xs) i h =
     Rattle.uip_node.proofs.Basics.both_ways (p x)
-    (λ e. let z : Some at ≡ Some i = sym (ap (λ b. cond b (Some at) (position_from p (at + 1) xs)) e) ∙ h in record { index = 0; is = (let y : at ≡ i = cc in omega (arith, y)); item = x; get = refl })
+    (λ e. let z : Some at ≡ Some i = sym (ap (λ b. cond b (Some at) (position_from p (at + 1) xs)) e) ∙ h in
+    record { index = 0; is = (let y : at ≡ i = cc in omega (arith, y)); item = x; get = refl })
     (λ e. let r = placed_from p (at + 1) xs i (sym (ap (λ b. cond b (Some at) (position_from p (at + 1) xs)) e) ∙ h) in
     record { index = suc r.index; is = omega (arith, r.is); item = r.item; get = r.get })
 
@@ -66,10 +78,15 @@ slot_inside cs slot h =
     record { item = there.0; get = there.1 }
 
 module _ (m : AppSpec) (steady : IsSteady m) where
-  pub happened_fits : (n : AbstractNode) (event : Event) (slot : ℕ) (old : Connection) (o : Outcome) → FitNode n → FitOut o → FitStep (happened m n event slot old o)
+  pub happened_fits : (n : AbstractNode) (event : Event) (slot : ℕ) (old : Connection) (o : Outcome) → FitNode n → FitOut o
+      → FitStep (happened m n event slot old o)
   unfolding happened
   happened_fits n event slot old o f h = record {
-    node = record { size = omega (arith, f.size, length-set n.connections slot o.connection); conns = set_conns n.connections slot o.connection h.conn f.conns; numbers = h.numbers };
+    node = record {
+      size = omega (arith, f.size, length-set n.connections slot o.connection);
+      conns = set_conns n.connections slot o.connection h.conn f.conns;
+      numbers = h.numbers;
+    };
     gone = choose (λ (x : Option Connection). (g : Connection) → x ≡ Some g → FitConn g) (is_live old.state && not (is_live o.connection.state)) _ _
         (λ e g q. only_some (λ z. FitConn z) o.connection g q h.conn) (λ e g q. absurd (cc));
   }
@@ -77,7 +94,8 @@ module _ (m : AppSpec) (steady : IsSteady m) where
   pub node_snapshot : (n : AbstractNode) (event : Event) (slot : ℕ) → FitNode n → (c : Connection) → FitConn c → IsNow (snapshot n event slot c)
   node_snapshot n event slot f c h = snapshot_fits n event slot c f.size f.conns h
 
-  pub still_fits : (n d : AbstractNode) (sent : Option Reply) → d.connections ≡ n.connections → d.numbers ≡ n.numbers → FitNode n → FitStep (record { node = d; sent = sent; gone = None })
+  pub still_fits : (n d : AbstractNode) (sent : Option Reply) → d.connections ≡ n.connections → d.numbers ≡ n.numbers → FitNode n
+      → FitStep (record { node = d; sent = sent; gone = None })
   still_fits n d sent ec en f = record {
     node = record {
       size = subst (λ (x : List Connection). length x ≤ 10) (sym ec) f.size;
@@ -87,25 +105,29 @@ module _ (m : AppSpec) (steady : IsSteady m) where
     gone = λ g q. absurd (cc);
   }
 
-  opens_fit : (n : AbstractNode) (sockets : Sockets) (s : PlainSegment) (slot : Option ℕ) → IsAddr sockets.peer → sockets.peer_port.0 < 65536 → FitNode n → FitStep (opens m n sockets s slot)
+  opens_fit : (n : AbstractNode) (sockets : Sockets) (s : PlainSegment) (slot : Option ℕ) → IsAddr sockets.peer
+      → sockets.peer_port.0 < 65536 → FitNode n → FitStep (opens m n sockets s slot)
   unfolding opens_in happened
   opens_fit n sockets s None a p f = still_fits n _ None refl refl f
   opens_fit n sockets s (Some slot) a p f =
       let h : FitStep (happened m n (Arrived sockets s) slot (connection_in slot n) (accept (initial_number n.history) sockets s n.numbers)) =
-      happened_fits n (Arrived sockets s) slot (connection_in slot n) (accept (initial_number n.history) sockets s n.numbers) f record { conn = accepted_fits m steady (initial_number n.history) sockets s a p; numbers = f.numbers } in
+      happened_fits n (Arrived sockets s) slot (connection_in slot n) (accept (initial_number n.history) sockets s n.numbers) f
+      record { conn = accepted_fits m steady (initial_number n.history) sockets s a p; numbers = f.numbers } in
       record {
         node = h.node;
         gone = choose (λ (x : Option Connection). (g : Connection) → x ≡ Some g → FitConn g) (is_live (connection_in slot n).state) _ _
             (λ e g q. only_some (λ z. FitConn z) (connection_in slot n) g q (index_fits n.connections slot f.conns)) (λ e g q. absurd (cc));
       }
 
-  stranger_fits : (served : ℕ → Bool) (n : AbstractNode) (sockets : Sockets) (s : PlainSegment) → IsAddr sockets.peer → sockets.peer_port.0 < 65536 → FitNode n → FitStep (for_no_connection m served n sockets s)
+  stranger_fits : (served : ℕ → Bool) (n : AbstractNode) (sockets : Sockets) (s : PlainSegment) → IsAddr sockets.peer
+      → sockets.peer_port.0 < 65536 → FitNode n → FitStep (for_no_connection m served n sockets s)
   unfolding for_no_connection
   stranger_fits served n sockets s a p f =
       choose (λ x. FitStep x) (is_plain_syn s && served sockets.own_port.0) _ _ (λ e. opens_fit n sockets s (slot_for_syn n.connections) a p f)
       (λ e. choose (λ x. FitStep x) (has_rst s.flags) _ _ (λ g. still_fits n _ None refl refl f) (λ g. still_fits n _ _ refl refl f))
 
-  pub arrives_fits : (served : ℕ → Bool) (n : AbstractNode) (sockets : Sockets) (s : PlainSegment) (found : Option ℕ) → IsAddr sockets.peer → sockets.peer_port.0 < 65536 → FitNode n → FitStep (arrives_at m served n sockets s found)
+  pub arrives_fits : (served : ℕ → Bool) (n : AbstractNode) (sockets : Sockets) (s : PlainSegment) (found : Option ℕ) → IsAddr sockets.peer
+      → sockets.peer_port.0 < 65536 → FitNode n → FitStep (arrives_at m served n sockets s found)
   arrives_fits served n sockets s None a p f = stranger_fits served n sockets s a p f
   arrives_fits served n sockets s (Some slot) a p f =
       happened_fits n (Arrived sockets s) slot (connection_in slot n) _ f

@@ -1,6 +1,16 @@
 -- Every capture ever taken is of a snapshot that a node makes. This holds for all connections, clean or not.
 -- [add: counter] The number of counters of a snapshot.
-use Rattle.uip_node.proofs.Prelude.{All, range_with_len, ◌≡◌, ℕ, zero, suc, ◌+◌, ◌-◌, ◌<◌, ◌≤◌, Bool, true, false, not, ◌&&◌, List, [], ◌∷◌, length, set, refl, sym, subst, arith, Some, slice_get, slice_index, count_by, nat_le, eqb, ltb, length-set, ◌∙◌, All-push, All-map, count_by-le-length, common_steps, wrap, PlainSegment, has_fin, has_rst, ages, tries_at, Beat, AppState, AppSpec, IsSteady, IsSnapshot, IsNow, IsRow, IsU32, IsAddr, Ending, Now, Row, State, Closed, SynRcvd, Established, CloseWait, FinWait1, FinWait2, Closing, TimeWait, LastAck, Want, Nothing, Send, Close, Abort, Sockets, Connection, is_resting, tries_of, count_of, row_of, rows_from, Outcome, closes, after_own_fin, peer_has_closed, idles, does_as_wanted, ask, asked, accepted, reported_end, is_out_of_order, is_acked, rests, has_text, delivers_text, takes, with_part, in_state, with_window, peer_closes, stays_established, in_established, fin_acked, fin_waits, by_state, on_segment, by_beat, grows_older, on_tick, polls, Event, HistoryEntry, Silent, counters, raises, times, AbstractNode, snapshot}
+use Rattle.uip_node.proofs.Prelude.{All, range_with_len, ◌≡◌, ℕ, zero, suc, ◌+◌, ◌-◌, ◌<◌, ◌≤◌, Bool, true, false, not, ◌&&◌, List, [], ◌∷◌}
+use Rattle.uip_node.proofs.Prelude.{length, set, refl, sym, subst, arith, Some, slice_get, slice_index, count_by, nat_le, eqb, ltb}
+use Rattle.uip_node.proofs.Prelude.{length-set, ◌∙◌, All-push, All-map, count_by-le-length, common_steps, wrap, PlainSegment, has_fin}
+use Rattle.uip_node.proofs.Prelude.{has_rst, ages, tries_at, Beat, AppState, AppSpec, IsSteady, IsSnapshot, IsNow, IsRow, IsU32, IsAddr}
+use Rattle.uip_node.proofs.Prelude.{Ending, Now, Row, State, Closed, SynRcvd, Established, CloseWait, FinWait1, FinWait2, Closing, TimeWait}
+use Rattle.uip_node.proofs.Prelude.{LastAck, Want, Nothing, Send, Close, Abort, Sockets, Connection, is_resting, tries_of, count_of, row_of}
+use Rattle.uip_node.proofs.Prelude.{rows_from, Outcome, closes, after_own_fin, peer_has_closed, idles, does_as_wanted, ask, asked, accepted}
+use Rattle.uip_node.proofs.Prelude.{reported_end, is_out_of_order, is_acked, rests, has_text, delivers_text, takes, with_part, in_state}
+use Rattle.uip_node.proofs.Prelude.{with_window, peer_closes, stays_established, in_established, fin_acked, fin_waits, by_state, on_segment}
+use Rattle.uip_node.proofs.Prelude.{by_beat, grows_older, on_tick, polls, Event, HistoryEntry, Silent, counters, raises, times}
+use Rattle.uip_node.proofs.Prelude.{AbstractNode, snapshot}
 use Rattle.tcp_machine.specs.Connection.{is_live}
 use Rattle.uip_node.proofs.Cases.{asked_by, by_own_fin, on_tick_by}
 use Rattle.uip_node.proofs.Basics.{choose, wrap_low}
@@ -38,7 +48,8 @@ index_low (suc (suc (suc (suc (suc (suc (suc (suc zero)))))))) = omega arith
 index_low (suc (suc (suc (suc (suc (suc (suc (suc (suc n))))))))) = omega arith
 
 tries_low : (c : Connection) → tries_of c < 10
-tries_low c = choose (λ n. n < 10) (ltb 0 c.len) _ _ (λ e. (let h : count_by (λ a. nat_le a c.age) ages ≤ 9 = count_by-le-length (λ a. nat_le a c.age) ages in omega (arith, h))) (λ e. omega arith)
+tries_low c = choose (λ n. n < 10) (ltb 0 c.len) _ _
+    (λ e. (let h : count_by (λ a. nat_le a c.age) ages ≤ 9 = count_by-le-length (λ a. nat_le a c.age) ages in omega (arith, h))) (λ e. omega arith)
 
 count_low : (c : Connection) → FitConn c → count_of c < 256
 count_low c f =
@@ -48,11 +59,13 @@ count_low c f =
 row_fits : (slot : ℕ) (c : Connection) → slot < 10 → FitConn c → IsRow (row_of slot c)
 row_fits slot c l f = record { slot = l; tries = tries_low c; count = count_low c f; port = f.port; peer = f.addr }
 
-rows_fit : (slot : ℕ) (cs : List Connection) → slot + length cs ≤ 10 → ((i : ℕ) (c : Connection) → slice_get cs i ≡ Some c → FitConn c) → All IsRow (rows_from slot cs)
+rows_fit : (slot : ℕ) (cs : List Connection) → slot + length cs ≤ 10 → ((i : ℕ) (c : Connection) → slice_get cs i ≡ Some c → FitConn c)
+    → All IsRow (rows_from slot cs)
 rows_fit slot [] l h = all_nil IsRow
 rows_fit slot (c ∷ cs) l h =
     let more : All IsRow (rows_from (slot + 1) cs) = rows_fit (slot + 1) cs (omega arith) (λ i x g. h (suc i) x g) in
-    choose (λ (r : List Row). All IsRow r) (is_live c.state) _ _ (λ e. all_cons IsRow (row_of slot c) (rows_from (slot + 1) cs) (row_fits slot c (omega arith) (h zero c refl)) more) (λ e. more)
+    choose (λ (r : List Row). All IsRow r) (is_live c.state) _ _ (λ e. all_cons IsRow (row_of slot c) (rows_from (slot + 1) cs)
+    (row_fits slot c (omega arith) (h zero c refl)) more) (λ e. more)
 
 rows_few : (slot : ℕ) (cs : List Connection) → length (rows_from slot cs) ≤ length cs
 rows_few slot [] = omega arith
@@ -67,7 +80,8 @@ set_conns table i new f h j c x = elim (get_set table i new j c x) [ here e q �
 pub counters_fit : (history : List HistoryEntry) → All IsU32 (counters history)
 counters_fit history = All-map IsU32 (λ k. wrap (times (raises k) history)) (range_with_len 0 20) (λ k d l. wrap_low _)
 
-pub snapshot_fits : (n : AbstractNode) (event : Event) (slot : ℕ) (c : Connection) → length n.connections ≤ 10 → ((j : ℕ) (x : Connection) → slice_get n.connections j ≡ Some x → FitConn x) → FitConn c → IsNow (snapshot n event slot c)
+pub snapshot_fits : (n : AbstractNode) (event : Event) (slot : ℕ) (c : Connection) → length n.connections ≤ 10
+    → ((j : ℕ) (x : Connection) → slice_get n.connections j ≡ Some x → FitConn x) → FitConn c → IsNow (snapshot n event slot c)
 snapshot_fits n event slot c l h f =
     let size : length (set n.connections slot c) ≡ length n.connections = length-set n.connections slot c in
     record {
@@ -79,7 +93,8 @@ snapshot_fits n event slot c l h f =
     }
 
 module _ (m : AppSpec) (steady : IsSteady m) where
-  fit_like : (c d : Connection) → d.sockets ≡ c.sockets → d.part.snapshots ≡ c.part.snapshots → (is_resting d.state ≡ true → d.age < 120) → FitConn c → FitConn d
+  fit_like : (c d : Connection) → d.sockets ≡ c.sockets → d.part.snapshots ≡ c.part.snapshots → (is_resting d.state ≡ true → d.age < 120)
+      → FitConn c → FitConn d
   fit_like c d s k r f = record {
     rest = r;
     snapshots = subst (λ l. All IsSnapshot l) (sym k) f.snapshots;
@@ -116,11 +131,13 @@ module _ (m : AppSpec) (steady : IsSteady m) where
       choose (λ (x : Outcome). FitOut x) (peer_has_closed c.state) _ _ (λ e. record { conn = closes_fit c f; numbers = n })
       (λ e. choose (λ (x : Outcome). FitOut x) fresh _ _ (λ g. record { conn = f; numbers = n }) (λ g. record { conn = f; numbers = n }))
 
-  pub prepared_snapshots : (numbers : List ℕ) (p : AppState) (now : Now) → All IsU32 numbers → IsNow now → All IsSnapshot p.snapshots → All IsSnapshot (m.prepare numbers p now).snapshots
+  pub prepared_snapshots : (numbers : List ℕ) (p : AppState) (now : Now) → All IsU32 numbers → IsNow now → All IsSnapshot p.snapshots
+      → All IsSnapshot (m.prepare numbers p now).snapshots
   prepared_snapshots numbers p now n is f =
       elim (steady.prepare_snapshots numbers p now) [
         | Rattle.std.proofs.Common.inl e ↦ subst (λ l. All IsSnapshot l) (sym e) f
-        | Rattle.std.proofs.Common.inr e ↦ subst (λ l. All IsSnapshot l) (sym e) (All-push IsSnapshot p.snapshots (record { numbers = numbers; now = now }) f record { numbers = n; now = is })
+        | Rattle.std.proofs.Common.inr e ↦ subst (λ l. All IsSnapshot l) (sym e)
+            (All-push IsSnapshot p.snapshots (record { numbers = numbers; now = now }) f record { numbers = n; now = is })
       ]
 
   ask_fits : (now : Now) (fresh : Bool) (c : Connection) (numbers : List ℕ) → IsNow now → FitConn c → All IsU32 numbers → FitOut (ask m now fresh c numbers)
@@ -144,7 +161,8 @@ module _ (m : AppSpec) (steady : IsSteady m) where
       let k : All IsU32 (delivers_text m numbers c.part s.text).numbers = receives_numbers numbers c.part s.text n in
       choose (λ (o : Outcome). FitOut o) (ltb 0 c.len) _ _ (λ e. record { conn = g; numbers = k }) (λ e. record { conn = g; numbers = k })
 
-  going_fits : (acked : Bool) (c : Connection) (numbers : List ℕ) (s : PlainSegment) → FitConn c → All IsU32 numbers → FitOut (stays_established m acked c numbers s)
+  going_fits : (acked : Bool) (c : Connection) (numbers : List ℕ) (s : PlainSegment) → FitConn c → All IsU32 numbers
+      → FitOut (stays_established m acked c numbers s)
   unfolding stays_established
   going_fits acked c numbers s f n =
       let x : (delivers_text m numbers c.part s.text).part.snapshots ≡ c.part.snapshots = receives_captures numbers c.part s.text in
@@ -154,27 +172,33 @@ module _ (m : AppSpec) (steady : IsSteady m) where
       choose (λ (o : Outcome). FitOut o) (not acked && not (has_text s)) _ _ (λ e. record { conn = g; numbers = k })
       (λ e. choose (λ (o : Outcome). FitOut o) (ltb 0 c.len) _ _ (λ i. record { conn = g; numbers = k }) (λ i. record { conn = g; numbers = k }))
 
-  established_fits : (acked : Bool) (c : Connection) (numbers : List ℕ) (s : PlainSegment) → FitConn c → All IsU32 numbers → FitOut (in_established m acked c numbers s)
+  established_fits : (acked : Bool) (c : Connection) (numbers : List ℕ) (s : PlainSegment) → FitConn c → All IsU32 numbers
+      → FitOut (in_established m acked c numbers s)
   unfolding in_established
-  established_fits acked c numbers s f n = choose (λ (o : Outcome). FitOut o) (has_fin s.flags) _ _ (λ e. closing_fits c numbers s f n) (λ e. going_fits acked c numbers s f n)
+  established_fits acked c numbers s f n = choose (λ (o : Outcome). FitOut o) (has_fin s.flags) _ _ (λ e. closing_fits c numbers s f n)
+      (λ e. going_fits acked c numbers s f n)
 
   acked_fits : (c : Connection) (numbers : List ℕ) → FitConn c → FitConn (with_part (m.acked numbers c.part c.len).part (rests c))
   acked_fits c numbers f = fit_like c _ refl (steady.acked_snapshots numbers c.part c.len) (λ r. omega arith) f
 
-  by_state_fits : (st : State) (acked : Bool) (c : Connection) (numbers : List ℕ) (s : PlainSegment) → FitConn c → All IsU32 numbers → FitOut (by_state m st acked c numbers s)
+  by_state_fits : (st : State) (acked : Bool) (c : Connection) (numbers : List ℕ) (s : PlainSegment) → FitConn c → All IsU32 numbers
+      → FitOut (by_state m st acked c numbers s)
   unfolding fin_acked fin_waits
   by_state_fits Closed acked c numbers s f n = record { conn = f; numbers = n }
   by_state_fits SynRcvd true c numbers s f n =
       let port : ℕ = c.sockets.own_port.0 in
-      let x : (delivers_text m (m.connected numbers port).numbers (m.connected numbers port).part s.text).part.snapshots ≡ (m.connected numbers port).part.snapshots = receives_captures (m.connected numbers port).numbers (m.connected numbers port).part s.text in
-      let none : (delivers_text m (m.connected numbers port).numbers (m.connected numbers port).part s.text).part.snapshots ≡ [] = x ∙ steady.connected_snapshots numbers port in
+      let x : (delivers_text m (m.connected numbers port).numbers (m.connected numbers port).part s.text).part.snapshots
+      ≡ (m.connected numbers port).part.snapshots = receives_captures (m.connected numbers port).numbers (m.connected numbers port).part s.text in
+      let none : (delivers_text m (m.connected numbers port).numbers (m.connected numbers port).part s.text).part.snapshots ≡ [] = x
+      ∙ steady.connected_snapshots numbers port in
       record {
         conn = record { rest = λ r. absurd (cc); snapshots = subst (λ l. All IsSnapshot l) (sym none) (all_nil IsSnapshot); addr = f.addr; port = f.port };
         numbers = receives_numbers (m.connected numbers port).numbers (m.connected numbers port).part s.text (steady.connected_numbers numbers port n);
       }
   by_state_fits SynRcvd false c numbers s f n = record { conn = f; numbers = n }
   by_state_fits Established true c numbers s f n =
-      established_fits true (with_part (m.acked numbers c.part c.len).part (rests c)) (m.acked numbers c.part c.len).numbers s (acked_fits c numbers f) (steady.acked_numbers numbers c.part c.len n)
+      established_fits true (with_part (m.acked numbers c.part c.len).part (rests c)) (m.acked numbers c.part c.len).numbers s
+      (acked_fits c numbers f) (steady.acked_numbers numbers c.part c.len n)
   by_state_fits Established false c numbers s f n = established_fits false c numbers s f n
   by_state_fits CloseWait true c numbers s f n =
       let g = acked_fits c numbers f in
@@ -182,13 +206,16 @@ module _ (m : AppSpec) (steady : IsSteady m) where
   by_state_fits CloseWait false c numbers s f n = record { conn = record { rest = f.rest; snapshots = f.snapshots; addr = f.addr; port = f.port }; numbers = n }
   by_state_fits FinWait1 true c numbers s f n =
       choose (λ (o : Outcome). FitOut o) (has_fin s.flags) _ _
-      (λ e. record { conn = fit_like c _ refl refl (λ r. omega arith) f; numbers = n }) (λ e. record { conn = fit_like c _ refl refl (λ r. omega arith) f; numbers = n })
+      (λ e. record { conn = fit_like c _ refl refl (λ r. omega arith) f; numbers = n })
+      (λ e. record { conn = fit_like c _ refl refl (λ r. omega arith) f; numbers = n })
   by_state_fits FinWait1 false c numbers s f n =
       choose (λ (o : Outcome). FitOut o) (has_fin s.flags) _ _ (λ e. record { conn = fit_like c _ refl refl (λ r. absurd (cc)) f; numbers = n })
-      (λ e. choose (λ (o : Outcome). FitOut o) (has_text s) _ _ (λ i. record { conn = fit_like c _ refl refl f.rest f; numbers = n }) (λ i. record { conn = f; numbers = n }))
+      (λ e. choose (λ (o : Outcome). FitOut o) (has_text s) _ _ (λ i. record { conn = fit_like c _ refl refl f.rest f; numbers = n })
+      (λ i. record { conn = f; numbers = n }))
   by_state_fits FinWait2 acked c numbers s f n =
       choose (λ (o : Outcome). FitOut o) (has_fin s.flags) _ _ (λ e. record { conn = fit_like c _ refl refl (λ r. omega arith) f; numbers = n })
-      (λ e. choose (λ (o : Outcome). FitOut o) (has_text s) _ _ (λ i. record { conn = fit_like c _ refl refl f.rest f; numbers = n }) (λ i. record { conn = f; numbers = n }))
+      (λ e. choose (λ (o : Outcome). FitOut o) (has_text s) _ _ (λ i. record { conn = fit_like c _ refl refl f.rest f; numbers = n })
+      (λ i. record { conn = f; numbers = n }))
   by_state_fits Closing true c numbers s f n = record { conn = fit_like c _ refl refl (λ r. omega arith) f; numbers = n }
   by_state_fits Closing false c numbers s f n = record { conn = f; numbers = n }
   by_state_fits LastAck true c numbers s f n = record { conn = fit_like c _ refl refl (λ r. absurd (cc)) f; numbers = n }
@@ -198,8 +225,10 @@ module _ (m : AppSpec) (steady : IsSteady m) where
   pub on_segment_fits : (c : Connection) (numbers : List ℕ) (s : PlainSegment) → FitConn c → All IsU32 numbers → FitOut (on_segment m c numbers s)
   unfolding on_segment
   on_segment_fits c numbers s f n =
-      choose (λ (o : Outcome). FitOut o) (has_rst s.flags) _ _ (λ e. record { conn = closes_fit c f; numbers = reported_numbers _ c.state c.part numbers n }) (λ e.
-      choose (λ (o : Outcome). FitOut o) (is_out_of_order c s) _ _ (λ i. record { conn = f; numbers = n }) (λ i. by_state_fits c.state (is_acked c s) c numbers s f n))
+      choose (λ (o : Outcome). FitOut o) (has_rst s.flags) _ _
+      (λ e. record { conn = closes_fit c f; numbers = reported_numbers _ c.state c.part numbers n }) (λ e.
+      choose (λ (o : Outcome). FitOut o) (is_out_of_order c s) _ _ (λ i. record { conn = f; numbers = n })
+      (λ i. by_state_fits c.state (is_acked c s) c numbers s f n))
 
   -- a tick
   by_beat_fits : (b : Beat) (c : Connection) (numbers : List ℕ) → is_resting c.state ≡ false → FitConn c → All IsU32 numbers → FitOut (by_beat m b c numbers)
@@ -216,5 +245,8 @@ module _ (m : AppSpec) (steady : IsSteady m) where
     beats = λ r b. by_beat_fits b c numbers r f n;
     rested = λ e. record { conn = fit_like c (grows_older c) refl refl (λ r. not_last c.age (f.rest r) e) f; numbers = n };
     ends = record { conn = closes_fit c f; numbers = n };
-    polled = λ e l. record { conn = fit_like c (polls m c numbers).connection refl (steady.polled_snapshots numbers c.part) f.rest f; numbers = steady.polled_numbers numbers c.part n };
+    polled = λ e l. record {
+      conn = fit_like c (polls m c numbers).connection refl (steady.polled_snapshots numbers c.part) f.rest f;
+      numbers = steady.polled_numbers numbers c.part n;
+    };
   }

@@ -1,23 +1,28 @@
 -- The length of a datagram, and the datagram in the packet that it was written into.
-use Rattle.uip_node.proofs.Prelude.{◌≡◌, ℕ, ◌+◌, ◌-◌, ◌*◌, ◌≤◌, List, ◌++◌, length, take, drop, slice_range, Option, Some, None, refl, sym, ap, ◌∙◌, arith, length-take, length-drop, length-append, IsSome, take-append_seam, head_bytes, datagram_bytes, offset_of, segment_bytes, datagram_len, datagram_of, sent_in, Out}
+use Rattle.uip_node.proofs.Prelude.{◌≡◌, ℕ, ◌+◌, ◌-◌, ◌*◌, ◌≤◌, List, ◌++◌, length, take, drop, slice_range, Option, Some, None, refl, sym}
+use Rattle.uip_node.proofs.Prelude.{ap, ◌∙◌, arith, length-take, length-drop, length-append, IsSome, take-append_seam, head_bytes}
+use Rattle.uip_node.proofs.Prelude.{datagram_bytes, offset_of, segment_bytes, datagram_len, datagram_of, sent_in, Out}
 
 -- both addresses have four bytes
 abbrev pub HasAddrs : Out → Type 0
 HasAddrs out = (length out.source.0 ≡ 4) × (length out.target.0 ≡ 4)
 
-length_none : (out : Out) (text : List ℕ) → length out.source.0 ≡ 4 → length out.target.0 ≡ 4 → length (datagram_bytes (datagram_of (record out { mss = None }) text)) ≡ 40 + length text
+length_none : (out : Out) (text : List ℕ) → length out.source.0 ≡ 4 → length out.target.0 ≡ 4
+    → length (datagram_bytes (datagram_of (record out { mss = None }) text)) ≡ 40 + length text
 unfolding datagram_bytes head_bytes
 length_none out text s t =
     let d = datagram_of (record out { mss = None }) text in
     omega (arith, s, t, length-append (d.source ++ d.target) (segment_bytes d), length-append d.source d.target)
 
-length_some : (out : Out) (mss : ℕ) (text : List ℕ) → length out.source.0 ≡ 4 → length out.target.0 ≡ 4 → length (datagram_bytes (datagram_of (record out { mss = Some mss }) text)) ≡ 44 + length text
+length_some : (out : Out) (mss : ℕ) (text : List ℕ) → length out.source.0 ≡ 4 → length out.target.0 ≡ 4
+    → length (datagram_bytes (datagram_of (record out { mss = Some mss }) text)) ≡ 44 + length text
 unfolding datagram_bytes head_bytes
 length_some out mss text s t =
     let d = datagram_of (record out { mss = Some mss }) text in
     omega (arith, s, t, length-append (d.source ++ d.target) (segment_bytes d), length-append d.source d.target)
 
-by_option : (o : Option ℕ) (out : Out) (text : List ℕ) → length out.source.0 ≡ 4 → length out.target.0 ≡ 4 → length (datagram_bytes (datagram_of (record out { mss = o }) text)) ≡ 20 + 4 * offset_of o + length text
+by_option : (o : Option ℕ) (out : Out) (text : List ℕ) → length out.source.0 ≡ 4 → length out.target.0 ≡ 4
+    → length (datagram_bytes (datagram_of (record out { mss = o }) text)) ≡ 20 + 4 * offset_of o + length text
 by_option None out text s t = length_none out text s t
 by_option (Some mss) out text s t = length_some out mss text s t
 
@@ -35,14 +40,23 @@ pub sent_is : (out : Out) (area new : List ℕ) (len : ℕ) → HasAddrs out →
 sent_is out area new len addrs fits e n =
     let text : List ℕ = slice_range area 40 (40 + out.len) in
     let bytes : List ℕ = datagram_bytes (datagram_of out text) in
-    let long : len ≡ length bytes = n ∙ sym (datagram_length out text addrs ∙ ap (λ (k : ℕ). 20 + 4 * offset_of out.mss + k) (cut_length area 40 out.len fits)) in
+    let long : len ≡ length bytes = n ∙ sym (datagram_length out text addrs ∙ ap (λ (k : ℕ). 20 + 4 * offset_of out.mss + k)
+    (cut_length area 40 out.len fits)) in
     ap (take len) e ∙ ap (λ (k : ℕ). take k (bytes ++ drop (datagram_len out) area)) long ∙ take-append_seam bytes (drop (datagram_len out) area)
 
-pub sent_length : (out : Out) (area new : List ℕ) → HasAddrs out → 40 + out.len ≤ length area → datagram_len out ≤ length area → new ≡ sent_in out area → length new ≡ length area
+pub sent_length : (out : Out) (area new : List ℕ) → HasAddrs out → 40 + out.len ≤ length area → datagram_len out ≤ length area
+    → new ≡ sent_in out area → length new ≡ length area
 sent_length out area new addrs fits all e =
     let text : List ℕ = slice_range area 40 (40 + out.len) in
     let bytes : List ℕ = datagram_bytes (datagram_of out text) in
-    omega (arith, ap length e, length-append bytes (drop (datagram_len out) area), datagram_length out text addrs, cut_length area 40 out.len fits, length-drop (datagram_len out) area)
+    omega (
+      arith,
+      ap length e,
+      length-append bytes (drop (datagram_len out) area),
+      datagram_length out text addrs,
+      cut_length area 40 out.len fits,
+      length-drop (datagram_len out) area,
+    )
 
 at_most : (o : Option ℕ) (len : ℕ) → len ≤ 1460 → (IsSome o → len ≡ 0) → 20 + 4 * offset_of o + len ≤ 1500
 at_most None len l n = omega (arith, l)

@@ -1,6 +1,13 @@
 -- What all segments of a connection contain, after a step.
 -- [add: state] What its segments carry.
-use Rattle.uip_node.proofs.Prelude.{ℕ, ◌≡◌, ◌+◌, ◌&&◌, ◌==◌, Bool, true, false, List, inl, inr, ◌⊎◌, refl, sym, ap, ◌∙◌, nat_lt, if◌then◌else◌, not, REST_TIME, AppSpec, Ghosts, is_live, Want, State, Closed, SynRcvd, Established, CloseWait, FinWait1, FinWait2, Closing, TimeWait, LastAck, beat_at, Beat, PlainSegment, has_fin, has_rst, Conn, Outcome, ask_prepared, closes, does_as_wanted, idles, leaves, peer_has_closed, Connection, rcv_nxt, snd_una, SameNumbers, SameSockets, by_state, fin_acked, fin_waits, stays_established, has_text, in_established, is_acked, is_out_of_order, on_segment, peer_closes, by_beat, grows_older, limit_of, on_tick, polls, rests_on, tick_by, ticks_established, waits_for_ack, ConnRepresents, IsLike, Meets, Step, IsNamed}
+use Rattle.uip_node.proofs.Prelude.{ℕ, ◌≡◌, ◌+◌, ◌&&◌, ◌==◌, Bool, true, false, List, inl, inr, ◌⊎◌, refl, sym, ap, ◌∙◌, nat_lt}
+use Rattle.uip_node.proofs.Prelude.{if◌then◌else◌, not, REST_TIME, AppSpec, Ghosts, is_live, Want, State, Closed, SynRcvd, Established}
+use Rattle.uip_node.proofs.Prelude.{CloseWait, FinWait1, FinWait2, Closing, TimeWait, LastAck, beat_at, Beat, PlainSegment, has_fin}
+use Rattle.uip_node.proofs.Prelude.{has_rst, Conn, Outcome, ask_prepared, closes, does_as_wanted, idles, leaves, peer_has_closed}
+use Rattle.uip_node.proofs.Prelude.{Connection, rcv_nxt, snd_una, SameNumbers, SameSockets, by_state, fin_acked, fin_waits}
+use Rattle.uip_node.proofs.Prelude.{stays_established, has_text, in_established, is_acked, is_out_of_order, on_segment, peer_closes}
+use Rattle.uip_node.proofs.Prelude.{by_beat, grows_older, limit_of, on_tick, polls, rests_on, tick_by, ticks_established, waits_for_ack}
+use Rattle.uip_node.proofs.Prelude.{ConnRepresents, IsLike, Meets, Step, IsNamed}
 
 -- two abstract connections have the same on their segments
 pub record SameNames (a b : Connection) : Type 0 where
@@ -102,7 +109,8 @@ goes_lives : (m : AppSpec) (acked : Bool) (a : Connection) (ns : List ℕ) (s : 
 unfolding stays_established
 goes_lives m acked a ns s live = either_lives (not acked && not (has_text s)) _ _ (inl refl) (either_lives (nat_lt 0 a.len) _ _ (inr live) (inr live))
 
-established_lives : (m : AppSpec) (acked : Bool) (a : Connection) (ns : List ℕ) (s : PlainSegment) → is_live a.state ≡ true → Lives (in_established m acked a ns s)
+established_lives : (m : AppSpec) (acked : Bool) (a : Connection) (ns : List ℕ) (s : PlainSegment) → is_live a.state ≡ true
+    → Lives (in_established m acked a ns s)
 unfolding in_established
 established_lives m acked a ns s live = either_lives (has_fin s.flags) _ _ (closes_lives m a ns s) (goes_lives m acked a ns s live)
 
@@ -114,7 +122,8 @@ waits_lives : (d a : Connection) (ns : List ℕ) (s : PlainSegment) → is_live 
 unfolding fin_waits
 waits_lives d a ns s there live = either_lives (has_fin s.flags) _ _ (inr there) (either_lives (has_text s) _ _ (inr live) (inr live))
 
-state_lives : (m : AppSpec) (state : State) (acked : Bool) (a : Connection) (ns : List ℕ) (s : PlainSegment) → is_live a.state ≡ true → Lives (by_state m state acked a ns s)
+state_lives : (m : AppSpec) (state : State) (acked : Bool) (a : Connection) (ns : List ℕ) (s : PlainSegment) → is_live a.state ≡ true
+    → Lives (by_state m state acked a ns s)
 state_lives m SynRcvd true a ns s live = inr refl
 state_lives m SynRcvd false a ns s live = inl refl
 state_lives m Established true a ns s live = established_lives m true _ _ s live
@@ -136,7 +145,8 @@ unfolding on_segment
 segment_lives m a ns s live =
     either_lives (has_rst s.flags) _ _ (inl refl) (either_lives (is_out_of_order a s) _ _ (inr live) (state_lives m a.state (is_acked a s) a ns s live))
 
-pub segment_named : {A S : Type 0} (g : Ghosts A S) (k : g.Config) (d : Conn A) (a : Connection) (step : Step) (m : AppSpec) (ns : List ℕ) (s : PlainSegment) (after : List ℕ) →
+pub segment_named : {A S : Type 0} (g : Ghosts A S) (k : g.Config) (d : Conn A) (a : Connection) (step : Step) (m : AppSpec) (ns : List ℕ)
+    (s : PlainSegment) (after : List ℕ) →
     Meets g k d after step (on_segment m a ns s) → is_live a.state ≡ true → (step ≡ Step.Drop → ⊥) → IsNamed d (on_segment m a ns s).connection
 segment_named g k d a step m ns s after h live speaks =
     elim (segment_lives m a ns s live) [

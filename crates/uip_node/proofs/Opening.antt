@@ -1,5 +1,7 @@
 -- A new node.
-use Rattle.uip_node.proofs.Prelude.{ℕ, zero, suc, ◌≡◌, List, [], ◌∷◌, length, replicate, Some, Bool, true, false, sym, ap, ◌∙◌, subst, arith, ◌<◌, slice_get, get_or_from_slice_get, Ghosts, is_live, Closed, Connection, closed, ConnRepresents, is_open, Conn, AllWellFormed, IsWellFormedConn, SlotsRepresent}
+use Rattle.uip_node.proofs.Prelude.{ℕ, zero, suc, ◌≡◌, List, [], ◌∷◌, length, replicate, Some, Bool, true, false, sym, ap, ◌∙◌, subst}
+use Rattle.uip_node.proofs.Prelude.{arith, ◌<◌, slice_get, get_or_from_slice_get, Ghosts, is_live, Closed, Connection, closed}
+use Rattle.uip_node.proofs.Prelude.{ConnRepresents, is_open, Conn, AllWellFormed, IsWellFormedConn, SlotsRepresent}
 use Rattle.std.specs.Prelude.{All}
 
 not_both : (b : Bool) → b ≡ false → b ≡ true → ⊥
@@ -39,7 +41,8 @@ closed_represents g k c a h e =
       part = λ open_to_it. absurd (not_both (is_open a.state) (ap is_open state) open_to_it);
     }
 
-pub all_represent : {A S : Type 0} (g : Ghosts A S) (k : g.Config) (cs : List (Conn A)) → All (λ (c : Conn A). c.state ≡ Closed) cs → length cs ≡ 10 → SlotsRepresent g k cs (replicate 10 closed)
+pub all_represent : {A S : Type 0} (g : Ghosts A S) (k : g.Config) (cs : List (Conn A)) → All (λ (c : Conn A). c.state ≡ Closed) cs
+    → length cs ≡ 10 → SlotsRepresent g k cs (replicate 10 closed)
 all_represent {A} g k cs all ten = record {
   same_length = sym ten;
   each = λ i c a at there. closed_represents g k c a (all_at (λ (d : Conn A). d.state ≡ Closed) cs i c all at) (from_replicate 10 i closed a there);

@@ -1,7 +1,18 @@
 -- What is outstanding stays the same until it is acknowledged, and is retransmitted unchanged.
-use Rattle.uip_node.proofs.Prelude.{All, REST_TIME, ◌≡◌, ℕ, ◌+◌, ◌<◌, ◌≤◌, min, Bool, true, false, not, ◌&&◌, ◌||◌, ◌⊎◌, inl, inr, List, [], ◌∷◌, ◌++◌, length, take, drop, length-drop, refl, sym, ap, ◌∙◌, subst, arith, Option, Some, None, eqb, ltb, if◌then◌else◌, common_steps, wrap, PlainSegment, has_fin, has_rst, has_syn, beat_at, Beat, AppState, AppSpec, IsPrefixOf, Grows, CanSend, IsSnapshot, Now, State, Closed, SynRcvd, Established, CloseWait, FinWait1, FinWait2, Closing, TimeWait, LastAck, Want, Nothing, Send, Close, Abort, Connection, snd_una, occupies_sequence_space, bare_ack, syn_ack, text_segment, fin_of, reset_of, segment_of, is_again, Outcome, leaves, closes, after_own_fin, peer_has_closed, idles, does_as_wanted, prepared, ask, asked_for, asked, is_out_of_order, is_acked, rests, has_text, delivers_text, takes, with_part, in_state, with_window, peer_closes, stays_established, in_established, fin_acked, fin_waits, by_state, on_segment, outstanding, limit_of, grows_older, by_beat, waits_for_ack, rests_on, ticks_established, tick_by, on_tick, Step, Alike, IsSteady, is_open}
+use Rattle.uip_node.proofs.Prelude.{All, REST_TIME, ◌≡◌, ℕ, ◌+◌, ◌<◌, ◌≤◌, min, Bool, true, false, not, ◌&&◌, ◌||◌, ◌⊎◌, inl, inr, List, []}
+use Rattle.uip_node.proofs.Prelude.{◌∷◌, ◌++◌, length, take, drop, length-drop, refl, sym, ap, ◌∙◌, subst, arith, Option, Some, None, eqb}
+use Rattle.uip_node.proofs.Prelude.{ltb, if◌then◌else◌, common_steps, wrap, PlainSegment, has_fin, has_rst, has_syn, beat_at, Beat}
+use Rattle.uip_node.proofs.Prelude.{AppState, AppSpec, IsPrefixOf, Grows, CanSend, IsSnapshot, Now, State, Closed, SynRcvd, Established}
+use Rattle.uip_node.proofs.Prelude.{CloseWait, FinWait1, FinWait2, Closing, TimeWait, LastAck, Want, Nothing, Send, Close, Abort}
+use Rattle.uip_node.proofs.Prelude.{Connection, snd_una, occupies_sequence_space, bare_ack, syn_ack, text_segment, fin_of, reset_of}
+use Rattle.uip_node.proofs.Prelude.{segment_of, is_again, Outcome, leaves, closes, after_own_fin, peer_has_closed, idles, does_as_wanted}
+use Rattle.uip_node.proofs.Prelude.{prepared, ask, asked_for, asked, is_out_of_order, is_acked, rests, has_text, delivers_text, takes}
+use Rattle.uip_node.proofs.Prelude.{with_part, in_state, with_window, peer_closes, stays_established, in_established, fin_acked, fin_waits}
+use Rattle.uip_node.proofs.Prelude.{by_state, on_segment, outstanding, limit_of, grows_older, by_beat, waits_for_ack, rests_on}
+use Rattle.uip_node.proofs.Prelude.{ticks_established, tick_by, on_tick, Step, Alike, IsSteady, is_open}
 use Rattle.tcp_machine.specs.Connection.{is_live}
-use Rattle.uip_node.proofs.Basics.{choose, append_nothing, only_some, ltb-zero, ltb-lt, ltb-yes, part_grows, cut_part, cut_length, IsPart, prefix_length}
+use Rattle.uip_node.proofs.Basics.{choose, append_nothing, only_some, ltb-zero, ltb-lt, ltb-yes, part_grows, cut_part, cut_length, IsPart}
+use Rattle.uip_node.proofs.Basics.{prefix_length}
 use Rattle.uip_node.proofs.Cases.{by_open, by_own_fin, fin_lives, open_live}
 
 -- what is outstanding in a state
@@ -137,7 +148,8 @@ module _ (m : AppSpec) (steady : IsSteady m) (Low : ℕ → Type 0) (low_text : 
   OutReports c d Step.Reset = StepReports c d (Some (reset_of d)) false
 
   -- the same state: only text may differ
-  alike_same : (st : State) (c d : Connection) → take d.len (drop d.part.acked (m.output d.part)) ≡ take c.len (drop c.part.acked (m.output c.part)) → Alike (due m st d) (due m st c)
+  alike_same : (st : State) (c d : Connection) → take d.len (drop d.part.acked (m.output d.part)) ≡ take c.len
+      (drop c.part.acked (m.output c.part)) → Alike (due m st d) (due m st c)
   alike_same Closed c d h = record { flags = refl; text = refl }
   alike_same SynRcvd c d h = record { flags = refl; text = refl }
   alike_same Established c d h = record { flags = refl; text = h }
@@ -167,16 +179,36 @@ module _ (m : AppSpec) (steady : IsSteady m) (Low : ℕ → Type 0) (low_text : 
   silent_reports c d o s k = record { onto = λ l. o; safe = s; output = λ x e p. absurd (cc); marked = λ x e p. absurd (cc); still = λ l z. inl (k z) }
 
   ack_reports : (c d : Connection) → Onto c d → (is_live d.state ≡ true → Safe d) → (0 < d.len → Still c d) → StepReports c d (Some (bare_ack d)) false
-  ack_reports c d o s k = record { still = λ l z. inl (k z); onto = λ l. o; safe = s; output = λ x e p. absurd (let z : occupies_sequence_space x ≡ false = only_some (λ y. occupies_sequence_space y ≡ false) (bare_ack d) x e refl in cc); marked = λ x e p. absurd (cc) }
+  ack_reports c d o s k = record {
+    still = λ l z. inl (k z);
+    onto = λ l. o;
+    safe = s;
+    output = λ x e p. absurd (let z : occupies_sequence_space x ≡ false = only_some (λ y. occupies_sequence_space y ≡ false) (bare_ack d) x e refl in cc);
+    marked = λ x e p. absurd (cc);
+  }
 
   reset_reports : (c b : Connection) → StepReports c (closes b) (Some (reset_of (closes b))) false
-  reset_reports c b = record { still = λ l z. absurd (cc); onto = λ l. absurd (cc); safe = λ l. absurd (cc); output = λ x e p. absurd (let z : occupies_sequence_space x ≡ false = only_some (λ y. occupies_sequence_space y ≡ false) (reset_of (closes b)) x e refl in cc); marked = λ x e p. absurd (cc) }
+  reset_reports c b = record {
+    still = λ l z. absurd (cc);
+    onto = λ l. absurd (cc);
+    safe = λ l. absurd (cc);
+    output = λ x e p. absurd (let z : occupies_sequence_space x ≡ false = only_some (λ y. occupies_sequence_space y ≡ false)
+        (reset_of (closes b)) x e refl in cc);
+    marked = λ x e p. absurd (cc);
+  }
 
   dead_reports : (c b : Connection) → StepReports c (closes b) None false
-  dead_reports c b = record { still = λ l z. absurd (cc); onto = λ l. absurd (cc); safe = λ l. absurd (cc); output = λ x e p. absurd (cc); marked = λ x e p. absurd (cc) }
+  dead_reports c b = record {
+    still = λ l z. absurd (cc);
+    onto = λ l. absurd (cc);
+    safe = λ l. absurd (cc);
+    output = λ x e p. absurd (cc);
+    marked = λ x e p. absurd (cc);
+  }
 
   -- something is sent for the first time
-  new_reports : (c d : Connection) (s : PlainSegment) → Onto c d → is_live d.state ≡ true → Safe d → IsDue d s → (0 < c.len → c.acked < d.acked) → occupies_sequence_space s ≡ true → StepReports c d (Some s) false
+  new_reports : (c d : Connection) (s : PlainSegment) → Onto c d → is_live d.state ≡ true → Safe d → IsDue d s
+      → (0 < c.len → c.acked < d.acked) → occupies_sequence_space s ≡ true → StepReports c d (Some s) false
   new_reports c d s o l f n new placed = record {
     still = λ x z. inr record { output = s; is = refl; placed = placed };
     onto = λ x. o;
@@ -186,12 +218,18 @@ module _ (m : AppSpec) (steady : IsSteady m) (Low : ℕ → Type 0) (low_text : 
   }
 
   -- a step from b, to which c came by an acknowledgement of all that was outstanding
-  from_reports : (c b d : Connection) (sent : Option PlainSegment) → Onto c b → (0 < c.len → c.acked < b.acked) → b.len ≡ 0 → StepReports b d sent false → StepReports c d sent false
+  from_reports : (c b d : Connection) (sent : Option PlainSegment) → Onto c b → (0 < c.len → c.acked < b.acked) → b.len ≡ 0
+      → StepReports b d sent false → StepReports c d sent false
   from_reports c b d sent o new z t = record {
     still = λ l x. elim (t.still l x) [ inl y ↦ absurd (let p = y.some in omega (arith, p, z)) | inr y ↦ inr y ];
     onto = λ l. onto_then c b d o (t.onto l);
     safe = t.safe;
-    output = λ s e p. (let h = t.output s e p in record { live = h.live; due_now = h.due_now; repeated = λ x. absurd (cc); new = λ x y. (let g = (t.onto h.live).grows in omega (arith, new y, g)) });
+    output = λ s e p. (let h = t.output s e p in record {
+      live = h.live;
+      due_now = h.due_now;
+      repeated = λ x. absurd (cc);
+      new = λ x y. (let g = (t.onto h.live).grows in omega (arith, new y, g));
+    });
     marked = t.marked;
   }
 
@@ -222,14 +260,20 @@ module _ (m : AppSpec) (steady : IsSteady m) (Low : ℕ → Type 0) (low_text : 
       let e : length (take d.len (drop d.part.acked (m.output d.part))) ≡ d.len = cut_length (m.output d.part) d.part.acked d.len h.fits in
       placed_by_length (text_segment m d) (omega (arith, e, l))
 
-  wanted_reports : (w : Want) (fresh : Bool) (c : Connection) (numbers : List ℕ) → is_open c.state ≡ true → c.len ≡ 0 → 0 < c.mss → 0 < c.initial_mss → TextSafe c → All IsSnapshot c.part.snapshots → CanSend w (length (drop c.part.acked (m.output c.part))) →
+  wanted_reports : (w : Want) (fresh : Bool) (c : Connection) (numbers : List ℕ) → is_open c.state ≡ true → c.len ≡ 0 → 0 < c.mss
+      → 0 < c.initial_mss → TextSafe c → All IsSnapshot c.part.snapshots → CanSend w (length (drop c.part.acked (m.output c.part))) →
       OutReported c (does_as_wanted w fresh c numbers)
   unfolding idles
   wanted_reports Abort fresh c numbers o z ms ini h fit w = reset_reports c c
   wanted_reports Close fresh c numbers o z ms ini h fit w =
       let d : Connection = record c { state = after_own_fin c.state; len = 1; age = 0 } in
       new_reports c d (fin_of d) (onto_idle c d refl z refl) (fin_lives c.state)
-      record { mss = ms; initial = ini; state = fin_safe d c.state record { len = refl; low = record { at = length (m.output c.part); low = low_text c.part fit; near = omega (arith, h.count, h.fits) } } }
+      record {
+        mss = ms;
+        initial = ini;
+        state = fin_safe d c.state
+            record { len = refl; low = record { at = length (m.output c.part); low = low_text c.part fit; near = omega (arith, h.count, h.fits) } };
+      }
       record { len = omega arith; seq = refl; alike = fin_due d c.state } (λ x. absurd (omega (arith, x, z))) refl
   wanted_reports (Send n) fresh c numbers o z ms ini h fit w =
       let d : Connection = record c { len = min n c.mss; age = 0 } in
@@ -241,16 +285,20 @@ module _ (m : AppSpec) (steady : IsSteady m) (Low : ℕ → Type 0) (low_text : 
   wanted_reports Nothing fresh c numbers o z ms ini h fit w =
       choose (λ (x : Outcome). OutReported c x) (peer_has_closed c.state) _ _ (λ e. reset_reports c c)
       (λ e. let f : Safe c = record { mss = ms; initial = ini; state = idle_safe c c.state o e h } in
-      choose (λ (x : Outcome). OutReported c x) fresh _ _ (λ g. ack_reports c c (onto_same c) (λ l. f) (λ z. record { some = z; same = refl })) (λ g. silent_reports c c (onto_same c) (λ l. f) (λ z. record { some = z; same = refl })))
+      choose (λ (x : Outcome). OutReported c x) fresh _ _
+      (λ g. ack_reports c c (onto_same c) (λ l. f) (λ z. record { some = z; same = refl })) (λ g. silent_reports c c (onto_same c) (λ l. f)
+      (λ z. record { some = z; same = refl })))
 
   wanted_again : (w : Want) (fresh : Bool) (c : Connection) (numbers : List ℕ) → is_again (does_as_wanted w fresh c numbers).step ≡ false
   unfolding idles
   wanted_again Abort fresh c numbers = refl
   wanted_again Close fresh c numbers = refl
   wanted_again (Send n) fresh c numbers = refl
-  wanted_again Nothing fresh c numbers = choose (λ (x : Outcome). is_again x.step ≡ false) (peer_has_closed c.state) _ _ (λ e. refl) (λ e. choose (λ (x : Outcome). is_again x.step ≡ false) fresh _ _ (λ g. refl) (λ g. refl))
+  wanted_again Nothing fresh c numbers = choose (λ (x : Outcome). is_again x.step ≡ false) (peer_has_closed c.state) _ _ (λ e. refl)
+      (λ e. choose (λ (x : Outcome). is_again x.step ≡ false) fresh _ _ (λ g. refl) (λ g. refl))
 
-  asking_reports : (c d : Connection) (now : Now) (fresh : Bool) (numbers : List ℕ) → AskReports c d → All IsSnapshot (m.prepare numbers d.part now).snapshots → OutReported c (ask m now fresh d numbers)
+  asking_reports : (c d : Connection) (now : Now) (fresh : Bool) (numbers : List ℕ) → AskReports c d
+      → All IsSnapshot (m.prepare numbers d.part now).snapshots → OutReported c (ask m now fresh d numbers)
   asking_reports c d now fresh numbers a fit =
       let q : AppState = m.prepare numbers d.part now in
       let b : Connection = prepared m now d numbers in
@@ -261,15 +309,19 @@ module _ (m : AppSpec) (steady : IsSteady m) (Low : ℕ → Type 0) (low_text : 
       let o : Outcome = ask m now fresh d numbers in
       let w : OutReported b o = wanted_reports (m.want numbers q) fresh b numbers a.is_asked a.idle a.mss a.initial t fit (steady.lawful.sends numbers q tt) in
       let n : is_again o.step ≡ false = wanted_again (m.want numbers q) fresh b numbers in
-      let w' : StepReports b o.connection (segment_of m o.connection o.step) false = subst (λ x. StepReports b o.connection (segment_of m o.connection o.step) x) n w in
+      let w' : StepReports b o.connection (segment_of m o.connection o.step) false = subst
+      (λ x. StepReports b o.connection (segment_of m o.connection o.step) x) n w in
       subst (λ x. StepReports c o.connection (segment_of m o.connection o.step) x) (sym n)
       (from_reports c b o.connection (segment_of m o.connection o.step) (onto_then c d b a.onto (onto_idle d b refl a.idle refl)) a.new a.idle w')
 
-  asked_for_reports : (snapshot : Connection → Now) (c d : Connection) (numbers : List ℕ) (s : Step) → ((now : Now) → now ≡ snapshot d → All IsSnapshot (m.prepare numbers d.part now).snapshots) → OutReports c d s → OutReported c (asked_for m snapshot (leaves d numbers s) s)
+  asked_for_reports : (snapshot : Connection → Now) (c d : Connection) (numbers : List ℕ) (s : Step)
+      → ((now : Now) → now ≡ snapshot d → All IsSnapshot (m.prepare numbers d.part now).snapshots) → OutReports c d s
+      → OutReported c (asked_for m snapshot (leaves d numbers s) s)
   asked_for_reports snapshot c d numbers (Step.Ask fresh) fit h = asking_reports c d (snapshot d) fresh numbers h (fit (snapshot d) refl)
   asked_for_reports snapshot c d numbers _ fit h = h
 
-  pub asked_reports : (snapshot : Connection → Now) (c : Connection) (o : Outcome) → ((now : Now) → now ≡ snapshot o.connection → All IsSnapshot (m.prepare o.numbers o.connection.part now).snapshots) → OutReports c o.connection o.step → OutReported c (asked m snapshot o)
+  pub asked_reports : (snapshot : Connection → Now) (c : Connection) (o : Outcome) → ((now : Now) → now ≡ snapshot o.connection
+      → All IsSnapshot (m.prepare o.numbers o.connection.part now).snapshots) → OutReports c o.connection o.step → OutReported c (asked m snapshot o)
   asked_reports snapshot c o fit h = asked_for_reports snapshot c o.connection o.numbers o.step fit h
 
   -- text is delivered while something may be outstanding
@@ -277,7 +329,8 @@ module _ (m : AppSpec) (steady : IsSteady m) (Low : ℕ → Type 0) (low_text : 
   receives_grows numbers p [] = record { text = record { rest = []; joined = append_nothing (m.output p) }; offset = refl }
   receives_grows numbers p (x ∷ xs) = steady.lawful.newdata_grows numbers p (x ∷ xs) tt
 
-  received_due : (c d : Connection) → TextSafe c → Grows m c.part d.part → d.len ≡ c.len → take d.len (drop d.part.acked (m.output d.part)) ≡ take c.len (drop c.part.acked (m.output c.part))
+  received_due : (c d : Connection) → TextSafe c → Grows m c.part d.part → d.len ≡ c.len → take d.len (drop d.part.acked (m.output d.part))
+      ≡ take c.len (drop c.part.acked (m.output c.part))
   received_due c d h x el =
       ap (λ n. take n (drop d.part.acked (m.output d.part))) el
       ∙ ap (λ n. take c.len (drop n (m.output d.part))) x.offset
@@ -289,19 +342,22 @@ module _ (m : AppSpec) (steady : IsSteady m) (Low : ℕ → Type 0) (low_text : 
       record { fits = omega (arith, more, h.fits, x.offset, el); count = omega (arith, h.count, x.offset, ea) }
 
   -- text of ESTABLISHED that is outstanding stays so in CLOSE-WAIT
-  open_due : (c d : Connection) → c.state ≡ Established → is_open d.state ≡ true → take d.len (drop d.part.acked (m.output d.part)) ≡ take c.len (drop c.part.acked (m.output c.part)) → Alike (due m d.state d) (due m c.state c)
+  open_due : (c d : Connection) → c.state ≡ Established → is_open d.state ≡ true → take d.len (drop d.part.acked (m.output d.part))
+      ≡ take c.len (drop c.part.acked (m.output c.part)) → Alike (due m d.state d) (due m c.state c)
   open_due c d e o h =
       alike_trans (due m d.state d) (text_segment m d) (due m c.state c) (alike_sym (text_segment m d) (due m d.state d) (text_due d d.state o))
       (alike_trans (text_segment m d) (text_segment m c) (due m c.state c) record { flags = refl; text = h } (text_due c c.state (ap is_open e)))
 
-  received_onto : (c d : Connection) → c.state ≡ Established → is_open d.state ≡ true → TextSafe c → Grows m c.part d.part → d.iss ≡ c.iss → d.acked ≡ c.acked → d.len ≡ c.len → Onto c d
+  received_onto : (c d : Connection) → c.state ≡ Established → is_open d.state ≡ true → TextSafe c → Grows m c.part d.part → d.iss ≡ c.iss
+      → d.acked ≡ c.acked → d.len ≡ c.len → Onto c d
   received_onto c d st o h x f ea el = record {
     iss = f;
     grows = omega (arith, ea);
     kept = λ l e. (omega (arith, l, el), open_due c d st o (received_due c d h x el));
   }
 
-  closing_reports : (c : Connection) (numbers : List ℕ) (s : PlainSegment) → c.state ≡ Established → 0 < c.mss → 0 < c.initial_mss → TextSafe c → (let o : Outcome = peer_closes m c numbers s in OutReports c o.connection o.step)
+  closing_reports : (c : Connection) (numbers : List ℕ) (s : PlainSegment) → c.state ≡ Established → 0 < c.mss → 0 < c.initial_mss
+      → TextSafe c → (let o : Outcome = peer_closes m c numbers s in OutReports c o.connection o.step)
   unfolding peer_closes
   closing_reports c numbers s st ms ini h =
       let x : Grows m c.part (delivers_text m numbers c.part s.text).part = receives_grows numbers c.part s.text in
@@ -310,10 +366,20 @@ module _ (m : AppSpec) (steady : IsSteady m) (Low : ℕ → Type 0) (low_text : 
       let o : Onto c d = received_onto c d st refl h x refl refl refl in
       let w : 0 < d.mss = window_some c.initial_mss s.window ini in
       choose (λ (y : Outcome). OutReports c y.connection y.step) (ltb 0 c.len) _ _
-      (λ e. ack_reports c d o (λ l. record { mss = w; initial = ini; state = record { text = t; some = ltb-lt 0 c.len e } }) (λ z. record { some = z; same = refl }))
-      (λ e. record { onto = o; is_asked = refl; idle = ltb-zero c.len e; mss = w; initial = ini; text = t; new = λ y. absurd (omega (arith, y, ltb-zero c.len e)) })
+      (λ e. ack_reports c d o (λ l. record { mss = w; initial = ini; state = record { text = t; some = ltb-lt 0 c.len e } })
+      (λ z. record { some = z; same = refl }))
+      (λ e. record {
+        onto = o;
+        is_asked = refl;
+        idle = ltb-zero c.len e;
+        mss = w;
+        initial = ini;
+        text = t;
+        new = λ y. absurd (omega (arith, y, ltb-zero c.len e));
+      })
 
-  going_reports : (acked : Bool) (c : Connection) (numbers : List ℕ) (s : PlainSegment) → c.state ≡ Established → 0 < c.mss → 0 < c.initial_mss → TextSafe c → (let o : Outcome = stays_established m acked c numbers s in OutReports c o.connection o.step)
+  going_reports : (acked : Bool) (c : Connection) (numbers : List ℕ) (s : PlainSegment) → c.state ≡ Established → 0 < c.mss
+      → 0 < c.initial_mss → TextSafe c → (let o : Outcome = stays_established m acked c numbers s in OutReports c o.connection o.step)
   unfolding stays_established
   going_reports acked c numbers s st ms ini h =
       let x : Grows m c.part (delivers_text m numbers c.part s.text).part = receives_grows numbers c.part s.text in
@@ -322,22 +388,45 @@ module _ (m : AppSpec) (steady : IsSteady m) (Low : ℕ → Type 0) (low_text : 
       let o : Onto c d = received_onto c d st (ap is_open st) h x refl refl refl in
       let w : 0 < d.mss = window_some c.initial_mss s.window ini in
       let f : Safe d = record { mss = w; initial = ini; state = state_at d Established st t } in
-      choose (λ (y : Outcome). OutReports c y.connection y.step) (not acked && not (has_text s)) _ _ (λ e. silent_reports c d o (λ l. f) (λ z. record { some = z; same = refl }))
-      (λ e. choose (λ (y : Outcome). OutReports c y.connection y.step) (ltb 0 c.len) _ _ (λ i. ack_reports c d o (λ l. f) (λ z. record { some = z; same = refl }))
-      (λ i. record { onto = o; is_asked = ap is_open st; idle = ltb-zero c.len i; mss = w; initial = ini; text = t; new = λ y. absurd (omega (arith, y, ltb-zero c.len i)) }))
+      choose (λ (y : Outcome). OutReports c y.connection y.step) (not acked && not (has_text s)) _ _
+      (λ e. silent_reports c d o (λ l. f) (λ z. record { some = z; same = refl }))
+      (λ e. choose (λ (y : Outcome). OutReports c y.connection y.step) (ltb 0 c.len) _ _
+      (λ i. ack_reports c d o (λ l. f) (λ z. record { some = z; same = refl }))
+      (λ i. record {
+        onto = o;
+        is_asked = ap is_open st;
+        idle = ltb-zero c.len i;
+        mss = w;
+        initial = ini;
+        text = t;
+        new = λ y. absurd (omega (arith, y, ltb-zero c.len i));
+      }))
 
-  established_reports : (acked : Bool) (c : Connection) (numbers : List ℕ) (s : PlainSegment) → c.state ≡ Established → 0 < c.mss → 0 < c.initial_mss → TextSafe c → (let o : Outcome = in_established m acked c numbers s in OutReports c o.connection o.step)
+  established_reports : (acked : Bool) (c : Connection) (numbers : List ℕ) (s : PlainSegment) → c.state ≡ Established → 0 < c.mss
+      → 0 < c.initial_mss → TextSafe c → (let o : Outcome = in_established m acked c numbers s in OutReports c o.connection o.step)
   unfolding in_established
   established_reports acked c numbers s st ms ini h =
-      choose (λ (y : Outcome). OutReports c y.connection y.step) (has_fin s.flags) _ _ (λ e. closing_reports c numbers s st ms ini h) (λ e. going_reports acked c numbers s st ms ini h)
+      choose (λ (y : Outcome). OutReports c y.connection y.step) (has_fin s.flags) _ _ (λ e. closing_reports c numbers s st ms ini h)
+      (λ e. going_reports acked c numbers s st ms ini h)
 
   out_from : (c b d : Connection) (s : Step) → is_again s ≡ false → Onto c b → (0 < c.len → c.acked < b.acked) → b.len ≡ 0 → OutReports b d s → OutReports c d s
-  out_from c b d (Step.Ask fresh) n o new none h = record { onto = onto_then c b d o h.onto; is_asked = h.is_asked; idle = h.idle; mss = h.mss; initial = h.initial; text = h.text; new = λ y. (let g = h.onto.grows in omega (arith, new y, g)) }
+  out_from c b d (Step.Ask fresh) n o new none h = record {
+    onto = onto_then c b d o h.onto;
+    is_asked = h.is_asked;
+    idle = h.idle;
+    mss = h.mss;
+    initial = h.initial;
+    text = h.text;
+    new = λ y. (let g = h.onto.grows in omega (arith, new y, g));
+  }
   out_from c b d Step.Drop n o new none h = from_reports c b d None o new none h
   out_from c b d Step.Ack n o new none h = from_reports c b d (Some (bare_ack d)) o new none h
-  out_from c b d (Step.SynAck again) n o new none h = subst (λ x. StepReports c d (Some (syn_ack d)) x) (sym n) (from_reports c b d (Some (syn_ack d)) o new none (subst (λ x. StepReports b d (Some (syn_ack d)) x) n h))
-  out_from c b d (Step.Text again) n o new none h = subst (λ x. StepReports c d (Some (text_segment m d)) x) (sym n) (from_reports c b d (Some (text_segment m d)) o new none (subst (λ x. StepReports b d (Some (text_segment m d)) x) n h))
-  out_from c b d (Step.Fin again) n o new none h = subst (λ x. StepReports c d (Some (fin_of d)) x) (sym n) (from_reports c b d (Some (fin_of d)) o new none (subst (λ x. StepReports b d (Some (fin_of d)) x) n h))
+  out_from c b d (Step.SynAck again) n o new none h = subst (λ x. StepReports c d (Some (syn_ack d)) x) (sym n)
+      (from_reports c b d (Some (syn_ack d)) o new none (subst (λ x. StepReports b d (Some (syn_ack d)) x) n h))
+  out_from c b d (Step.Text again) n o new none h = subst (λ x. StepReports c d (Some (text_segment m d)) x) (sym n)
+      (from_reports c b d (Some (text_segment m d)) o new none (subst (λ x. StepReports b d (Some (text_segment m d)) x) n h))
+  out_from c b d (Step.Fin again) n o new none h = subst (λ x. StepReports c d (Some (fin_of d)) x) (sym n)
+      (from_reports c b d (Some (fin_of d)) o new none (subst (λ x. StepReports b d (Some (fin_of d)) x) n h))
   out_from c b d Step.Reset n o new none h = from_reports c b d (Some (reset_of d)) o new none h
 
   established_again : (acked : Bool) (c : Connection) (numbers : List ℕ) (s : PlainSegment) → is_again (in_established m acked c numbers s).step ≡ false
@@ -345,7 +434,8 @@ module _ (m : AppSpec) (steady : IsSteady m) (Low : ℕ → Type 0) (low_text : 
   established_again acked c numbers s =
       choose (λ (y : Outcome). is_again y.step ≡ false) (has_fin s.flags) _ _
       (λ e. choose (λ (y : Outcome). is_again y.step ≡ false) (ltb 0 c.len) _ _ (λ f. refl) (λ f. refl))
-      (λ e. choose (λ (y : Outcome). is_again y.step ≡ false) (not acked && not (has_text s)) _ _ (λ f. refl) (λ f. choose (λ (y : Outcome). is_again y.step ≡ false) (ltb 0 c.len) _ _ (λ g. refl) (λ g. refl)))
+      (λ e. choose (λ (y : Outcome). is_again y.step ≡ false) (not acked && not (has_text s)) _ _ (λ f. refl)
+      (λ f. choose (λ (y : Outcome). is_again y.step ≡ false) (ltb 0 c.len) _ _ (λ g. refl) (λ g. refl)))
 
   ack_text : (c : Connection) (numbers : List ℕ) → TextSafe c → TextSafe (with_part (m.acked numbers c.part c.len).part (rests c))
   ack_text c numbers h =
@@ -368,23 +458,36 @@ module _ (m : AppSpec) (steady : IsSteady m) (Low : ℕ → Type 0) (low_text : 
   control_safe : (c d : Connection) → d.len ≡ c.len → d.acked ≡ c.acked → ControlSafe c → ControlSafe d
   control_safe c d l a h = record { len = l ∙ h.len; low = near_same c d 1 a h.low }
 
-  by_state_reports : (st : State) (acked : Bool) (c : Connection) (numbers : List ℕ) (s : PlainSegment) → c.state ≡ st → is_acked c s ≡ acked → 0 < c.mss → 0 < c.initial_mss → SafeState c st →
+  by_state_reports : (st : State) (acked : Bool) (c : Connection) (numbers : List ℕ) (s : PlainSegment) → c.state ≡ st
+      → is_acked c s ≡ acked → 0 < c.mss → 0 < c.initial_mss → SafeState c st →
       (let o : Outcome = by_state m st acked c numbers s in OutReports c o.connection o.step)
   unfolding fin_acked fin_waits
   by_state_reports Closed acked c numbers s e ac ms ini h = absurd h
   by_state_reports SynRcvd true c numbers s e ac ms ini h =
       let port : ℕ = c.sockets.own_port.0 in
       let start : AppState = (m.connected numbers port).part in
-      let x : Grows m start (delivers_text m (m.connected numbers port).numbers start s.text).part = receives_grows (m.connected numbers port).numbers start s.text in
-      let d : Connection = with_part (delivers_text m (m.connected numbers port).numbers start s.text).part (takes (length s.text) (in_state Established (rests c))) in
+      let x : Grows m start (delivers_text m (m.connected numbers port).numbers start s.text).part = receives_grows
+      (m.connected numbers port).numbers start s.text in
+      let d : Connection = with_part (delivers_text m (m.connected numbers port).numbers start s.text).part
+      (takes (length s.text) (in_state Established (rests c))) in
       let z : d.part.acked ≡ 0 = x.offset ∙ steady.connected_acked numbers port in
-      record { onto = onto_more c d refl (omega (arith, h.len)); is_asked = refl; idle = refl; mss = ms; initial = ini; text = record { fits = omega (arith, z); count = omega (arith, z, h.acked, h.len) }; new = λ y. omega (arith, h.len) }
-  by_state_reports SynRcvd false c numbers s e ac ms ini h = silent_reports c c (onto_same c) (λ l. record { mss = ms; initial = ini; state = state_at c SynRcvd e h }) (λ z. record { some = z; same = refl })
+      record {
+        onto = onto_more c d refl (omega (arith, h.len));
+        is_asked = refl;
+        idle = refl;
+        mss = ms;
+        initial = ini;
+        text = record { fits = omega (arith, z); count = omega (arith, z, h.acked, h.len) };
+        new = λ y. omega (arith, h.len);
+      }
+  by_state_reports SynRcvd false c numbers s e ac ms ini h = silent_reports c c (onto_same c)
+      (λ l. record { mss = ms; initial = ini; state = state_at c SynRcvd e h }) (λ z. record { some = z; same = refl })
   by_state_reports Established true c numbers s e ac ms ini h =
       let b : Connection = with_part (m.acked numbers c.part c.len).part (rests c) in
       let o : Outcome = in_established m true b (m.acked numbers c.part c.len).numbers s in
       let some : 0 < c.len = acked_len c s ac in
-      out_from c b o.connection o.step (established_again true b (m.acked numbers c.part c.len).numbers s) (onto_more c b refl (omega (arith, some))) (λ y. omega (arith, some)) refl
+      out_from c b o.connection o.step (established_again true b (m.acked numbers c.part c.len).numbers s)
+      (onto_more c b refl (omega (arith, some))) (λ y. omega (arith, some)) refl
       (established_reports true b (m.acked numbers c.part c.len).numbers s e ms ini (ack_text c numbers h))
   by_state_reports Established false c numbers s e ac ms ini h = established_reports false c numbers s e ms ini h
   by_state_reports CloseWait true c numbers s e ac ms ini h =
@@ -392,48 +495,76 @@ module _ (m : AppSpec) (steady : IsSteady m) (Low : ℕ → Type 0) (low_text : 
       let d : Connection = with_window s.window b in
       let some : 0 < c.len = acked_len c s ac in
       let t : TextSafe b = ack_text c numbers h.text in
-      record { onto = onto_more c d refl (omega (arith, some)); is_asked = ap is_open e; idle = refl; mss = window_some c.initial_mss s.window ini; initial = ini; text = record { fits = t.fits; count = t.count }; new = λ y. omega (arith, some) }
+      record {
+        onto = onto_more c d refl (omega (arith, some));
+        is_asked = ap is_open e;
+        idle = refl;
+        mss = window_some c.initial_mss s.window ini;
+        initial = ini;
+        text = record { fits = t.fits; count = t.count };
+        new = λ y. omega (arith, some);
+      }
   by_state_reports CloseWait false c numbers s e ac ms ini h =
       let d : Connection = with_window s.window c in
       silent_reports c d record { iss = refl; grows = omega arith; kept = λ l z. (l, alike_same c.state c d refl) }
-      (λ l. record { mss = window_some c.initial_mss s.window ini; initial = ini; state = state_at d CloseWait e record { text = record { fits = h.text.fits; count = h.text.count }; some = h.some } }) (λ z. record { some = z; same = refl })
+      (λ l. record {
+        mss = window_some c.initial_mss s.window ini;
+        initial = ini;
+        state = state_at d CloseWait e record { text = record { fits = h.text.fits; count = h.text.count }; some = h.some };
+      }) (λ z. record { some = z; same = refl })
   by_state_reports FinWait1 true c numbers s e ac ms ini h =
       choose (λ (y : Outcome). OutReports c y.connection y.step) (has_fin s.flags) _ _
       (λ f. let d : Connection = in_state TimeWait (takes (length s.text + 1) (rests c)) in
-      ack_reports c d (onto_more c d refl (omega (arith, h.len))) (λ l. record { mss = ms; initial = ini; state = record { len = refl; low = near_more c d (omega (arith, h.len)) h.low } }) (λ z. absurd (omega arith)))
+      ack_reports c d (onto_more c d refl (omega (arith, h.len)))
+      (λ l. record { mss = ms; initial = ini; state = record { len = refl; low = near_more c d (omega (arith, h.len)) h.low } }) (λ z. absurd (omega arith)))
       (λ f. let d : Connection = in_state FinWait2 (takes (length s.text) (rests c)) in
-      silent_reports c d (onto_more c d refl (omega (arith, h.len))) (λ l. record { mss = ms; initial = ini; state = record { len = refl; low = near_more c d (omega (arith, h.len)) h.low } }) (λ z. absurd (omega arith)))
+      silent_reports c d (onto_more c d refl (omega (arith, h.len)))
+      (λ l. record { mss = ms; initial = ini; state = record { len = refl; low = near_more c d (omega (arith, h.len)) h.low } }) (λ z. absurd (omega arith)))
   by_state_reports FinWait1 false c numbers s e ac ms ini h =
       choose (λ (y : Outcome). OutReports c y.connection y.step) (has_fin s.flags) _ _
       (λ f. let d : Connection = in_state Closing (takes (length s.text + 1) c) in
-      ack_reports c d record { iss = refl; grows = omega arith; kept = λ l z. (l, subst (λ x. Alike (fin_of d) (due m x c)) (sym e) (record { flags = refl; text = refl })) }
+      ack_reports c d record {
+        iss = refl;
+        grows = omega arith;
+        kept = λ l z. (l, subst (λ x. Alike (fin_of d) (due m x c)) (sym e) (record { flags = refl; text = refl }));
+      }
       (λ l. record { mss = ms; initial = ini; state = control_safe c d refl refl h }) (λ z. record { some = z; same = refl }))
       (λ f. choose (λ (y : Outcome). OutReports c y.connection y.step) (has_text s) _ _
       (λ i. let d : Connection = takes (length s.text) c in
       ack_reports c d record { iss = refl; grows = omega arith; kept = λ l z. (l, alike_same c.state c d refl) }
       (λ l. record { mss = ms; initial = ini; state = state_at d FinWait1 e (control_safe c d refl refl h) }) (λ z. record { some = z; same = refl }))
-      (λ i. silent_reports c c (onto_same c) (λ l. record { mss = ms; initial = ini; state = state_at c FinWait1 e h }) (λ z. record { some = z; same = refl })))
+      (λ i. silent_reports c c (onto_same c) (λ l. record { mss = ms; initial = ini; state = state_at c FinWait1 e h })
+      (λ z. record { some = z; same = refl })))
   by_state_reports FinWait2 acked c numbers s e ac ms ini h =
       choose (λ (y : Outcome). OutReports c y.connection y.step) (has_fin s.flags) _ _
       (λ f. let d : Connection = record (in_state TimeWait (takes (length s.text + 1) c)) { age = 0 } in
-      ack_reports c d (onto_idle c d refl h.len refl) (λ l. record { mss = ms; initial = ini; state = record { len = h.len; low = h.low } }) (λ z. record { some = z; same = refl }))
+      ack_reports c d (onto_idle c d refl h.len refl) (λ l. record { mss = ms; initial = ini; state = record { len = h.len; low = h.low } })
+      (λ z. record { some = z; same = refl }))
       (λ f. choose (λ (y : Outcome). OutReports c y.connection y.step) (has_text s) _ _
       (λ i. let d : Connection = takes (length s.text) c in
-      ack_reports c d (onto_idle c d refl h.len refl) (λ l. record { mss = ms; initial = ini; state = state_at d FinWait2 e record { len = h.len; low = h.low } }) (λ z. record { some = z; same = refl }))
-      (λ i. silent_reports c c (onto_same c) (λ l. record { mss = ms; initial = ini; state = state_at c FinWait2 e h }) (λ z. record { some = z; same = refl })))
+      ack_reports c d (onto_idle c d refl h.len refl)
+      (λ l. record { mss = ms; initial = ini; state = state_at d FinWait2 e record { len = h.len; low = h.low } }) (λ z. record { some = z; same = refl }))
+      (λ i. silent_reports c c (onto_same c) (λ l. record { mss = ms; initial = ini; state = state_at c FinWait2 e h })
+      (λ z. record { some = z; same = refl })))
   by_state_reports Closing true c numbers s e ac ms ini h =
       let d : Connection = in_state TimeWait (rests c) in
-      silent_reports c d (onto_more c d refl (omega (arith, h.len))) (λ l. record { mss = ms; initial = ini; state = record { len = refl; low = near_more c d (omega (arith, h.len)) h.low } }) (λ z. absurd (omega arith))
-  by_state_reports Closing false c numbers s e ac ms ini h = silent_reports c c (onto_same c) (λ l. record { mss = ms; initial = ini; state = state_at c Closing e h }) (λ z. record { some = z; same = refl })
+      silent_reports c d (onto_more c d refl (omega (arith, h.len)))
+      (λ l. record { mss = ms; initial = ini; state = record { len = refl; low = near_more c d (omega (arith, h.len)) h.low } }) (λ z. absurd (omega arith))
+  by_state_reports Closing false c numbers s e ac ms ini h = silent_reports c c (onto_same c)
+      (λ l. record { mss = ms; initial = ini; state = state_at c Closing e h }) (λ z. record { some = z; same = refl })
   by_state_reports LastAck true c numbers s e ac ms ini h = dead_reports c (rests c)
-  by_state_reports LastAck false c numbers s e ac ms ini h = silent_reports c c (onto_same c) (λ l. record { mss = ms; initial = ini; state = state_at c LastAck e h }) (λ z. record { some = z; same = refl })
-  by_state_reports TimeWait acked c numbers s e ac ms ini h = ack_reports c c (onto_same c) (λ l. record { mss = ms; initial = ini; state = state_at c TimeWait e h }) (λ z. record { some = z; same = refl })
+  by_state_reports LastAck false c numbers s e ac ms ini h = silent_reports c c (onto_same c)
+      (λ l. record { mss = ms; initial = ini; state = state_at c LastAck e h }) (λ z. record { some = z; same = refl })
+  by_state_reports TimeWait acked c numbers s e ac ms ini h = ack_reports c c (onto_same c)
+      (λ l. record { mss = ms; initial = ini; state = state_at c TimeWait e h }) (λ z. record { some = z; same = refl })
 
-  pub segment_reports : (c : Connection) (numbers : List ℕ) (s : PlainSegment) → Safe c → (let o : Outcome = on_segment m c numbers s in OutReports c o.connection o.step)
+  pub segment_reports : (c : Connection) (numbers : List ℕ) (s : PlainSegment) → Safe c → (let o : Outcome = on_segment m c numbers s in
+      OutReports c o.connection o.step)
   unfolding on_segment
   segment_reports c numbers s f =
       choose (λ (y : Outcome). OutReports c y.connection y.step) (has_rst s.flags) _ _ (λ e. dead_reports c c) (λ e.
-      choose (λ (y : Outcome). OutReports c y.connection y.step) (is_out_of_order c s) _ _ (λ i. ack_reports c c (onto_same c) (λ l. f) (λ z. record { some = z; same = refl }))
+      choose (λ (y : Outcome). OutReports c y.connection y.step) (is_out_of_order c s) _ _
+      (λ i. ack_reports c c (onto_same c) (λ l. f) (λ z. record { some = z; same = refl }))
       (λ i. by_state_reports c.state (is_acked c s) c numbers s refl refl f.mss f.initial f.state))
 
   -- the timer
@@ -451,42 +582,66 @@ module _ (m : AppSpec) (steady : IsSteady m) (Low : ℕ → Type 0) (low_text : 
   older_is_safe c f = record { mss = f.mss; initial = f.initial; state = older_safe c c.state f.state }
 
   -- what is outstanding is sent again
-  repeat_reports : (c : Connection) (s : PlainSegment) → is_live c.state ≡ true → Safe c → 0 < c.len → s.seq ≡ snd_una c → Alike s (due m c.state (grows_older c)) → occupies_sequence_space s ≡ true → StepReports c (grows_older c) (Some s) true
+  repeat_reports : (c : Connection) (s : PlainSegment) → is_live c.state ≡ true → Safe c → 0 < c.len → s.seq ≡ snd_una c
+      → Alike s (due m c.state (grows_older c)) → occupies_sequence_space s ≡ true → StepReports c (grows_older c) (Some s) true
   repeat_reports c s l f some seq alike placed = record {
     still = λ x z. inl record { some = some; same = refl };
     onto = λ x. older_onto c;
     safe = λ x. older_is_safe c f;
-    output = λ x e p. record { live = l; due_now = record { len = some; seq = only_some (λ y. y.seq ≡ snd_una c) s x e seq; alike = only_some (λ y. Alike y (due m c.state (grows_older c))) s x e alike }; repeated = λ y. (some, refl); new = λ y. absurd (cc) };
+    output = λ x e p. record {
+      live = l;
+      due_now = record {
+        len = some;
+        seq = only_some (λ y. y.seq ≡ snd_una c) s x e seq;
+        alike = only_some (λ y. Alike y (due m c.state (grows_older c))) s x e alike;
+      };
+      repeated = λ y. (some, refl);
+      new = λ y. absurd (cc);
+    };
     marked = λ x e p. only_some (λ y. occupies_sequence_space y ≡ true) s x e placed;
   }
 
   text_place : (c : Connection) → TextSafe c → 0 < c.len → occupies_sequence_space (text_segment m (grows_older c)) ≡ true
   text_place c h l = text_placed (grows_older c) record { fits = h.fits; count = h.count } l
 
-  again_reports : (c : Connection) (st : State) → c.state ≡ st → is_live st ≡ true → Safe c → SafeState c st → 0 < c.len → OutReports c (grows_older c) (outstanding true st)
+  again_reports : (c : Connection) (st : State) → c.state ≡ st → is_live st ≡ true → Safe c → SafeState c st → 0 < c.len
+      → OutReports c (grows_older c) (outstanding true st)
   again_reports c Closed e l f h some = absurd (cc)
-  again_reports c SynRcvd e l f h some = repeat_reports c (syn_ack (grows_older c)) (ap is_live e) f some refl (subst (λ x. Alike (syn_ack (grows_older c)) (due m x (grows_older c))) (sym e) (alike_refl (syn_ack (grows_older c)))) refl
-  again_reports c Established e l f h some = repeat_reports c (text_segment m (grows_older c)) (ap is_live e) f some refl (subst (λ x. Alike (text_segment m (grows_older c)) (due m x (grows_older c))) (sym e) (alike_refl (text_segment m (grows_older c)))) (text_place c h some)
-  again_reports c CloseWait e l f h some = repeat_reports c (text_segment m (grows_older c)) (ap is_live e) f some refl (subst (λ x. Alike (text_segment m (grows_older c)) (due m x (grows_older c))) (sym e) (alike_refl (text_segment m (grows_older c)))) (text_place c h.text some)
-  again_reports c FinWait1 e l f h some = repeat_reports c (fin_of (grows_older c)) (ap is_live e) f some refl (subst (λ x. Alike (fin_of (grows_older c)) (due m x (grows_older c))) (sym e) (alike_refl (fin_of (grows_older c)))) refl
-  again_reports c Closing e l f h some = repeat_reports c (fin_of (grows_older c)) (ap is_live e) f some refl (subst (λ x. Alike (fin_of (grows_older c)) (due m x (grows_older c))) (sym e) (alike_refl (fin_of (grows_older c)))) refl
-  again_reports c LastAck e l f h some = repeat_reports c (fin_of (grows_older c)) (ap is_live e) f some refl (subst (λ x. Alike (fin_of (grows_older c)) (due m x (grows_older c))) (sym e) (alike_refl (fin_of (grows_older c)))) refl
+  again_reports c SynRcvd e l f h some = repeat_reports c (syn_ack (grows_older c)) (ap is_live e) f some refl
+      (subst (λ x. Alike (syn_ack (grows_older c)) (due m x (grows_older c))) (sym e) (alike_refl (syn_ack (grows_older c)))) refl
+  again_reports c Established e l f h some = repeat_reports c (text_segment m (grows_older c)) (ap is_live e) f some refl
+      (subst (λ x. Alike (text_segment m (grows_older c)) (due m x (grows_older c))) (sym e) (alike_refl (text_segment m (grows_older c))))
+      (text_place c h some)
+  again_reports c CloseWait e l f h some = repeat_reports c (text_segment m (grows_older c)) (ap is_live e) f some refl
+      (subst (λ x. Alike (text_segment m (grows_older c)) (due m x (grows_older c))) (sym e) (alike_refl (text_segment m (grows_older c))))
+      (text_place c h.text some)
+  again_reports c FinWait1 e l f h some = repeat_reports c (fin_of (grows_older c)) (ap is_live e) f some refl
+      (subst (λ x. Alike (fin_of (grows_older c)) (due m x (grows_older c))) (sym e) (alike_refl (fin_of (grows_older c)))) refl
+  again_reports c Closing e l f h some = repeat_reports c (fin_of (grows_older c)) (ap is_live e) f some refl
+      (subst (λ x. Alike (fin_of (grows_older c)) (due m x (grows_older c))) (sym e) (alike_refl (fin_of (grows_older c)))) refl
+  again_reports c LastAck e l f h some = repeat_reports c (fin_of (grows_older c)) (ap is_live e) f some refl
+      (subst (λ x. Alike (fin_of (grows_older c)) (due m x (grows_older c))) (sym e) (alike_refl (fin_of (grows_older c)))) refl
   again_reports c FinWait2 e l f h some = silent_reports c (grows_older c) (older_onto c) (λ x. older_is_safe c f) (λ z. record { some = z; same = refl })
   again_reports c TimeWait e l f h some = silent_reports c (grows_older c) (older_onto c) (λ x. older_is_safe c f) (λ z. record { some = z; same = refl })
 
-  by_beat_reports : (b : Beat) (c : Connection) (numbers : List ℕ) → is_live c.state ≡ true → Safe c → 0 < c.len → (let o : Outcome = by_beat m b c numbers in OutReports c o.connection o.step)
-  by_beat_reports Beat.Wait c numbers l f some = silent_reports c (grows_older c) (older_onto c) (λ x. older_is_safe c f) (λ z. record { some = z; same = refl })
+  by_beat_reports : (b : Beat) (c : Connection) (numbers : List ℕ) → is_live c.state ≡ true → Safe c → 0 < c.len
+      → (let o : Outcome = by_beat m b c numbers in OutReports c o.connection o.step)
+  by_beat_reports Beat.Wait c numbers l f some = silent_reports c (grows_older c) (older_onto c) (λ x. older_is_safe c f)
+      (λ z. record { some = z; same = refl })
   by_beat_reports Beat.Again c numbers l f some = again_reports c c.state refl l f f.state some
   by_beat_reports Beat.GiveUp c numbers l f some = reset_reports c c
 
-  waits_report : (c : Connection) (numbers : List ℕ) → is_live c.state ≡ true → Safe c → 0 < c.len → (let o : Outcome = waits_for_ack m c numbers in OutReports c o.connection o.step)
+  waits_report : (c : Connection) (numbers : List ℕ) → is_live c.state ≡ true → Safe c → 0 < c.len
+      → (let o : Outcome = waits_for_ack m c numbers in OutReports c o.connection o.step)
   waits_report c numbers l f some = by_beat_reports (beat_at (limit_of c.state) (c.age + 1)) c numbers l f some
 
   rests_report : (c : Connection) (numbers : List ℕ) → Safe c → (let o : Outcome = rests_on c numbers in OutReports c o.connection o.step)
   unfolding rests_on
-  rests_report c numbers f = choose (λ (y : Outcome). OutReports c y.connection y.step) (eqb (c.age + 1) REST_TIME) _ _ (λ e. dead_reports c c) (λ e. silent_reports c (grows_older c) (older_onto c) (λ x. older_is_safe c f) (λ z. record { some = z; same = refl }))
+  rests_report c numbers f = choose (λ (y : Outcome). OutReports c y.connection y.step) (eqb (c.age + 1) REST_TIME) _ _
+      (λ e. dead_reports c c) (λ e. silent_reports c (grows_older c) (older_onto c) (λ x. older_is_safe c f) (λ z. record { some = z; same = refl }))
 
-  polls_report : (c : Connection) (numbers : List ℕ) → c.state ≡ Established → Safe c → TextSafe c → (let o : Outcome = ticks_established m c numbers in OutReports c o.connection o.step)
+  polls_report : (c : Connection) (numbers : List ℕ) → c.state ≡ Established → Safe c → TextSafe c
+      → (let o : Outcome = ticks_established m c numbers in OutReports c o.connection o.step)
   unfolding ticks_established
   polls_report c numbers e f h =
       choose (λ (y : Outcome). OutReports c y.connection y.step) (ltb 0 c.len) _ _ (λ i. waits_report c numbers (ap is_live e) f (ltb-lt 0 c.len i))
@@ -494,9 +649,18 @@ module _ (m : AppSpec) (steady : IsSteady m) (Low : ℕ → Type 0) (low_text : 
       let d : Connection = with_part (m.polled numbers c.part).part c in
       let z : c.len ≡ 0 = ltb-zero c.len i in
       let q : length (m.output d.part) ≡ length (m.output c.part) = ap (λ t. length t) x.0 in
-      record { onto = onto_idle c d refl z refl; is_asked = ap is_open e; idle = z; mss = f.mss; initial = f.initial; text = record { fits = omega (arith, q, h.fits, x.1); count = omega (arith, h.count, x.1) }; new = λ y. absurd (omega (arith, y, z)) })
+      record {
+        onto = onto_idle c d refl z refl;
+        is_asked = ap is_open e;
+        idle = z;
+        mss = f.mss;
+        initial = f.initial;
+        text = record { fits = omega (arith, q, h.fits, x.1); count = omega (arith, h.count, x.1) };
+        new = λ y. absurd (omega (arith, y, z));
+      })
 
-  tick_by_reports : (st : State) (c : Connection) (numbers : List ℕ) → c.state ≡ st → Safe c → SafeState c st → (let o : Outcome = tick_by m st c numbers in OutReports c o.connection o.step)
+  tick_by_reports : (st : State) (c : Connection) (numbers : List ℕ) → c.state ≡ st → Safe c → SafeState c st
+      → (let o : Outcome = tick_by m st c numbers in OutReports c o.connection o.step)
   tick_by_reports Closed c numbers e f h = absurd h
   tick_by_reports SynRcvd c numbers e f h = waits_report c numbers (ap is_live e) f (omega (arith, h.len))
   tick_by_reports Established c numbers e f h = polls_report c numbers e f h

@@ -1,5 +1,9 @@
 -- A step keeps the sockets of a connection, whatever its client did.
-use Rattle.uip_node.proofs.Prelude.{◌≡◌, ℕ, Bool, true, false, not, ◌&&◌, List, refl, ◌∙◌, ltb, PlainSegment, has_fin, has_rst, Beat, AppSpec, Now, State, Closed, SynRcvd, Established, CloseWait, FinWait1, FinWait2, Closing, TimeWait, LastAck, Connection, Outcome, leaves, prepared, asked, is_out_of_order, is_acked, has_text, peer_closes, stays_established, in_established, fin_acked, fin_waits, by_state, on_segment, with_part, rests, by_beat, tick_by, on_tick, Step}
+use Rattle.uip_node.proofs.Prelude.{◌≡◌, ℕ, Bool, true, false, not, ◌&&◌, List, refl, ◌∙◌, ltb, PlainSegment, has_fin, has_rst, Beat}
+use Rattle.uip_node.proofs.Prelude.{AppSpec, Now, State, Closed, SynRcvd, Established, CloseWait, FinWait1, FinWait2, Closing, TimeWait}
+use Rattle.uip_node.proofs.Prelude.{LastAck, Connection, Outcome, leaves, prepared, asked, is_out_of_order, is_acked, has_text, peer_closes}
+use Rattle.uip_node.proofs.Prelude.{stays_established, in_established, fin_acked, fin_waits, by_state, on_segment, with_part, rests}
+use Rattle.uip_node.proofs.Prelude.{by_beat, tick_by, on_tick, Step}
 use Rattle.tcp_machine.specs.Connection.{is_live}
 use Rattle.uip_node.proofs.Basics.{choose}
 use Rattle.uip_node.proofs.Cases.{asked_by, on_tick_by, wanted_unmoved}
@@ -10,7 +14,8 @@ Keeps c o = o.connection.sockets ≡ c.sockets
 module _ (m : AppSpec) where
   pub asked_keeps : (at : Connection → Now) (c : Connection) (o : Outcome) → Keeps c o → Keeps c (asked m at o)
   asked_keeps at c o h =
-      asked_by m (λ x. Keeps c x) at o (λ a fresh. (let b : Connection = prepared m (at o.connection) o.connection o.numbers in (wanted_unmoved m (m.want o.numbers b.part) fresh b o.numbers).sockets ∙ h)) h
+      asked_by m (λ x. Keeps c x) at o (λ a fresh. (let b : Connection = prepared m (at o.connection) o.connection o.numbers in
+      (wanted_unmoved m (m.want o.numbers b.part) fresh b o.numbers).sockets ∙ h)) h
 
   established_keeps : (acked : Bool) (c : Connection) (numbers : List ℕ) (s : PlainSegment) → Keeps c (in_established m acked c numbers s)
   unfolding in_established peer_closes stays_established
@@ -24,13 +29,16 @@ module _ (m : AppSpec) where
   by_state_keeps Closed acked c numbers s = refl
   by_state_keeps SynRcvd true c numbers s = refl
   by_state_keeps SynRcvd false c numbers s = refl
-  by_state_keeps Established true c numbers s = established_keeps true (with_part (m.acked numbers c.part c.len).part (rests c)) (m.acked numbers c.part c.len).numbers s
+  by_state_keeps Established true c numbers s = established_keeps true (with_part (m.acked numbers c.part c.len).part (rests c))
+      (m.acked numbers c.part c.len).numbers s
   by_state_keeps Established false c numbers s = established_keeps false c numbers s
   by_state_keeps CloseWait true c numbers s = refl
   by_state_keeps CloseWait false c numbers s = refl
   by_state_keeps FinWait1 true c numbers s = choose (λ o. Keeps c o) (has_fin s.flags) _ _ (λ e. refl) (λ e. refl)
-  by_state_keeps FinWait1 false c numbers s = choose (λ o. Keeps c o) (has_fin s.flags) _ _ (λ e. refl) (λ e. choose (λ o. Keeps c o) (has_text s) _ _ (λ f. refl) (λ f. refl))
-  by_state_keeps FinWait2 acked c numbers s = choose (λ o. Keeps c o) (has_fin s.flags) _ _ (λ e. refl) (λ e. choose (λ o. Keeps c o) (has_text s) _ _ (λ f. refl) (λ f. refl))
+  by_state_keeps FinWait1 false c numbers s = choose (λ o. Keeps c o) (has_fin s.flags) _ _ (λ e. refl)
+      (λ e. choose (λ o. Keeps c o) (has_text s) _ _ (λ f. refl) (λ f. refl))
+  by_state_keeps FinWait2 acked c numbers s = choose (λ o. Keeps c o) (has_fin s.flags) _ _ (λ e. refl)
+      (λ e. choose (λ o. Keeps c o) (has_text s) _ _ (λ f. refl) (λ f. refl))
   by_state_keeps Closing true c numbers s = refl
   by_state_keeps Closing false c numbers s = refl
   by_state_keeps LastAck true c numbers s = refl
@@ -49,7 +57,13 @@ module _ (m : AppSpec) where
   by_beat_keeps Beat.GiveUp c numbers = refl
 
   pub on_tick_keeps : (c : Connection) (numbers : List ℕ) → Keeps c (on_tick m c numbers)
-  on_tick_keeps c numbers = on_tick_by m (λ o. Keeps c o) c numbers record { none = refl; beats = λ r b. by_beat_keeps b c numbers; rested = λ e. refl; ends = refl; polled = λ e z. refl }
+  on_tick_keeps c numbers = on_tick_by m (λ o. Keeps c o) c numbers record {
+    none = refl;
+    beats = λ r b. by_beat_keeps b c numbers;
+    rested = λ e. refl;
+    ends = refl;
+    polled = λ e z. refl;
+  }
 
   tick_closed : (st : State) (c : Connection) (numbers : List ℕ) → is_live st ≡ false → tick_by m st c numbers ≡ leaves c numbers Step.Drop
   tick_closed Closed c numbers h = refl

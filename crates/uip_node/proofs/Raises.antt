@@ -1,6 +1,9 @@
 -- Counters raised together, index by index, and as counts.
 -- [add: counter] A further number.
-use Rattle.uip_node.proofs.Prelude.{◌≡◌, ℕ, suc, ◌+◌, ◌<◌, ◌==◌, ◌||◌, Bool, true, false, List, [], ◌∷◌, if◌then◌else◌, length, get_or, map, refl, sym, ap, ◌∙◌, arith, range_with_len, agree_below_at, eqb-true, cases_eq, eq-eqb, ne_eqb, set, subst, inl, inr, get_or-set_other, get_or-set_same, get_or-map, mod-add-mod, wrap, marks, raise, counter_places, counters, raises, times, HistoryEntry}
+use Rattle.uip_node.proofs.Prelude.{◌≡◌, ℕ, suc, ◌+◌, ◌<◌, ◌==◌, ◌||◌, Bool, true, false, List, [], ◌∷◌, if◌then◌else◌, length, get_or, map}
+use Rattle.uip_node.proofs.Prelude.{refl, sym, ap, ◌∙◌, arith, range_with_len, agree_below_at, eqb-true, cases_eq, eq-eqb, ne_eqb, set}
+use Rattle.uip_node.proofs.Prelude.{subst, inl, inr, get_or-set_other, get_or-set_same, get_or-map, mod-add-mod, wrap, marks, raise}
+use Rattle.uip_node.proofs.Prelude.{counter_places, counters, raises, times, HistoryEntry}
 
 pub raise_by_place : (bs : List Bool) (ns ms : List ℕ) → length ms ≡ length ns → length bs ≡ length ns →
     ((k : ℕ) → k < length ns → get_or ms k 0 ≡ (if get_or bs k false then wrap (get_or ns k 0 + 1) else get_or ns k 0)) → ms ≡ raise bs ns
@@ -24,7 +27,8 @@ counts_more : (numbers : List ℕ) (p : HistoryEntry) (history : List HistoryEnt
 counts_more [] p history = refl
 counts_more (k ∷ numbers) p history =
     let tail = counts_more numbers p history in
-    let head : wrap (times (raises k) (p ∷ history)) ≡ (if raises k p then wrap (wrap (times (raises k) history) + 1) else wrap (times (raises k) history)) = one_more (raises k p) (times (raises k) history) in
+    let head : wrap (times (raises k) (p ∷ history)) ≡ (if raises k p then wrap (wrap (times (raises k) history) + 1) else wrap
+    (times (raises k) history)) = one_more (raises k p) (times (raises k) history) in
     cc
 
 -- which of the twenty an event of the past raised

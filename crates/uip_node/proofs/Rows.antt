@@ -1,5 +1,8 @@
 -- Whole conversations, computed from the definitions alone.
-use Rattle.uip_node.proofs.Prelude.{◌≡◌, ◌+◌, ℕ, zero, suc, Bool, true, false, List, [], ◌∷◌, ◌++◌, map, refl, Option, Some, None, ◌==◌, FIN, SYN, RST, PSH, ACK, fixed_spec, hello, Sockets, idles, peer_closes, stays_established, in_established, fin_acked, fin_waits, on_segment, rests_on, ticks_established, Event, Reply, tick, Arrived, Echo, TcpReply, initial_node, run, happened, opens_in, for_no_connection}
+use Rattle.uip_node.proofs.Prelude.{◌≡◌, ◌+◌, ℕ, zero, suc, Bool, true, false, List, [], ◌∷◌, ◌++◌, map, refl, Option, Some, None, ◌==◌}
+use Rattle.uip_node.proofs.Prelude.{FIN, SYN, RST, PSH, ACK, fixed_spec, hello, Sockets, idles, peer_closes, stays_established}
+use Rattle.uip_node.proofs.Prelude.{in_established, fin_acked, fin_waits, on_segment, rests_on, ticks_established, Event, Reply, tick}
+use Rattle.uip_node.proofs.Prelude.{Arrived, Echo, TcpReply, initial_node, run, happened, opens_in, for_no_connection}
 
 abbrev web : ℕ → Bool
 web port = port == 80
@@ -52,7 +55,8 @@ first_text = refl
 
 -- the text is lost each time: it is sent again at eight ages and given up at the ninth
 lost_text : sent_for (syn ∷ says 1001 1 ACK None (120 ∷ []) ∷ ticks 249)
-    ≡ synack 1 false ∷ greeting 2 false ∷ greeting 3 true ∷ greeting 4 true ∷ greeting 5 true ∷ greeting 6 true ∷ greeting 7 true ∷ greeting 8 true ∷ greeting 9 true ∷ greeting 10 true
+    ≡ synack 1 false ∷ greeting 2 false ∷ greeting 3 true ∷ greeting 4 true ∷ greeting 5 true ∷ greeting 6 true ∷ greeting 7 true
+    ∷ greeting 8 true ∷ greeting 9 true ∷ greeting 10 true
     ∷ record { id = 11; again = false; seq = 1; ack = 1002; flags = RST + ACK; text = [] } ∷ []
 unfolding idles peer_closes stays_established in_established fin_acked fin_waits on_segment rests_on ticks_established happened opens_in for_no_connection
 lost_text = refl

@@ -1,5 +1,6 @@
 -- Pairs of sockets, compared.
-use Rattle.uip_node.proofs.Prelude.{◌≡◌, Bool, true, false, ◌&&◌, refl, sym, ap, ◌∙◌, subst, eqb, bytes_eq, eq-eqb, bytes_eq-Decides, Sockets, same_sockets, Connection, serves}
+use Rattle.uip_node.proofs.Prelude.{◌≡◌, Bool, true, false, ◌&&◌, refl, sym, ap, ◌∙◌, subst, eqb, bytes_eq, eq-eqb, bytes_eq-Decides}
+use Rattle.uip_node.proofs.Prelude.{Sockets, same_sockets, Connection, serves}
 use Rattle.tcp_machine.specs.Connection.{is_live}
 use Rattle.uip_node.proofs.Basics.{and_true, both_ways, eqb-eq}
 
@@ -19,7 +20,8 @@ both true b e f = f
 both false b e f = absurd (cc)
 
 pub same_self : (a : Sockets) → same_sockets a a ≡ true
-same_self a = both _ _ ((bytes_eq-Decides a.peer.0 a.peer.0).1 refl) (both _ _ (eq-eqb a.peer_port.0 a.peer_port.0 refl) (eq-eqb a.own_port.0 a.own_port.0 refl))
+same_self a = both _ _ ((bytes_eq-Decides a.peer.0 a.peer.0).1 refl) (both _ _ (eq-eqb a.peer_port.0 a.peer_port.0 refl)
+    (eq-eqb a.own_port.0 a.own_port.0 refl))
 
 pub is_same : (a b : Sockets) → a ≡ b → same_sockets a b ≡ true
 is_same a b e = subst (λ x. same_sockets a x ≡ true) e (same_self a)

@@ -1,6 +1,10 @@
 -- The counters after an event, and after its answer.
 -- [add: counter] The events that raise the counter.
-use Rattle.uip_node.proofs.Prelude.{◌≡◌, ℕ, ◌+◌, ◌%◌, ◌==◌, ◌||◌, ◌&&◌, not, Bool, true, false, List, [], ◌∷◌, if◌then◌else◌, refl, sym, ap, ◌∙◌, Option, None, list_any, option_map_or, and_parts, mod-add-mod, wrap, marks, raise, CountsRepresent, again_place, icmp_place, ip_place, seen, tcp_place, called_by, counters, ident_of, raised_by_answer, times, Counts, Answer, Event, HistoryEntry, IpRefused, IcmpRefused, TcpRefused, EchoAsked, Arrived, Overlong, Periodic, NoSlot, Silent, Spoke}
+use Rattle.uip_node.proofs.Prelude.{◌≡◌, ℕ, ◌+◌, ◌%◌, ◌==◌, ◌||◌, ◌&&◌, not, Bool, true, false, List, [], ◌∷◌, if◌then◌else◌, refl, sym, ap}
+use Rattle.uip_node.proofs.Prelude.{◌∙◌, Option, None, list_any, option_map_or, and_parts, mod-add-mod, wrap, marks, raise, CountsRepresent}
+use Rattle.uip_node.proofs.Prelude.{again_place, icmp_place, ip_place, seen, tcp_place, called_by, counters, ident_of, raised_by_answer}
+use Rattle.uip_node.proofs.Prelude.{times, Counts, Answer, Event, HistoryEntry, IpRefused, IcmpRefused, TcpRefused, EchoAsked, Arrived}
+use Rattle.uip_node.proofs.Prelude.{Overlong, Periodic, NoSlot, Silent, Spoke}
 use Rattle.uip_ipv4.specs.declared.fate.IpFate.TheVariants as Ip
 use Rattle.icmp_echo.specs.declared.fate.IcmpFate.TheVariants as Icmp
 use Rattle.tcp_segment.specs.declared.fate.TcpFate.TheVariants as Tcp
@@ -26,12 +30,15 @@ marked (TcpRefused Tcp.Short) = refl
 marked _ = refl
 
 -- an event was counted
-pub counted : (event : Event) (history : List HistoryEntry) (old net : List ℕ) → old ≡ counters history → net ≡ raise (marks_of event) old → net ≡ counters (seen event history)
+pub counted : (event : Event) (history : List HistoryEntry) (old net : List ℕ) → old ≡ counters history → net ≡ raise (marks_of event) old
+    → net ≡ counters (seen event history)
 counted event history old net h e =
-    e ∙ ap (raise (marks_of event)) h ∙ ap (λ (bs : List Bool). raise bs (counters history)) (sym (marked event)) ∙ sym (counters_more (with_answer event Silent) history)
+    e ∙ ap (raise (marks_of event)) h ∙ ap (λ (bs : List Bool). raise bs (counters history)) (sym (marked event))
+    ∙ sym (counters_more (with_answer event Silent) history)
 
 -- so the numbers are represented, if it is no periodic call
-pub recounted : (event : Event) (history : List HistoryEntry) (counts : Counts) (net : List ℕ) → called_by event ≡ None → CountsRepresent counts history → net ≡ counters (seen event history) →
+pub recounted : (event : Event) (history : List HistoryEntry) (counts : Counts) (net : List ℕ) → called_by event ≡ None
+    → CountsRepresent counts history → net ≡ counters (seen event history) →
     CountsRepresent (record counts { net = net }) (seen event history)
 recounted event history counts net uncalled h e =
     let ticks : ℕ = times (λ p. option_map_or (λ place. place == 0) (called_by p.event) false) history in
@@ -53,7 +60,8 @@ are_apart [] (c ∷ cs) = false
 are_apart (b ∷ bs) [] = false
 are_apart (b ∷ bs) (c ∷ cs) = not (b && c) && are_apart bs cs
 
-once : (b c : Bool) (n : ℕ) → not (b && c) ≡ true → (if b then wrap ((if c then wrap (n + 1) else n) + 1) else (if c then wrap (n + 1) else n)) ≡ (if b || c then wrap (n + 1) else n)
+once : (b c : Bool) (n : ℕ) → not (b && c) ≡ true
+    → (if b then wrap ((if c then wrap (n + 1) else n) + 1) else (if c then wrap (n + 1) else n)) ≡ (if b || c then wrap (n + 1) else n)
 once true true n h = cc
 once true false n h = refl
 once false c n h = refl
@@ -101,10 +109,13 @@ second event answer history a b c net new adds n e =
     ∙ sym (counters_more (with_answer event answer) history)
 
 -- the next identification
-pub next_ident : (counts : Counts) (event : Event) (again : Bool) (history : List HistoryEntry) → CountsRepresent counts (seen event history) → (counts.ident + 1) % 65536 ≡ ident_of (with_answer event (Spoke again) ∷ history)
-next_ident counts event again history h = ap (λ (n : ℕ). (n + 1) % 65536) h.ident ∙ mod-add-mod (times (λ p. list_any (λ n. n == 15) (raised_by_answer p.answer)) history) 65536 1
+pub next_ident : (counts : Counts) (event : Event) (again : Bool) (history : List HistoryEntry)
+    → CountsRepresent counts (seen event history) → (counts.ident + 1) % 65536 ≡ ident_of (with_answer event (Spoke again) ∷ history)
+next_ident counts event again history h = ap (λ (n : ℕ). (n + 1) % 65536) h.ident
+    ∙ mod-add-mod (times (λ p. list_any (λ n. n == 15) (raised_by_answer p.answer)) history) 65536 1
 
 -- what was sent was counted
-pub sent_counted : (counts : Counts) (event : Event) (again : Bool) (history : List HistoryEntry) (net : List ℕ) → CountsRepresent counts (seen event history) → net ≡ counters (with_answer event (Spoke again) ∷ history) →
+pub sent_counted : (counts : Counts) (event : Event) (again : Bool) (history : List HistoryEntry) (net : List ℕ)
+    → CountsRepresent counts (seen event history) → net ≡ counters (with_answer event (Spoke again) ∷ history) →
     CountsRepresent (record { net = net; ticks = counts.ticks; ident = (counts.ident + 1) % 65536 }) (with_answer event (Spoke again) ∷ history)
 sent_counted counts event again history net h e = record { net = e; ticks = h.ticks; ident = next_ident counts event again history h }

@@ -1,5 +1,7 @@
 -- Bytes of ASCII that are examined together have no mark among them.
-use Rattle.uip_slip.proofs.Prelude.{◌≡◌, ℕ, ◌+◌, ◌%◌, ◌^◌, ◌≤◌, Bool, true, false, cond, not, leb, List, [], ◌∷◌, length, take, drop, map, replicate, ◌-◌, refl, sym, ap, ◌∙◌, arith, length-take, length-drop, prefix_len, slice_range, nat_eq, eqb-true, length-map, leading_from_mask_l, mask_l-mod, is_mark}
+use Rattle.uip_slip.proofs.Prelude.{◌≡◌, ℕ, ◌+◌, ◌%◌, ◌^◌, ◌≤◌, Bool, true, false, cond, not, leb, List, [], ◌∷◌, length, take, drop, map}
+use Rattle.uip_slip.proofs.Prelude.{replicate, ◌-◌, refl, sym, ap, ◌∙◌, arith, length-take, length-drop, prefix_len, slice_range, nat_eq}
+use Rattle.uip_slip.proofs.Prelude.{eqb-true, length-map, leading_from_mask_l, mask_l-mod, is_mark}
 use lib.Lanes.{mask_l, top, zip2}
 
 top_of : (a : Bool) → top 7 (cond a 255 0) ≡ a

@@ -1,5 +1,10 @@
 -- What a decoder knows after one more byte, or a run of them.
-use Rattle.uip_slip.proofs.Prelude.{◌≡◌, ℕ, ◌+◌, ◌≤◌, ◌<◌, Bool, true, false, cond, eqb, nat_lt, List, [], ◌∷◌, ◌++◌, take, length, get_or, refl, sym, ap, subst, ◌-◌, ◌∙◌, append-nil, append_assoc, arith, length-take, length-append, length-drop, drop, min, ◌||◌, list_all, get_or-drop, get_or-take, take_all, take_more, take-add, take-append-add, ltb-false, ltb-true, le-ltb, lt-ltb, le-leb, lt-leb, Frame, meant, unescaped, frame_of, open_part, frames, Datagram, Overlong, is_plain, Fed, EndsFrame, State, WasFed, waits_after, open_bytes, reported_by, reopened, pushed, taken, joined_parts, Closes, IsNoise, true≢false}
+use Rattle.uip_slip.proofs.Prelude.{◌≡◌, ℕ, ◌+◌, ◌≤◌, ◌<◌, Bool, true, false, cond, eqb, nat_lt, List, [], ◌∷◌, ◌++◌, take, length, get_or}
+use Rattle.uip_slip.proofs.Prelude.{refl, sym, ap, subst, ◌-◌, ◌∙◌, append-nil, append_assoc, arith, length-take, length-append}
+use Rattle.uip_slip.proofs.Prelude.{length-drop, drop, min, ◌||◌, list_all, get_or-drop, get_or-take, take_all, take_more, take-add}
+use Rattle.uip_slip.proofs.Prelude.{take-append-add, ltb-false, ltb-true, le-ltb, lt-ltb, le-leb, lt-leb, Frame, meant, unescaped, frame_of}
+use Rattle.uip_slip.proofs.Prelude.{open_part, frames, Datagram, Overlong, is_plain, Fed, EndsFrame, State, WasFed, waits_after, open_bytes}
+use Rattle.uip_slip.proofs.Prelude.{reported_by, reopened, pushed, taken, joined_parts, Closes, IsNoise, true≢false}
 use Rattle.uip_slip.specs.declared.fed.Fed.TheVariants as fed
 use Rattle.uip_slip.proofs.PartLaws.{frames-end, open_part-end, frames-plain, open_part-plain, parts-byte}
 use Rattle.uip_slip.proofs.PlainLaws.{adds, both_true, plain_byte, unescaped-push, waits_after-push, parts-plain, plain_joined}
@@ -55,7 +60,8 @@ taken_holds p s b h = rw (unescaped-push p b, waits_after-push p b, h.waits)
 
 joined_holds : (u : List ℕ) (s : State) (run : List ℕ) → Holds u false s → Holds (u ++ run) false (joined_parts s run)
 joined_holds u s run h =
-    elim s.over as (λ v. s.over ≡ v → Holds (u ++ run) false (record s { bytes = take 1500 (s.bytes ++ run); over = v || nat_lt 1500 (length s.bytes + length run) })) [
+    elim s.over as (λ v. s.over ≡ v → Holds (u ++ run) false
+    (record s { bytes = take 1500 (s.bytes ++ run); over = v || nat_lt 1500 (length s.bytes + length run) })) [
       | true ↦ λ o. record { prefix = λ x. absurd (true≢false x); over = stays_long u run (sym o ∙ h.over); waits = h.waits; reported = h.reported }
       | false ↦ λ o. (let same : s.bytes ≡ u = h.prefix o in let size : length s.bytes ≡ length u = ap (λ l. length l) same in record {
         prefix = λ x. (let most : length s.bytes + length run ≤ 1500 = ltb-false _ _ x in
@@ -131,10 +137,15 @@ fed_noise before (b ∷ rest) s new n over rests f =
     let p = open_part before in
     let each = both_true (is_plain b) (list_all is_plain rest) n.plain in
     let no_esc : eqb b 219 ≡ false = (plain_byte b each.0).1 in
-    let one : waits_after (p ++ b ∷ []) ≡ false = waits_after-push p b ∙ elim (waits_after p) as (λ v. cond v false (eqb b 219) ≡ false) [ true ↦ refl | false ↦ no_esc ] in
+    let one : waits_after (p ++ b ∷ []) ≡ false = waits_after-push p b ∙ elim (waits_after p) as (λ v. cond v false (eqb b 219) ≡ false) [
+      | true ↦ refl
+      | false ↦ no_esc
+    ] in
     let more = plain_joined (p ++ b ∷ []) rest each.1 one in
-    let at : open_part (before ++ b ∷ rest) ≡ (p ++ b ∷ []) ++ rest = open_part-plain before (b ∷ rest) (parts-plain (b ∷ rest) n.plain) ∙ sym (append_assoc p (b ∷ []) rest) in
-    let size : length (unescaped ((p ++ b ∷ []) ++ rest)) ≡ length (unescaped (p ++ b ∷ [])) + length rest = ap (λ l. length l) more.0 ∙ length-append (unescaped (p ++ b ∷ [])) rest in
+    let at : open_part (before ++ b ∷ rest) ≡ (p ++ b ∷ []) ++ rest = open_part-plain before (b ∷ rest) (parts-plain (b ∷ rest) n.plain)
+    ∙ sym (append_assoc p (b ∷ []) rest) in
+    let size : length (unescaped ((p ++ b ∷ []) ++ rest)) ≡ length (unescaped (p ++ b ∷ [])) + length rest = ap (λ l. length l) more.0
+    ∙ length-append (unescaped (p ++ b ∷ [])) rest in
     let long : 1501 < length (b ∷ rest) = n.long in
     record {
       prefix = λ o. absurd (true≢false (sym over ∙ o));
@@ -166,7 +177,8 @@ fed_run before bytes n s mid new opens plain waiting joins f = let run = take n 
 -- a run, and the byte after it
 pub run_then_byte : (before bytes : List ℕ) (n : ℕ) (s mid new : State) (reported : List Frame) → n < length bytes
     → (WasFed before s → WasFed (before ++ take n bytes) mid × (frames (before ++ take n bytes) ≡ frames before ++ []))
-    → ((prefix : List ℕ) → WasFed prefix mid → WasFed (prefix ++ get_or bytes n 0 ∷ []) new × (frames (prefix ++ get_or bytes n 0 ∷ []) ≡ frames prefix ++ reported))
+    → ((prefix : List ℕ) → WasFed prefix mid → WasFed (prefix ++ get_or bytes n 0 ∷ []) new
+    × (frames (prefix ++ get_or bytes n 0 ∷ []) ≡ frames prefix ++ reported))
     → WasFed before s → WasFed (before ++ take (n + 1) bytes) new × (frames (before ++ take (n + 1) bytes) ≡ frames before ++ reported)
 run_then_byte before bytes n s mid new reported here run byte f =
     let one = run f in
@@ -204,7 +216,8 @@ pub joined_is : (s : State) (run : List ℕ) (len count : ℕ) → length s.byte
     → record s { bytes = s.bytes ++ take count run; over = s.over || nat_lt (1500 - len) (length run) } ≡ joined_parts s run
 joined_is s run len count size h e =
     let bytes : s.bytes ++ take count run ≡ take 1500 (s.bytes ++ run) =
-    ap (λ l. s.bytes ++ l) (min_take (1500 - len) count run e ∙ ap (λ k. take (1500 - k) run) (sym size)) ∙ sym (prefix_before 1500 s.bytes run (omega (arith, size))) in
+    ap (λ l. s.bytes ++ l) (min_take (1500 - len) count run e ∙ ap (λ k. take (1500 - k) run) (sym size))
+    ∙ sym (prefix_before 1500 s.bytes run (omega (arith, size))) in
     let over : nat_lt (1500 - len) (length run) ≡ nat_lt 1500 (length s.bytes + length run) =
     past_room 1500 len (length run) h ∙ ap (λ k. nat_lt 1500 (k + length run)) (sym size) in
     same_state s _ _ _ _ bytes (ap (λ v. s.over || v) over)

@@ -1,5 +1,6 @@
 -- The frames that bytes complete, one byte after the other.
-use Rattle.uip_slip.proofs.Prelude.{◌≡◌, ℕ, true, false, List, [], ◌∷◌, ◌++◌, if◌then◌else◌, eqb, refl, sym, ap, ◌∙◌, append-nil, append_assoc, Frame, completed, frame_of, frames, open_part, unescaped}
+use Rattle.uip_slip.proofs.Prelude.{◌≡◌, ℕ, true, false, List, [], ◌∷◌, ◌++◌, if◌then◌else◌, eqb, refl, sym, ap, ◌∙◌, append-nil}
+use Rattle.uip_slip.proofs.Prelude.{append_assoc, Frame, completed, frame_of, frames, open_part, unescaped}
 use Rattle.uip_slip.proofs.PartLaws.{frames-end, frames-plain, parts-byte}
 
 -- the frames that bytes complete after others
@@ -27,5 +28,6 @@ same_rest [] ys zs e = e
 same_rest (x ∷ xs) ys zs e = same_rest xs ys zs cc
 
 -- what a decoder reports of more bytes are the frames that they complete
-pub completed_reported : (before bytes : List ℕ) (reported : List Frame) → frames (before ++ bytes) ≡ frames before ++ reported → completed_by before bytes ≡ reported
+pub completed_reported : (before bytes : List ℕ) (reported : List Frame) → frames (before ++ bytes) ≡ frames before ++ reported
+    → completed_by before bytes ≡ reported
 completed_reported before bytes reported e = same_rest (frames before) (completed_by before bytes) reported (sym (frames-then before bytes) ∙ e)

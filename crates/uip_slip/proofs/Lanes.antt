@@ -1,5 +1,8 @@
 -- Bytes that are examined together: the offset of the first mark.
-use Rattle.uip_slip.proofs.Prelude.{◌≡◌, ℕ, ◌+◌, ◌%◌, ◌^◌, ◌<◌, ◌≤◌, Bool, true, false, cond, not, eqb, ◌||◌, List, [], ◌∷◌, length, take, drop, get_or, map, replicate, inl, inr, ◌-◌, true≢false, bit_or, refl, sym, ap, ◌∙◌, arith, prefix_len, length-map, first_set_mask_l, mask_l-mod, run_in_chunk_fails, run_in_chunk_le, run_in_chunk_stops, slice_range, list_all, cases_lt, IsPlainPrefix, is_mark, is_plain}
+use Rattle.uip_slip.proofs.Prelude.{◌≡◌, ℕ, ◌+◌, ◌%◌, ◌^◌, ◌<◌, ◌≤◌, Bool, true, false, cond, not, eqb, ◌||◌, List, [], ◌∷◌, length, take}
+use Rattle.uip_slip.proofs.Prelude.{drop, get_or, map, replicate, inl, inr, ◌-◌, true≢false, bit_or, refl, sym, ap, ◌∙◌, arith, prefix_len}
+use Rattle.uip_slip.proofs.Prelude.{length-map, first_set_mask_l, mask_l-mod, run_in_chunk_fails, run_in_chunk_le, run_in_chunk_stops}
+use Rattle.uip_slip.proofs.Prelude.{slice_range, list_all, cases_lt, IsPlainPrefix, is_mark, is_plain}
 use lib.Count.{count_trailing_zeros}
 use lib.Lanes.{mask_l, top, zip2}
 use Rattle.uip_slip.proofs.PlainLaws.{none_marked}
@@ -70,7 +73,8 @@ pub all_plain : (bytes : List ℕ) (n : ℕ) → n ≤ length bytes → ((k : �
 all_plain bytes n h none = none_marked n bytes h (λ k less e. true≢false (sym e ∙ none k less))
 
 -- a mark is in the window at the start
-pub prefix_alone : (bytes : List ℕ) (n r : ℕ) → 0 + n ≤ length bytes → r ≡ prefix_len (λ b. not (is_mark b)) (slice_range bytes 0 (0 + n)) → r < n → IsPlainPrefix bytes r
+pub prefix_alone : (bytes : List ℕ) (n r : ℕ) → 0 + n ≤ length bytes → r ≡ prefix_len (λ b. not (is_mark b)) (slice_range bytes 0 (0 + n))
+    → r < n → IsPlainPrefix bytes r
 prefix_alone bytes n r room e h =
     let w = window bytes 0 n r room e in
     record {

@@ -1,5 +1,7 @@
 -- The parts of a list of bytes, as the list grows.
-use Rattle.uip_slip.proofs.Prelude.{◌≡◌, ℕ, true, false, cond, eqb, List, [], ◌∷◌, ◌++◌, refl, sym, ap, ◌∙◌, append-nil, flat_map, onto_first, flat_map-append, Frame, unescaped, frame_of, parts, all_but_last, last_of, frames, open_part}
+use Rattle.uip_slip.proofs.Prelude.{◌≡◌, ℕ, true, false, cond, eqb, List, [], ◌∷◌, ◌++◌, refl, sym, ap, ◌∙◌, append-nil, flat_map}
+use Rattle.uip_slip.proofs.Prelude.{onto_first, flat_map-append, Frame, unescaped, frame_of, parts, all_but_last, last_of, frames}
+use Rattle.uip_slip.proofs.Prelude.{open_part}
 
 abbrev pub part_frame : List ℕ → List Frame
 part_frame part = frame_of (unescaped part)

@@ -1,5 +1,7 @@
 -- Bytes without END and ESC.
-use Rattle.uip_slip.proofs.Prelude.{◌≡◌, ℕ, ◌≤◌, ◌<◌, Bool, true, false, cond, eqb, List, [], ◌∷◌, ◌++◌, take, length, get_or, refl, sym, ap, ◌∙◌, arith, ◌&&◌, ◌||◌, append_assoc, append-nil, zero, suc, add-one, list_all, list_all_more, is_mark, is_plain, meant, unescaped, parts, waits_after, escaped}
+use Rattle.uip_slip.proofs.Prelude.{◌≡◌, ℕ, ◌≤◌, ◌<◌, Bool, true, false, cond, eqb, List, [], ◌∷◌, ◌++◌, take, length, get_or, refl, sym}
+use Rattle.uip_slip.proofs.Prelude.{ap, ◌∙◌, arith, ◌&&◌, ◌||◌, append_assoc, append-nil, zero, suc, add-one, list_all, list_all_more}
+use Rattle.uip_slip.proofs.Prelude.{is_mark, is_plain, meant, unescaped, parts, waits_after, escaped}
 
 pub both_true : (a b : Bool) → (a && b) ≡ true → (a ≡ true) × (b ≡ true)
 both_true true b e = (refl, e)

@@ -1,5 +1,7 @@
 -- The text of a datagram, and only it, is read back as that datagram.
-use Rattle.uip_slip.proofs.Prelude.{◌≡◌, ℕ, ◌≤◌, ◌<◌, true, false, cond, eqb, List, [], ◌∷◌, ◌++◌, length, refl, sym, ap, ◌∙◌, arith, le-leb, eqb-true, Datagram, unescaped, frame_of, parts, frames, open_part, escaped, escaped_byte, slip_text}
+use Rattle.uip_slip.proofs.Prelude.{◌≡◌, ℕ, ◌≤◌, ◌<◌, true, false, cond, eqb, List, [], ◌∷◌, ◌++◌, length, refl, sym, ap, ◌∙◌, arith}
+use Rattle.uip_slip.proofs.Prelude.{le-leb, eqb-true, Datagram, unescaped, frame_of, parts, frames, open_part, escaped, escaped_byte}
+use Rattle.uip_slip.proofs.Prelude.{slip_text}
 use Rattle.uip_slip.proofs.PartLaws.{frames-end, frames-plain, open_part-plain}
 
 plain_prefix : (b : ℕ) (rest : List ℕ) → eqb b 219 ≡ false → unescaped (b ∷ rest) ≡ b ∷ unescaped rest

@@ -1,5 +1,7 @@
 -- The text of a datagram in parts.
-use Rattle.uip_slip.proofs.Prelude.{◌≡◌, ℕ, ◌+◌, ◌*◌, ◌-◌, ◌≤◌, ◌<◌, List, [], ◌∷◌, ◌++◌, take, drop, length, get_or, sym, ap, ◌∙◌, append_assoc, append-nil, arith, true, false, cond, eqb, length-append, length-take, length-drop, list_all, take_more, take-append-drop, flat_map-append, is_plain, escaped, escaped_byte, slip_text}
+use Rattle.uip_slip.proofs.Prelude.{◌≡◌, ℕ, ◌+◌, ◌*◌, ◌-◌, ◌≤◌, ◌<◌, List, [], ◌∷◌, ◌++◌, take, drop, length, get_or, sym, ap, ◌∙◌}
+use Rattle.uip_slip.proofs.Prelude.{append_assoc, append-nil, arith, true, false, cond, eqb, length-append, length-take, length-drop}
+use Rattle.uip_slip.proofs.Prelude.{list_all, take_more, take-append-drop, flat_map-append, is_plain, escaped, escaped_byte, slip_text}
 use Rattle.uip_slip.proofs.PlainLaws.{escaped-plain}
 
 byte_bound : (b : ℕ) → length (escaped_byte b) ≤ 2
@@ -18,7 +20,8 @@ pub run_text : (old new piece : List ℕ) (n : ℕ) → list_all is_plain (take 
 run_text old new piece n plain e = e ∙ ap (λ l. old ++ l) (sym (escaped-plain (take n piece) plain))
 
 -- one more byte
-pub byte_text : (start text new piece : List ℕ) (n : ℕ) → n < length piece → text ≡ start ++ escaped (take n piece) → new ≡ text ++ escaped_byte (get_or piece n 0)
+pub byte_text : (start text new piece : List ℕ) (n : ℕ) → n < length piece → text ≡ start ++ escaped (take n piece)
+    → new ≡ text ++ escaped_byte (get_or piece n 0)
     → new ≡ start ++ escaped (take (n + 1) piece)
 byte_text start text new piece n here made e =
     let byte = escaped_byte (get_or piece n 0) in

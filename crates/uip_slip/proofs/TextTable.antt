@@ -1,5 +1,6 @@
 -- The table of the texts of all bytes.
-use Rattle.uip_slip.proofs.Prelude.{◌≡◌, ℕ, ◌/◌, ◌%◌, ◌<◌, ◌≤◌, Bool, true, false, cond, eqb, [], ◌∷◌, map, get_or, refl, ap, ◌∙◌, arith, range_with_len, get_or-map-range_with_len, escaped_byte, TEXTS}
+use Rattle.uip_slip.proofs.Prelude.{◌≡◌, ℕ, ◌/◌, ◌%◌, ◌<◌, ◌≤◌, Bool, true, false, cond, eqb, [], ◌∷◌, map, get_or, refl, ap, ◌∙◌, arith}
+use Rattle.uip_slip.proofs.Prelude.{range_with_len, get_or-map-range_with_len, escaped_byte, TEXTS}
 
 -- the text of a byte as one number, its first byte lowest
 abbrev pub text_number : ℕ → ℕ

@@ -1,5 +1,8 @@
 -- Eight bytes that are examined together as one number.
-use Rattle.uip_slip.proofs.Prelude.{◌≡◌, ℕ, ◌+◌, ◌-◌, ◌*◌, ◌^◌, ◌<◌, ◌≤◌, ◌||◌, Bool, true, false, cond, eqb, zero, suc, List, [], ◌∷◌, length, take, drop, get_or, map, bit_and, bit_or, bit_xor, refl, subst, sym, ap, ◌∙◌, arith, take-add, eqb-true, and_block, or_block, xor_block, and_le_r, or_lt, xor_lt, from_le_bytes, w64, list_all, list_all-append, length-drop, take_rest, IsFirstChunk, is_plain}
+use Rattle.uip_slip.proofs.Prelude.{◌≡◌, ℕ, ◌+◌, ◌-◌, ◌*◌, ◌^◌, ◌<◌, ◌≤◌, ◌||◌, Bool, true, false, cond, eqb, zero, suc, List, [], ◌∷◌}
+use Rattle.uip_slip.proofs.Prelude.{length, take, drop, get_or, map, bit_and, bit_or, bit_xor, refl, subst, sym, ap, ◌∙◌, arith, take-add}
+use Rattle.uip_slip.proofs.Prelude.{eqb-true, and_block, or_block, xor_block, and_le_r, or_lt, xor_lt, from_le_bytes, w64, list_all}
+use Rattle.uip_slip.proofs.Prelude.{list_all-append, length-drop, take_rest, IsFirstChunk, is_plain}
 
 -- the first bytes have no mark
 pub record PlainUntil (bytes : List ℕ) (at : ℕ) : Type 0 where

@@ -1,5 +1,6 @@
 -- Sums that differ by carries have the same folded value, and sums that differ by one byte have another.
-use Rattle.uip_wire.proofs.Prelude.{◌≡◌, ◌≢◌, ℕ, ◌+◌, ◌-◌, ◌*◌, ◌/◌, ◌%◌, ◌^◌, ◌<◌, ◌≤◌, ◌⊎◌, inl, inr, List, [], ◌∷◌, ◌++◌, sym, ap, ◌∙◌, refl, arith, common_steps, checksum_of, folded, word_sum, OneByteDetected}
+use Rattle.uip_wire.proofs.Prelude.{◌≡◌, ◌≢◌, ℕ, ◌+◌, ◌-◌, ◌*◌, ◌/◌, ◌%◌, ◌^◌, ◌<◌, ◌≤◌, ◌⊎◌, inl, inr, List, [], ◌∷◌, ◌++◌, sym, ap, ◌∙◌}
+use Rattle.uip_wire.proofs.Prelude.{refl, arith, common_steps, checksum_of, folded, word_sum, OneByteDetected}
 
 pub folded_zero : folded 0 ≡ 0
 unfolding folded
@@ -21,7 +22,8 @@ pub folded_halves : (s : ℕ) → folded (s / 18446744073709551616 + s % 1844674
 folded_halves s =
     elim (zero_or_more s) [
       | inl e ↦ ap folded (omega arith)
-      | inr h ↦ sym (same_folded (s / 18446744073709551616 + s % 18446744073709551616) s (281479271743489 * (s / 18446744073709551616)) (omega arith) (omega arith))
+      | inr h ↦ sym (same_folded (s / 18446744073709551616 + s % 18446744073709551616) s (281479271743489 * (s / 18446744073709551616))
+          (omega arith) (omega arith))
     ]
 
 -- the upper 32 bits

@@ -1,5 +1,10 @@
 -- Numerals, and the numbers that print as them.
-use Rattle.uip_wire.proofs.Prelude.{◌≡◌, ℕ, ◌+◌, ◌-◌, ◌*◌, ◌^◌, ◌<◌, ◌≤◌, ◌&&◌, Bool, true, false, cond, leb, zero, suc, ◌⊎◌, inl, inr, List, [], ◌∷◌, length, take, get_or, nat_lt, eqb, eq-eqb, None, Some, rules, refl, sym, ap, ◌∙◌, arith, digit_value, is_ascii_digit, decimal, list_all, digits_value, and_parts, leb-true, ltb-true, lt-ltb, ne_eqb, decimal-digits_value, decimal_digit, decimal_nonempty, digits_decimal, digits_value-decimal, first_decimal, digits_value_more, digit_value_digit, list_all_at, IsNumeralModel, digits_value-take-le, numerals_by_value, NumeralsPrint, is_numeral, leads_badly, numeral}
+use Rattle.uip_wire.proofs.Prelude.{◌≡◌, ℕ, ◌+◌, ◌-◌, ◌*◌, ◌^◌, ◌<◌, ◌≤◌, ◌&&◌, Bool, true, false, cond, leb, zero, suc, ◌⊎◌, inl, inr}
+use Rattle.uip_wire.proofs.Prelude.{List, [], ◌∷◌, length, take, get_or, nat_lt, eqb, eq-eqb, None, Some, rules, refl, sym, ap, ◌∙◌, arith}
+use Rattle.uip_wire.proofs.Prelude.{digit_value, is_ascii_digit, decimal, list_all, digits_value, and_parts, leb-true, ltb-true, lt-ltb}
+use Rattle.uip_wire.proofs.Prelude.{ne_eqb, decimal-digits_value, decimal_digit, decimal_nonempty, digits_decimal, digits_value-decimal}
+use Rattle.uip_wire.proofs.Prelude.{first_decimal, digits_value_more, digit_value_digit, list_all_at, IsNumeralModel, digits_value-take-le}
+use Rattle.uip_wire.proofs.Prelude.{numerals_by_value, NumeralsPrint, is_numeral, leads_badly, numeral}
 
 own : IsNumeralModel (λ ds. list_all is_ascii_digit ds ≡ true) (digits_value 10)
 own = numerals_by_value _ (search rules)

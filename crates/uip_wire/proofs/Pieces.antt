@@ -1,5 +1,7 @@
 -- The sum of bytes that are added in pieces.
-use Rattle.uip_wire.proofs.Prelude.{◌≡◌, ℕ, ◌+◌, ◌*◌, ◌%◌, ◌≤◌, ◌⊎◌, inl, inr, Bool, true, not, ◌==◌, if◌then◌else◌, List, [], ◌∷◌, ◌++◌, length, drop, slice_index, sym, ap, ◌∙◌, refl, arith, length-append, add_comm, folded, word_sum, PartSum, sum_of}
+use Rattle.uip_wire.proofs.Prelude.{◌≡◌, ℕ, ◌+◌, ◌*◌, ◌%◌, ◌≤◌, ◌⊎◌, inl, inr, Bool, true, not, ◌==◌, if◌then◌else◌, List, [], ◌∷◌, ◌++◌}
+use Rattle.uip_wire.proofs.Prelude.{length, drop, slice_index, sym, ap, ◌∙◌, refl, arith, length-append, add_comm, folded, word_sum}
+use Rattle.uip_wire.proofs.Prelude.{PartSum, sum_of}
 use mathlib.Core.Bool.{beq}
 use Rattle.uip_wire.proofs.Folding.{folded_add}
 

@@ -1,5 +1,7 @@
 -- Eight bytes that are added as one number of 64 bits.
-use Rattle.uip_wire.proofs.Prelude.{◌≡◌, ℕ, ◌+◌, ◌-◌, ◌*◌, ◌/◌, ◌%◌, ◌^◌, ◌<◌, ◌≤◌, ◌⊎◌, inl, inr, List, [], ◌∷◌, ◌++◌, length, drop, length-drop, sym, ap, ◌∙◌, refl, arith, add_comm, drop-drop, little_number, folded, word_sum, swapped_sum}
+use Rattle.uip_wire.proofs.Prelude.{◌≡◌, ℕ, ◌+◌, ◌-◌, ◌*◌, ◌/◌, ◌%◌, ◌^◌, ◌<◌, ◌≤◌, ◌⊎◌, inl, inr, List, [], ◌∷◌, ◌++◌, length, drop}
+use Rattle.uip_wire.proofs.Prelude.{length-drop, sym, ap, ◌∙◌, refl, arith, add_comm, drop-drop, little_number, folded, word_sum}
+use Rattle.uip_wire.proofs.Prelude.{swapped_sum}
 use Rattle.uip_wire.proofs.Folding.{folded_add, folded_cases, folded_most, same_folded}
 
 zero_or_more : (n : ℕ) → (n ≡ 0) ⊎ (0 < n)
@@ -30,7 +32,8 @@ by_four P holds (a ∷ b ∷ c ∷ d ∷ more) h = holds a b c d more
 eight_on : (sum a b c d : ℕ) (rest : List ℕ) → 4 ≤ length rest
     → folded (sum + little_number 8 (a ∷ b ∷ c ∷ d ∷ rest) + swapped_sum (drop 4 rest)) ≡ folded (sum + swapped_sum (a ∷ b ∷ c ∷ d ∷ rest))
 eight_on sum a b c d =
-    by_four (λ (rest : List ℕ). folded (sum + little_number 8 (a ∷ b ∷ c ∷ d ∷ rest) + swapped_sum (drop 4 rest)) ≡ folded (sum + swapped_sum (a ∷ b ∷ c ∷ d ∷ rest)))
+    by_four (λ (rest : List ℕ). folded (sum + little_number 8 (a ∷ b ∷ c ∷ d ∷ rest) + swapped_sum (drop 4 rest))
+    ≡ folded (sum + swapped_sum (a ∷ b ∷ c ∷ d ∷ rest)))
     (λ e f g i rest.
     ap folded (omega arith)
     ∙ eight_words sum (g + 256 * i) (e + 256 * f) (c + 256 * d) (a + 256 * b) (swapped_sum rest)

@@ -1,5 +1,6 @@
 -- A field that is written over a part of a list.
-use Rattle.uip_wire.proofs.Prelude.{◌≡◌, ◌+◌, ◌/◌, ◌%◌, ◌≤◌, ◌<◌, ◌-◌, ◌++◌, [], ◌∷◌, ◌∙◌, ap, length, take, drop, ℕ, List, arith, refl, append_assoc, append-nil, length-drop, take_rest, drop_all, drop-drop, word_bytes, long_bytes, written}
+use Rattle.uip_wire.proofs.Prelude.{◌≡◌, ◌+◌, ◌/◌, ◌%◌, ◌≤◌, ◌<◌, ◌-◌, ◌++◌, [], ◌∷◌, ◌∙◌, ap, length, take, drop, ℕ, List, arith, refl}
+use Rattle.uip_wire.proofs.Prelude.{append_assoc, append-nil, length-drop, take_rest, drop_all, drop-drop, word_bytes, long_bytes, written}
 use borrow.Rule.Slice.PartMut.{put_mid}
 
 joined : (prefix part tail ys post : List ℕ) → ys ≡ part ++ tail → post ≡ [] → prefix ++ (ys ++ post) ≡ prefix ++ part ++ tail

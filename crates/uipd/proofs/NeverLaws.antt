@@ -1,5 +1,6 @@
 -- Only words without a form are reported to have none.
-use Rattle.uipd.proofs.Prelude.{◌≡◌, ℕ, List, Option, sym, ◌∙◌, inl, inr, ServeEnd, LoadFault, SiteEnd, ReplayEnd, SiteServes, RunsAs, status_of_fault, status_of_replay, status_of_serving, status_of_site, ServedLine, Status, BadWords, Outside}
+use Rattle.uipd.proofs.Prelude.{◌≡◌, ℕ, List, Option, sym, ◌∙◌, inl, inr, ServeEnd, LoadFault, SiteEnd, ReplayEnd, SiteServes, RunsAs}
+use Rattle.uipd.proofs.Prelude.{status_of_fault, status_of_replay, status_of_serving, status_of_site, ServedLine, Status, BadWords, Outside}
 use Rattle.uip_edge.specs.declared.serve_end.ServeEnd.TheVariants as serves
 use Rattle.file_tree.specs.declared.load_fault.LoadFault.TheVariants as loads
 use Rattle.site_commands.specs.declared.site_end.SiteEnd.TheVariants as ends
@@ -31,7 +32,8 @@ replay_has_words (replays.BadSite error) e = cc
 replay_has_words (replays.BadSchedule line why) e = cc
 replay_has_words replays.NoMemory e = cc
 
-never : {E : Type 0} (status_of : E → Status) (Ends : E → Type 0) (result : Status) → ((end : E) → status_of end ≡ BadWords → ⊥) → RunsAs status_of Ends result → result ≡ BadWords → ⊥
+never : {E : Type 0} (status_of : E → Status) (Ends : E → Type 0) (result : Status) → ((end : E) → status_of end ≡ BadWords → ⊥)
+    → RunsAs status_of Ends result → result ≡ BadWords → ⊥
 never status_of Ends result has run e = has run.0 (sym run.1 ∙ e)
 
 pub site_never : (Ends : SiteEnd → Type 0) (result : Status) → RunsAs status_of_site Ends result → result ≡ BadWords → ⊥

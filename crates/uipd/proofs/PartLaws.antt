@@ -1,5 +1,7 @@
 -- Words of two parts.
-use Rattle.uipd.proofs.Prelude.{◌≡◌, ℕ, ◌<◌, List, length, get_or, map, Bool, true, false, sym, ap, subst, ◌∙◌, string_bytes, String, Global, ◌&&◌, IsTrue, nat_lt, list_all, All-map, All-weaker, list_all-map, list_all_at, AllPass-from_list_all, is_kind, KindContent, back_part, has_parts, is_kind_word, kind_word}
+use Rattle.uipd.proofs.Prelude.{◌≡◌, ℕ, ◌<◌, List, length, get_or, map, Bool, true, false, sym, ap, subst, ◌∙◌, string_bytes, String}
+use Rattle.uipd.proofs.Prelude.{Global, ◌&&◌, IsTrue, nat_lt, list_all, All-map, All-weaker, list_all-map, list_all_at}
+use Rattle.uipd.proofs.Prelude.{AllPass-from_list_all, is_kind, KindContent, back_part, has_parts, is_kind_word, kind_word}
 use Rattle.std.specs.Prelude.{All}
 
 last_of : (a b : Bool) → (a && b) ≡ true → b ≡ true
@@ -7,10 +9,12 @@ last_of true b e = e
 last_of false b e = absurd (cc e)
 
 -- each word that gives a content type gives an allowed one
-pub kinds_allowed : (words : List (String Global)) → list_all is_kind_word (map string_bytes words) ≡ true → All (λ word. IsTrue (is_kind (back_part (string_bytes word)))) words
+pub kinds_allowed : (words : List (String Global)) → list_all is_kind_word (map string_bytes words) ≡ true
+    → All (λ word. IsTrue (is_kind (back_part (string_bytes word)))) words
 kinds_allowed words e =
     All-weaker (λ (word : String Global). is_kind_word (string_bytes word) ≡ true) (λ word. IsTrue (is_kind (back_part (string_bytes word))))
-    (λ word form. last_of (has_parts (string_bytes word) && nat_lt 0 (length (back_part (string_bytes word)))) (is_kind (back_part (string_bytes word))) form) words
+    (λ word form. last_of (has_parts (string_bytes word) && nat_lt 0 (length (back_part (string_bytes word))))
+    (is_kind (back_part (string_bytes word))) form) words
     (AllPass-from_list_all (λ (word : String Global). is_kind_word (string_bytes word)) words (sym (list_all-map is_kind_word string_bytes words) ∙ e))
 
 -- the content types of such words are allowed

@@ -19,12 +19,16 @@ pub use Rattle.node_laws.proofs.Paging.{ActsAs, acts_as_itself, anywhere}
 pub use Rattle.node_laws.specs.Prelude.{HasOutputModel, TraceEntry, trace_of}
 pub use Rattle.serve_loop.proofs.ByteLaws.{slip_brings_bytes}
 pub use Rattle.serve_loop.proofs.RunLaws.{output-append}
-pub use Rattle.serve_loop.specs.Prelude.{BringsBytes, IsItem, IsStationed, PrefixWritten, WrittenAtEnd, ServesOver, Station, StationEvent, any_acts, initial_station, output, output_by, output_of_event, slip_medium, station_after, station_after_all, station_events_of_line}
+pub use Rattle.serve_loop.specs.Prelude.{BringsBytes, IsItem, IsStationed, PrefixWritten, WrittenAtEnd, ServesOver, Station, StationEvent}
+pub use Rattle.serve_loop.specs.Prelude.{any_acts, initial_station, output, output_by, output_of_event, slip_medium, station_after}
+pub use Rattle.serve_loop.specs.Prelude.{station_after_all, station_events_of_line}
 pub use Rattle.site_commands.specs.Prelude.{Due, Ends, end_of}
 pub use Rattle.site_commands.specs.declared.site_end.SiteEnd.{SiteEnd}
 pub use Rattle.site_commands.specs.declared.site_end.SiteEnd.TheVariants.{NoMemory}
 pub use Rattle.site_image.specs.Prelude.{File, is_kind}
-pub use Rattle.std.proofs.Common.{Bool, Err, Global, List, None, Ok, Option, Result, Some, String, [], ap, append_assoc, arith, cond, drop, false, get_or, if◌then◌else◌, inl, inr, length, length-append, length-take, lit<, map, nat_lt, refl, rules, string_bytes, subst, sym, take, true, ℕ, ◌++◌, ◌+◌, ◌-◌, ◌<◌, ◌^◌, ◌∙◌, ◌∷◌, ◌≡◌, ◌≤◌}
+pub use Rattle.std.proofs.Common.{Bool, Err, Global, List, None, Ok, Option, Result, Some, String, [], ap, append_assoc, arith, cond, drop}
+pub use Rattle.std.proofs.Common.{false, get_or, if◌then◌else◌, inl, inr, length, length-append, length-take, lit<, map, nat_lt, refl}
+pub use Rattle.std.proofs.Common.{rules, string_bytes, subst, sym, take, true, ℕ, ◌++◌, ◌+◌, ◌-◌, ◌<◌, ◌^◌, ◌∙◌, ◌∷◌, ◌≡◌, ◌≤◌}
 pub use Rattle.std.proofs.KnownBytes.{Consumes-trans}
 pub use Rattle.std.proofs.lemmas.Bool.{lt-ltb, ltb-true}
 pub use Rattle.std.proofs.lemmas.List.{length-map, take-map}
@@ -49,7 +53,8 @@ pub use Rattle.trace.specs.declared.slip_end.SlipEnd.{SlipEnd}
 pub use Rattle.udp_resolver.specs.Prelude.{Resolves, Streams, StreamsUnfailed}
 pub use Rattle.uip_edge.proofs.Breaking.{breaks_prefix, breaks_whole}
 pub use Rattle.uip_edge.proofs.Reported.{same_shelf}
-pub use Rattle.uip_edge.specs.Prelude.{BreaksOff, Files, LineUnfailed, LineView, Outside, Rose, WorkUnfailed, WorkView, WrittenBy, line_in, line_view, shelf_view, work_in}
+pub use Rattle.uip_edge.specs.Prelude.{BreaksOff, Files, LineUnfailed, LineView, Outside, Rose, WorkUnfailed, WorkView, WrittenBy, line_in}
+pub use Rattle.uip_edge.specs.Prelude.{line_view, shelf_view, work_in}
 pub use Rattle.uip_edge.specs.declared.item.Item.{Item}
 pub use Rattle.uip_edge.specs.declared.serve_end.ServeEnd.{ServeEnd}
 pub use Rattle.uip_node.proofs.Basics.{eqb-eq}
@@ -57,7 +62,8 @@ pub use Rattle.uip_node.proofs.DeliveredBytes.{page_bytes}
 pub use Rattle.uip_node.proofs.Steadiness.{steady_of}
 pub use Rattle.uip_node.specs.Prelude.{IsSteady, Node, Represents, SendsBytes, initial_node}
 pub use Rattle.uip_wire.specs.declared.addr.Addr.{Addr}
-pub use Rattle.uipd.specs.Completeness.{CaptureDone, Completes, ImageDone, LacksFor, LineDone, OrShort, ReplayDone, RunIsComplete, ServingDone}
+pub use Rattle.uipd.specs.Completeness.{CaptureDone, Completes, ImageDone, LacksFor, LineDone, OrShort, ReplayDone, RunIsComplete}
+pub use Rattle.uipd.specs.Completeness.{ServingDone}
 pub use Rattle.uipd.specs.Output.{app_spec_of, host_at, output_model_of, output_of, output_over, ports_of}
 pub use Rattle.uipd.specs.ResolveWords.{Resolving, resolve_words, resolving_of}
 pub use Rattle.uipd.specs.Running.{TaskRuns}
@@ -66,7 +72,9 @@ pub use Rattle.uipd.specs.SiteServing.{IsUndisturbed, SiteServes}
 pub use Rattle.uipd.specs.Statuses.{RunsAs, status_of_fault, status_of_replay, status_of_serving, status_of_site, status_of_slip}
 pub use Rattle.uipd.specs.ReportedCompleteness.{ResolvingDone, ReportCompletes, ReportIsComplete}
 pub use Rattle.uipd.specs.ReportedRunning.{ResolveRuns, ReportedBy, questions_of}
-pub use Rattle.uipd.specs.Words.{Captures, Checks, Dumps, Loads, Packs, Pages, PlaysBack, Replays, Serves, ShowsText, Task, Upgrades, all_items, back_part, ether_words, has_parts, is_kind_word, kind_word, limited, limits_at, named_file, optionally, ends_in_tty, task_of}
+pub use Rattle.uipd.specs.Words.{Captures, Checks, Dumps, Loads, Packs, Pages, PlaysBack, Replays, Serves, ShowsText, Task, Upgrades}
+pub use Rattle.uipd.specs.Words.{all_items, back_part, ether_words, has_parts, is_kind_word, kind_word, limited, limits_at, named_file}
+pub use Rattle.uipd.specs.Words.{optionally, ends_in_tty, task_of}
 pub use Rattle.uipd.specs.declared.status.Status.{Status}
 pub use Rattle.uipd.specs.declared.status.Status.TheVariants.{BadWords}
 pub use Rattle.uipd.specs.declared.words.Application.{Application}

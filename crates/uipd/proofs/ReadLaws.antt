@@ -1,5 +1,6 @@
 -- What a read that returned bytes consumed.
-use Rattle.uipd.proofs.Prelude.{◌≡◌, ◌≤◌, ◌<◌, ℕ, List, Option, Some, Result, Ok, Err, length, take, subst, IfOk, result_ok, IsPrefixLen, Consumes, IsAtEnd, ReadConsumes}
+use Rattle.uipd.proofs.Prelude.{◌≡◌, ◌≤◌, ◌<◌, ℕ, List, Option, Some, Result, Ok, Err, length, take, subst, IfOk, result_ok, IsPrefixLen}
+use Rattle.uipd.proofs.Prelude.{Consumes, IsAtEnd, ReadConsumes}
 
 value_of : (m n : ℕ) → Some n ≡ Some m → m ≡ n
 value_of m n e = cc e

@@ -1,6 +1,8 @@
 -- A run that nothing outside disturbs does what is due for its words, those of `resolve` too.
 -- [add: told-command] The result of a run that nothing disturbs.
-use Rattle.uipd.proofs.Prelude.{◌≡◌, ℕ, List, Option, None, Some, inl, inr, Resolves, Streams, StreamsUnfailed, Outside, ServeEnd, LacksFor, OrShort, Resolving, resolving_of, IsUndisturbed, status_of_serving, ResolvingDone, ReportCompletes, ReportIsComplete, ResolveRuns, ReportedBy, questions_of, task_of, Status}
+use Rattle.uipd.proofs.Prelude.{◌≡◌, ℕ, List, Option, None, Some, inl, inr, Resolves, Streams, StreamsUnfailed, Outside, ServeEnd, LacksFor}
+use Rattle.uipd.proofs.Prelude.{OrShort, Resolving, resolving_of, IsUndisturbed, status_of_serving, ResolvingDone, ReportCompletes}
+use Rattle.uipd.proofs.Prelude.{ReportIsComplete, ResolveRuns, ReportedBy, questions_of, task_of, Status}
 use Rattle.uip_edge.specs.declared.serve_end.ServeEnd.TheVariants as ends
 use Rattle.uipd.proofs.Completing.{run_is_complete, stayed}
 

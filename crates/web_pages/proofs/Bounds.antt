@@ -1,6 +1,13 @@
 -- How long a page can be.
 -- [add: function] The greatest length of its text.
-use Rattle.web_pages.proofs.Prelude.{All, ◌≡◌, ℕ, ◌+◌, ◌-◌, ◌≤◌, inl, inr, Bool, true, false, List, [], ◌∷◌, ◌++◌, length, map, drop, Option, Some, None, refl, sym, ap, subst, arith, length-append, length-take, if◌then◌else◌, lit<, lit≤, sum_by, slice_range, codes, get_or_past, sum_by-cons, All-head, All-tail, All-get_or, cases_lt, option_map_or, slice_index_or, Function, FileStats, TcpConnections, NetStats, Ticks, Unknown, PieceOf, Text, Include, Call, FoundOf, Calling, length_at_most, takes_capture, pieces_by, is_script, File, file_named, kind_of, piece_length_by, body_length_by, page_length_by, ScriptFunctions, AreShort, Snapshot, IsSnapshot, IsU32, ScriptPiece, piece_output, bytes_or, body_by, found_reply_by, kind_line, Plain, Made, made_by, hits_of, place_of, text_by, silent_text, stopped_text, made_first}
+use Rattle.web_pages.proofs.Prelude.{All, ◌≡◌, ℕ, ◌+◌, ◌-◌, ◌≤◌, inl, inr, Bool, true, false, List, [], ◌∷◌, ◌++◌, length, map, drop}
+use Rattle.web_pages.proofs.Prelude.{Option, Some, None, refl, sym, ap, subst, arith, length-append, length-take, if◌then◌else◌, lit<, lit≤}
+use Rattle.web_pages.proofs.Prelude.{sum_by, slice_range, codes, get_or_past, sum_by-cons, All-head, All-tail, All-get_or, cases_lt}
+use Rattle.web_pages.proofs.Prelude.{option_map_or, slice_index_or, Function, FileStats, TcpConnections, NetStats, Ticks, Unknown, PieceOf}
+use Rattle.web_pages.proofs.Prelude.{Text, Include, Call, FoundOf, Calling, length_at_most, takes_capture, pieces_by, is_script, File}
+use Rattle.web_pages.proofs.Prelude.{file_named, kind_of, piece_length_by, body_length_by, page_length_by, ScriptFunctions, AreShort}
+use Rattle.web_pages.proofs.Prelude.{Snapshot, IsSnapshot, IsU32, ScriptPiece, piece_output, bytes_or, body_by, found_reply_by, kind_line}
+use Rattle.web_pages.proofs.Prelude.{Plain, Made, made_by, hits_of, place_of, text_by, silent_text, stopped_text, made_first}
 
 -- the greatest length of the text
 abbrev pub most_sent : {F : Type 0} → Calling F → ScriptPiece F → ℕ
@@ -20,7 +27,8 @@ word_at numbers (Some place) all =
       | inr h ↦ subst IsU32 (sym (get_or_past numbers place 0 h)) (lit< tt)
     ]
 
-made_short : {F : Type 0} (g : ScriptFunctions F) → AreShort g → (files : List File) (function : F) (argument : List ℕ) (snapshot : Snapshot) → IsSnapshot snapshot
+made_short : {F : Type 0} (g : ScriptFunctions F) → AreShort g → (files : List File) (function : F) (argument : List ℕ)
+    (snapshot : Snapshot) → IsSnapshot snapshot
     → length (made_by g files function argument snapshot) ≤ g.function_table.length_at_most function
 made_short g short files function argument snapshot is =
     short function argument (hits_of files snapshot.numbers argument) (drop (length files) snapshot.numbers) snapshot.now
@@ -36,14 +44,16 @@ silent_none NetStats e = absurd cc
 silent_none Ticks e = absurd cc
 silent_none Unknown e = refl
 
-pub text_bound : {F : Type 0} (g : ScriptFunctions F) → AreShort g → (files : List File) (piece_output : List (ScriptPiece F)) (captures : List Snapshot) → All IsSnapshot captures → length (text_by g files piece_output captures) ≤ all_written g.function_table piece_output
+pub text_bound : {F : Type 0} (g : ScriptFunctions F) → AreShort g → (files : List File) (piece_output : List (ScriptPiece F))
+    (captures : List Snapshot) → All IsSnapshot captures → length (text_by g files piece_output captures) ≤ all_written g.function_table piece_output
 text_bound g short files [] captures all = lit≤ tt
 text_bound g short files (Plain text ∷ more) captures all =
     let rest = text_bound g short files more captures all in
     omega (arith, length-append text (text_by g files more captures), sum_by-cons (most_sent g.function_table) (Plain text) more)
 text_bound g short files (Made function argument ∷ more) [] all =
     let here = sum_by-cons (most_sent g.function_table) (Made function argument) more in
-    elim (g.function_table.takes_capture function) as (λ b. g.function_table.takes_capture function ≡ b → length (text_by g files (Made function argument ∷ more) []) ≤ all_written g.function_table (Made function argument ∷ more)) [
+    elim (g.function_table.takes_capture function) as (λ b. g.function_table.takes_capture function ≡ b
+    → length (text_by g files (Made function argument ∷ more) []) ≤ all_written g.function_table (Made function argument ∷ more)) [
       | true ↦ λ e. omega (arith, ap length (stopped_text g files function argument more e))
       | false ↦ λ e.
           let rest = text_bound g short files more [] all in
@@ -76,7 +86,8 @@ bytes_size : (file : Option File) → length (bytes_or [] file) ≡ option_map_o
 bytes_size None = refl
 bytes_size (Some file) = refl
 
-pub piece_bound : {F : Type 0} (c : Calling F) (files : List File) (script : List ℕ) (piece : PieceOf F) → most_sent c (piece_output files script piece) ≤ piece_length_by c files script piece
+pub piece_bound : {F : Type 0} (c : Calling F) (files : List File) (script : List ℕ) (piece : PieceOf F)
+    → most_sent c (piece_output files script piece) ≤ piece_length_by c files script piece
 piece_bound c files script (Text at len) = range_short script at (at + len) len (omega arith)
 piece_bound c files script (Include at len) = omega (arith, bytes_size (file_named files (slice_range script at (at + len))))
 piece_bound c files script (Call function at len) = omega arith
@@ -109,12 +120,14 @@ line_length kind =
     omega (arith, length-append (codes "Content-type: " ++ kind) (codes "\r\n\r\n"), length-append (codes "Content-type: ") kind)
 
 -- the text of a file that is found is at most as long as its greatest length
-pub found_bound : {F : Type 0} (c : Calling F) (files : List File) (file : File) → all_written c (found_reply_by c.named files file) ≤ page_length_by c files file
+pub found_bound : {F : Type 0} (c : Calling F) (files : List File) (file : File) → all_written c (found_reply_by c.named files file) ≤
+    page_length_by c files file
 found_bound c files file =
     let body = body_bound c files file in
     omega (
       arith,
-      sum_by-cons (most_sent c) (Plain (codes "HTTP/1.0 200 OK\r\nServer: uIP/1.0\r\nConnection: close\r\n")) (Plain (kind_line (kind_of file)) ∷ body_by c.named files file),
+      sum_by-cons (most_sent c) (Plain (codes "HTTP/1.0 200 OK\r\nServer: uIP/1.0\r\nConnection: close\r\n"))
+          (Plain (kind_line (kind_of file)) ∷ body_by c.named files file),
       sum_by-cons (most_sent c) (Plain (kind_line (kind_of file))) (body_by c.named files file),
       line_length (kind_of file),
     )

@@ -1,6 +1,13 @@
 -- The pages of a site of bytes are bytes.
 -- [add: content-type] The type is bytes.
-use Rattle.web_pages.proofs.Prelude.{All, ◌≡◌, ℕ, ◌+◌, ◌-◌, ◌==◌, Bool, true, false, List, [], ◌∷◌, ◌++◌, length, map, drop, Option, Some, None, refl, sym, subst, ◌∙◌, if◌then◌else◌, codes, option_map, slice_get, slice_range, nat_eq, ends_with, All-nil, All-append, All-take, All-drop, slice_get-map, same_Some, FoundOf, PieceOf, Text, Include, Call, pieces_by, Place, is_script, kind_by_name, File, file_named, kind_of, file_in, SiteContent, files_of, ScriptFunctions, AreBytes, uip, literal_bytes, either_bytes, texts_bytes, Snapshot, IsByte, Wanted, wanted, NotYet, Refused, Name, ScriptPiece, piece_output, bytes_or, body_by, missing_head, found_head, kind_line, reply_to_by, reply_pieces_by, Plain, Made, hits_of, made_by, text_by, page_for_by, IsMadeOfBytes, IsMadeOfBytesBy}
+use Rattle.web_pages.proofs.Prelude.{All, ◌≡◌, ℕ, ◌+◌, ◌-◌, ◌==◌, Bool, true, false, List, [], ◌∷◌, ◌++◌, length, map, drop, Option, Some}
+use Rattle.web_pages.proofs.Prelude.{None, refl, sym, subst, ◌∙◌, if◌then◌else◌, codes, option_map, slice_get, slice_range, nat_eq}
+use Rattle.web_pages.proofs.Prelude.{ends_with, All-nil, All-append, All-take, All-drop, slice_get-map, same_Some, FoundOf, PieceOf, Text}
+use Rattle.web_pages.proofs.Prelude.{Include, Call, pieces_by, Place, is_script, kind_by_name, File, file_named, kind_of, file_in}
+use Rattle.web_pages.proofs.Prelude.{SiteContent, files_of, ScriptFunctions, AreBytes, uip, literal_bytes, either_bytes, texts_bytes}
+use Rattle.web_pages.proofs.Prelude.{Snapshot, IsByte, Wanted, wanted, NotYet, Refused, Name, ScriptPiece, piece_output, bytes_or, body_by}
+use Rattle.web_pages.proofs.Prelude.{missing_head, found_head, kind_line, reply_to_by, reply_pieces_by, Plain, Made, hits_of, made_by}
+use Rattle.web_pages.proofs.Prelude.{text_by, page_for_by, IsMadeOfBytes, IsMadeOfBytesBy}
 use Rattle.web_pages.proofs.Found.{found_there}
 
 -- ---- pieces
@@ -18,15 +25,18 @@ made_bytes : {F : Type 0} (g : ScriptFunctions F) → AreBytes g.output → (fil
 made_bytes g bytes files function argument snapshot =
     bytes function argument (hits_of files snapshot.numbers argument) (drop (length files) snapshot.numbers) snapshot.now
 
-text_bytes : {F : Type 0} (g : ScriptFunctions F) → AreBytes g.output → (files : List File) (output : List (ScriptPiece F)) (captures : List Snapshot) → AreSent output → All IsByte (text_by g files output captures)
+text_bytes : {F : Type 0} (g : ScriptFunctions F) → AreBytes g.output → (files : List File) (output : List (ScriptPiece F))
+    (captures : List Snapshot) → AreSent output → All IsByte (text_by g files output captures)
 text_bytes g bytes files [] captures all = All-nil IsByte
 text_bytes g bytes files (Plain text ∷ more) captures all =
     All-append IsByte text (text_by g files more captures) all.0 (text_bytes g bytes files more captures all.1)
 text_bytes g bytes files (Made function argument ∷ more) [] all =
     either_bytes (g.function_table.takes_capture function) [] (text_by g files more []) (All-nil IsByte) (text_bytes g bytes files more [] all.1)
 text_bytes g bytes files (Made function argument ∷ more) (capture ∷ later) all =
-    either_bytes (g.function_table.takes_capture function) (made_by g files function argument capture ++ text_by g files more later) (text_by g files more (capture ∷ later))
-    (All-append IsByte (made_by g files function argument capture) (text_by g files more later) (made_bytes g bytes files function argument capture) (text_bytes g bytes files more later all.1))
+    either_bytes (g.function_table.takes_capture function) (made_by g files function argument capture ++ text_by g files more later)
+    (text_by g files more (capture ∷ later))
+    (All-append IsByte (made_by g files function argument capture) (text_by g files more later)
+    (made_bytes g bytes files function argument capture) (text_bytes g bytes files more later all.1))
     (text_bytes g bytes files more (capture ∷ later) all.1)
 
 -- ---- files of bytes
@@ -57,7 +67,8 @@ named_bytes : (files : List File) (name : List ℕ) (found : Option File) → Ar
 named_bytes files name None all e = All-nil IsByte
 named_bytes files name (Some file) all e = (let there = found_there files name file e in (all there.place file there.at).content)
 
-missing_bytes : (files : List File) (name : List ℕ) (found : Option File) → AreOfBytes files → file_named files name ≡ found → All IsByte (bytes_or (codes "not found\n") found)
+missing_bytes : (files : List File) (name : List ℕ) (found : Option File) → AreOfBytes files → file_named files name ≡ found
+    → All IsByte (bytes_or (codes "not found\n") found)
 missing_bytes files name None all e = literal_bytes (codes "not found\n") refl
 missing_bytes files name (Some file) all e = (let there = found_there files name file e in (all there.place file there.at).content)
 
@@ -80,7 +91,8 @@ line_bytes kind all =
     All-append IsByte (codes "Content-type: " ++ kind) (codes "\r\n\r\n")
     (All-append IsByte (codes "Content-type: ") kind (literal_bytes (codes "Content-type: ") refl) all) (literal_bytes (codes "\r\n\r\n") refl)
 
-outputs_bytes : {F : Type 0} (files : List File) (script : List ℕ) (piece : PieceOf F) → AreOfBytes files → All IsByte script → WasSentIn (piece_output files script piece)
+outputs_bytes : {F : Type 0} (files : List File) (script : List ℕ) (piece : PieceOf F) → AreOfBytes files → All IsByte script
+    → WasSentIn (piece_output files script piece)
 outputs_bytes files script (Text at len) all own = range_bytes script at (at + len) own
 outputs_bytes files script (Include at len) all own =
     named_bytes files (slice_range script at (at + len)) (file_named files (slice_range script at (at + len))) all refl
@@ -94,11 +106,13 @@ pieces_bytes files script (f ∷ found) all own = (outputs_bytes files script f.
 body_bytes : {F : Type 0} (named : List ℕ → F) (files : List File) (file : File) → AreOfBytes files → OfBytes file → AreSent (body_by named files file)
 body_bytes {F = F} named files file all of = by_script (is_script file.name)
   where
-    by_script : (b : Bool) → AreSent (if b then map (λ (f : FoundOf F). piece_output files file.content f.piece) (pieces_by named file.content 0) else Plain file.content ∷ [])
+    by_script : (b : Bool) → AreSent (if b then map (λ (f : FoundOf F). piece_output files file.content f.piece)
+        (pieces_by named file.content 0) else Plain file.content ∷ [])
     by_script true = pieces_bytes files file.content (pieces_by named file.content 0) all of.content
     by_script false = (of.content, tt)
 
-reply_bytes : {F : Type 0} (named : List ℕ → F) (files : List File) (name : List ℕ) (found : Option File) → AreOfBytes files → file_named files name ≡ found → AreSent (reply_to_by named files found)
+reply_bytes : {F : Type 0} (named : List ℕ → F) (files : List File) (name : List ℕ) (found : Option File) → AreOfBytes files
+    → file_named files name ≡ found → AreSent (reply_to_by named files found)
 reply_bytes named files name None all e = (
   literal_bytes missing_head refl,
   (
@@ -116,7 +130,8 @@ bytes_by : {F : Type 0} (g : ScriptFunctions F) → AreBytes g.output → (files
 bytes_by g bytes files NotYet captures all = All-nil IsByte
 bytes_by g bytes files Refused captures all = All-nil IsByte
 bytes_by g bytes files (Name name) captures all =
-    text_bytes g bytes files (reply_pieces_by g.function_table.named files name) captures (reply_bytes g.function_table.named files name (file_named files name) all refl)
+    text_bytes g bytes files (reply_pieces_by g.function_table.named files name) captures (reply_bytes g.function_table.named files name
+    (file_named files name) all refl)
 
 pub made_of_bytes_by : {F : Type 0} (g : ScriptFunctions F) → AreBytes g.output → IsMadeOfBytesBy g
 made_of_bytes_by g bytes site all request captures snapshots = bytes_by g bytes (files_of site) (wanted request) captures (files_bytes site all)

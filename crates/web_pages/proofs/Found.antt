@@ -1,5 +1,8 @@
 -- The file of a name among the files of a site.
-use Rattle.web_pages.proofs.Prelude.{◌≡◌, ◌≢◌, ℕ, zero, suc, ◌<◌, ◌==◌, ◌&&◌, Bool, true, false, List, [], ◌∷◌, length, slice_index, Option, Some, None, refl, sym, ap, ◌∙◌, arith, true≢false, if◌then◌else◌, slice_get, nat_le, list_all, and_parts, leb-true, is_name_byte, bytes_eq, same_Some, bytes_eq-Decides, File, file_named, AreApart, AreGood}
+use Rattle.web_pages.proofs.Prelude.{◌≡◌, ◌≢◌, ℕ, zero, suc, ◌<◌, ◌==◌, ◌&&◌, Bool, true, false, List, [], ◌∷◌, length, slice_index, Option}
+use Rattle.web_pages.proofs.Prelude.{Some, None, refl, sym, ap, ◌∙◌, arith, true≢false, if◌then◌else◌, slice_get, nat_le, list_all}
+use Rattle.web_pages.proofs.Prelude.{and_parts, leb-true, is_name_byte, bytes_eq, same_Some, bytes_eq-Decides, File, file_named, AreApart}
+use Rattle.web_pages.proofs.Prelude.{AreGood}
 
 -- a file of the name is among the files
 pub record IsThere (files : List File) (name : List ℕ) (file : File) : Type 0 where
@@ -53,7 +56,8 @@ long_missing files good name long = by_found (file_named files name) refl
     by_found (Some file) e =
         let there = found_there files name file e in
         let is = (good there.place file there.at).0 in
-        let prefix = and_parts (nat_le 1 (length file.name) && nat_le (length file.name) 64 && (slice_index file.name 0 == 0x2F)) (list_all is_name_byte file.name) is in
+        let prefix = and_parts (nat_le 1 (length file.name) && nat_le (length file.name) 64 && (slice_index file.name 0 == 0x2F))
+        (list_all is_name_byte file.name) is in
         let sizes = and_parts (nat_le 1 (length file.name) && nat_le (length file.name) 64) (slice_index file.name 0 == 0x2F) prefix.0 in
         let short = leb-true (length file.name) 64 (and_parts (nat_le 1 (length file.name)) (nat_le (length file.name) 64) sizes.0).1 in
         absurd (omega (arith, ap length there.named))

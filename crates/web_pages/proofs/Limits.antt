@@ -1,5 +1,15 @@
 -- Every page of a site is shorter than 2^30 bytes.
-use Rattle.web_pages.proofs.Prelude.{All, ◌≡◌, ℕ, ◌+◌, ◌-◌, ◌<◌, ◌≤◌, ◌==◌, Bool, true, false, List, [], ◌∷◌, length, drop, Option, Some, None, Result, Ok, refl, sym, ap, subst, ◌∙◌, arith, length-take, length-drop, if◌then◌else◌, lit<, lit≤, slice_get, option_map, nat_le, nat_lt, codes, sum_by, list_any, list_all, leb-true, leb-false, and_parts, sum_by-cons, slice_get-map, same_Some, Calling, uip_calls, pieces_by, PAGE_LIMIT, Place, Version, SiteError, Rest, PageTooLong, is_script, is_kind, is_kind_byte, kind_by_name, File, file_named, kind_of, misses, script_fault_by, piece_length_by, page_length_by, body_length_by, file_in, ◌>>=◌, refuse, image_head, entries, scripts, read_image, AreSound, bind_ok, scripts-sound, SiteContent, IsLoaded, HasSoundScripts, files_of, image_files, kind-short, Snapshot, IsSnapshot, Wanted, wanted, NotYet, Refused, Name, ScriptFunctions, AreShort, uip, texts_short, ScriptPiece, bytes_or, missing_reply, missing_head, reply_to_by, reply_pieces_by, found_reply_by, kind_line, Plain, text_by, page_for_by, page_by, IsAtMostGreatest, IsAtMostGreatestBy}
+use Rattle.web_pages.proofs.Prelude.{All, ◌≡◌, ℕ, ◌+◌, ◌-◌, ◌<◌, ◌≤◌, ◌==◌, Bool, true, false, List, [], ◌∷◌, length, drop, Option, Some}
+use Rattle.web_pages.proofs.Prelude.{None, Result, Ok, refl, sym, ap, subst, ◌∙◌, arith, length-take, length-drop, if◌then◌else◌, lit<}
+use Rattle.web_pages.proofs.Prelude.{lit≤, slice_get, option_map, nat_le, nat_lt, codes, sum_by, list_any, list_all, leb-true, leb-false}
+use Rattle.web_pages.proofs.Prelude.{and_parts, sum_by-cons, slice_get-map, same_Some, Calling, uip_calls, pieces_by, PAGE_LIMIT, Place}
+use Rattle.web_pages.proofs.Prelude.{Version, SiteError, Rest, PageTooLong, is_script, is_kind, is_kind_byte, kind_by_name, File}
+use Rattle.web_pages.proofs.Prelude.{file_named, kind_of, misses, script_fault_by, piece_length_by, page_length_by, body_length_by, file_in}
+use Rattle.web_pages.proofs.Prelude.{◌>>=◌, refuse, image_head, entries, scripts, read_image, AreSound, bind_ok, scripts-sound, SiteContent}
+use Rattle.web_pages.proofs.Prelude.{IsLoaded, HasSoundScripts, files_of, image_files, kind-short, Snapshot, IsSnapshot, Wanted, wanted}
+use Rattle.web_pages.proofs.Prelude.{NotYet, Refused, Name, ScriptFunctions, AreShort, uip, texts_short, ScriptPiece, bytes_or}
+use Rattle.web_pages.proofs.Prelude.{missing_reply, missing_head, reply_to_by, reply_pieces_by, found_reply_by, kind_line, Plain, text_by}
+use Rattle.web_pages.proofs.Prelude.{page_for_by, page_by, IsAtMostGreatest, IsAtMostGreatestBy}
 use Rattle.site_image.specs.declared.site_error.SiteWhy.TheVariants.{Include}
 use Rattle.web_pages.proofs.Found.{found_there, found_itself}
 use Rattle.web_pages.proofs.Bounds.{all_written, most_sent, text_bound, found_bound}
@@ -54,9 +64,11 @@ kind_small file is = by_own (length file.kind == 0)
     by_own true = (let short = kind-short file.name in omega arith)
     by_own false = kind_good file.kind is
 
-script_short : {F : Type 0} (c : Calling F) (files : List File) (file : File) → script_fault_by c files file ≡ None → is_script file.name ≡ true → page_length_by c files file < 1073741824
+script_short : {F : Type 0} (c : Calling F) (files : List File) (file : File) → script_fault_by c files file ≡ None
+    → is_script file.name ≡ true → page_length_by c files file < 1073741824
 script_short c files file sound script =
-    by_misses (list_any (λ found. misses files file.content found.piece) (pieces_by c.named file.content 0)) (nat_le PAGE_LIMIT (page_length_by c files file)) refl
+    by_misses (list_any (λ found. misses files file.content found.piece) (pieces_by c.named file.content 0))
+    (nat_le PAGE_LIMIT (page_length_by c files file)) refl
     (ap (λ b. if b then
     (if list_any (λ found. misses files file.content found.piece) (pieces_by c.named file.content 0) then Some Include
     else (if nat_le PAGE_LIMIT (page_length_by c files file) then Some PageTooLong else None))
@@ -73,7 +85,8 @@ plain_body c files file plain =
     ap (λ b. if b then sum_by (λ found. piece_length_by c files file.content found.piece) (pieces_by c.named file.content 0) else length file.content) plain
 
 -- the greatest length of a file's page is below the limit
-pub greatest_short : {F : Type 0} (c : Calling F) (site : SiteContent) → IsLoaded site → HasSoundScripts c (files_of site) → (k : ℕ) (file : File) → slice_get (files_of site) k ≡ Some file
+pub greatest_short : {F : Type 0} (c : Calling F) (site : SiteContent) → IsLoaded site → HasSoundScripts c (files_of site)
+    → (k : ℕ) (file : File) → slice_get (files_of site) k ≡ Some file
     → page_length_by c (files_of site) file < 1073741824
 greatest_short c site is sound k file s = by_script (is_script file.name) refl
   where
@@ -108,7 +121,8 @@ missing_bound {F = F} c site is =
       sum_by-cons (most_sent c) last [],
     )
 
-reply_bound : {F : Type 0} (c : Calling F) (site : SiteContent) → IsLoaded site → HasSoundScripts c (files_of site) → (name : List ℕ) (found : Option File) → file_named (files_of site) name ≡ found
+reply_bound : {F : Type 0} (c : Calling F) (site : SiteContent) → IsLoaded site → HasSoundScripts c (files_of site)
+    → (name : List ℕ) (found : Option File) → file_named (files_of site) name ≡ found
     → all_written c (reply_to_by c.named (files_of site) found) < 1073741824
 reply_bound c site is sound name None e = missing_bound c site is
 reply_bound c site is sound name (Some file) e =

@@ -1,5 +1,7 @@
 -- The hits are the prefix of the counters. What follows them, the own state, changes no hit, and no hit changes it.
-use Rattle.web_pages.proofs.Prelude.{◌≡◌, ℕ, ◌<◌, ◌+◌, ◌%◌, ◌^◌, zero, suc, List, [], ◌∷◌, ◌++◌, length, drop, refl, ap, ◌∙◌, arith, Option, Some, None, slice_index_or, option_map_or, bytes_eq, slice_set, drop_at, position-Some, File, Now, ScriptFunctions, Wanted, NotYet, Refused, Name, place_of, hits_of, made_by, hit_at, hits_by}
+use Rattle.web_pages.proofs.Prelude.{◌≡◌, ℕ, ◌<◌, ◌+◌, ◌%◌, ◌^◌, zero, suc, List, [], ◌∷◌, ◌++◌, length, drop, refl, ap, ◌∙◌, arith, Option}
+use Rattle.web_pages.proofs.Prelude.{Some, None, slice_index_or, option_map_or, bytes_eq, slice_set, drop_at, position-Some, File, Now}
+use Rattle.web_pages.proofs.Prelude.{ScriptFunctions, Wanted, NotYet, Refused, Name, place_of, hits_of, made_by, hit_at, hits_by}
 
 index_prefix : (xs ys : List ℕ) (place : ℕ) → place < length xs → slice_index_or (xs ++ ys) place 0 ≡ slice_index_or xs place 0
 index_prefix [] ys place lt = absurd (omega (arith, lt))

@@ -1,5 +1,9 @@
 -- The web server of a site satisfies the laws from which the guarantee follows.
-use Rattle.web_pages.proofs.Prelude.{All, ◌≡◌, ℕ, ◌+◌, ◌%◌, ◌^◌, Bool, true, false, ◌&&◌, List, [], ◌∷◌, ◌++◌, Option, Some, None, refl, inl, inr, ◌⊎◌, arith, if◌then◌else◌, slice_index_or, All-set, File, files_of, AppState, Snapshot, IsU32, ScriptFunctions, AreShort, uip, Wanted, wanted, NotYet, Refused, Name, place_of, hit_at, hits_by, is_acknowledged_by, waits_for_capture_by, page_grows, page_stays, with_capture, may_want, KeepsPageLaws, KeepsPageLawsBy}
+use Rattle.web_pages.proofs.Prelude.{All, ◌≡◌, ℕ, ◌+◌, ◌%◌, ◌^◌, Bool, true, false, ◌&&◌, List, [], ◌∷◌, ◌++◌, Option, Some, None, refl}
+use Rattle.web_pages.proofs.Prelude.{inl, inr, ◌⊎◌, arith, if◌then◌else◌, slice_index_or, All-set, File, files_of, AppState, Snapshot}
+use Rattle.web_pages.proofs.Prelude.{IsU32, ScriptFunctions, AreShort, uip, Wanted, wanted, NotYet, Refused, Name, place_of, hit_at}
+use Rattle.web_pages.proofs.Prelude.{hits_by, is_acknowledged_by, waits_for_capture_by, page_grows, page_stays, with_capture, may_want}
+use Rattle.web_pages.proofs.Prelude.{KeepsPageLaws, KeepsPageLawsBy}
 use Rattle.web_pages.proofs.Limits.{page_short, uip_short, uip_sound}
 
 hit_words : (hits : List ℕ) (place : Option ℕ) → All IsU32 hits → All IsU32 (hit_at hits place)

@@ -1,14 +1,25 @@
 -- If no word of an upgrade names a file, every page stays the same.
-use Rattle.web_pages.proofs.Prelude.{◌≡◌, ℕ, zero, suc, ◌-◌, ◌+◌, ◌==◌, not, Bool, true, false, List, [], ◌∷◌, ◌++◌, length, get_or, map, Option, Some, None, refl, sym, ap, ◌∙◌, arith, true≢false, if◌then◌else◌, find, slice_get, option_map, unwrap_or, nat_lt, reverse, slice_range, codes, position_or_len, slice_index_or, bytes_eq, or_left, or_right, length-map, get_or-reverse, length-reverse, same_Some, slice_get_within, slice_get_read, get_or_from_slice_get, bytes_eq-Decides, option_map_or, Function, PieceOf, Text, Include, Call, FoundOf, pieces, is_script, kind_by_name, File, has_name, file_named, kind_of, KindContent, chosen, retyped, upgraded, capture_of, capture_text, Snapshot, Wanted, wanted, NotYet, Refused, Name, ScriptPiece, piece_output, bytes_or, body_of, missing_head, found_head, kind_line, reply_to, reply_pieces, Plain, Made, takes_capture, place_of, made_text, page_text, reach_end, page_for, whole_for, UpgradeKeepsPages}
+use Rattle.web_pages.proofs.Prelude.{◌≡◌, ℕ, zero, suc, ◌-◌, ◌+◌, ◌==◌, not, Bool, true, false, List, [], ◌∷◌, ◌++◌, length, get_or, map}
+use Rattle.web_pages.proofs.Prelude.{Option, Some, None, refl, sym, ap, ◌∙◌, arith, true≢false, if◌then◌else◌, find, slice_get, option_map}
+use Rattle.web_pages.proofs.Prelude.{unwrap_or, nat_lt, reverse, slice_range, codes, position_or_len, slice_index_or, bytes_eq, or_left}
+use Rattle.web_pages.proofs.Prelude.{or_right, length-map, get_or-reverse, length-reverse, same_Some, slice_get_within, slice_get_read}
+use Rattle.web_pages.proofs.Prelude.{get_or_from_slice_get, bytes_eq-Decides, option_map_or, Function, PieceOf, Text, Include, Call}
+use Rattle.web_pages.proofs.Prelude.{FoundOf, pieces, is_script, kind_by_name, File, has_name, file_named, kind_of, KindContent, chosen}
+use Rattle.web_pages.proofs.Prelude.{retyped, upgraded, capture_of, capture_text, Snapshot, Wanted, wanted, NotYet, Refused, Name}
+use Rattle.web_pages.proofs.Prelude.{ScriptPiece, piece_output, bytes_or, body_of, missing_head, found_head, kind_line, reply_to}
+use Rattle.web_pages.proofs.Prelude.{reply_pieces, Plain, Made, takes_capture, place_of, made_text, page_text, reach_end, page_for}
+use Rattle.web_pages.proofs.Prelude.{whole_for, UpgradeKeepsPages}
 use Rattle.web_pages.proofs.Found.{found_there}
 
 -- ---- the files that are found
 
-moved : {A B : Type 0} (f : A → B) (b : Bool) (x : A) (rest : Option A) → (if b then Some (f x) else option_map f rest) ≡ option_map f (if b then Some x else rest)
+moved : {A B : Type 0} (f : A → B) (b : Bool) (x : A) (rest : Option A) → (if b then Some (f x) else option_map f rest) ≡ option_map f
+    (if b then Some x else rest)
 moved f true x rest = refl
 moved f false x rest = refl
 
-named_upgraded : (words : List KindContent) (files : List File) (name : List ℕ) → file_named (upgraded words files) name ≡ option_map (retyped words) (file_named files name)
+named_upgraded : (words : List KindContent) (files : List File) (name : List ℕ) → file_named (upgraded words files) name ≡ option_map
+    (retyped words) (file_named files name)
 named_upgraded words [] name = refl
 named_upgraded words (one ∷ files) name =
     ap (λ rest. if bytes_eq one.name name then Some (retyped words one) else rest) (named_upgraded words files name)
@@ -29,13 +40,15 @@ bytes_upgraded : (words : List KindContent) (file : Option File) → bytes_or []
 bytes_upgraded words None = refl
 bytes_upgraded words (Some file) = refl
 
-missing_upgraded : (words : List KindContent) (file : Option File) → bytes_or (codes "not found\n") (option_map (retyped words) file) ≡ bytes_or (codes "not found\n") file
+missing_upgraded : (words : List KindContent) (file : Option File) → bytes_or (codes "not found\n") (option_map (retyped words) file)
+    ≡ bytes_or (codes "not found\n") file
 missing_upgraded words None = refl
 missing_upgraded words (Some file) = refl
 
 -- ---- the text
 
-sends_upgraded : (words : List KindContent) (files : List File) (script : List ℕ) (piece : PieceOf Function) → piece_output (upgraded words files) script piece ≡ piece_output files script piece
+sends_upgraded : (words : List KindContent) (files : List File) (script : List ℕ) (piece : PieceOf Function)
+    → piece_output (upgraded words files) script piece ≡ piece_output files script piece
 sends_upgraded words files script (Text at len) = refl
 sends_upgraded words files script (Include at len) =
     let name = slice_range script at (at + len) in
@@ -43,7 +56,8 @@ sends_upgraded words files script (Include at len) =
 sends_upgraded words files script (Call function at len) = refl
 
 all_upgraded : (words : List KindContent) (files : List File) (script : List ℕ) (found : List (FoundOf Function))
-    → map (λ (f : FoundOf Function). piece_output (upgraded words files) script f.piece) found ≡ map (λ (f : FoundOf Function). piece_output files script f.piece) found
+    → map (λ (f : FoundOf Function). piece_output (upgraded words files) script f.piece) found
+    ≡ map (λ (f : FoundOf Function). piece_output files script f.piece) found
 all_upgraded words files script [] = refl
 all_upgraded words files script (f ∷ found) = λ i. sends_upgraded words files script f.piece i ∷ all_upgraded words files script found i
 
@@ -57,7 +71,8 @@ same_either true x = refl
 same_either false x = refl
 
 kind_again : (b : Bool) (kind name : List ℕ) → (length kind == 0) ≡ b
-    → (if length (if b then kind_by_name name else kind) == 0 then kind_by_name name else (if b then kind_by_name name else kind)) ≡ (if b then kind_by_name name else kind)
+    → (if length (if b then kind_by_name name else kind) == 0 then kind_by_name name else (if b then kind_by_name name else kind))
+    ≡ (if b then kind_by_name name else kind)
 kind_again true kind name e = same_either (length (kind_by_name name) == 0) (kind_by_name name)
 kind_again false kind name e = ap (λ b. if b then kind_by_name name else kind) e
 
@@ -94,7 +109,8 @@ from_reverse words k word s =
     sym (get_or-reverse words k word (omega arith)) ∙ get_or_from_slice_get (reverse words) k word word s in
     (length words - 1 - k, slice_get_read words (length words) (length words - 1 - k) word refl (omega arith) (sym same))
 
-unnamed : (words : List KindContent) (files : List File) (k : ℕ) (file : File) → NameNone files words → slice_get files k ≡ Some file → chosen words file ≡ kind_of file
+unnamed : (words : List KindContent) (files : List File) (k : ℕ) (file : File) → NameNone files words → slice_get files k ≡ Some file
+    → chosen words file ≡ kind_of file
 unnamed words files k file none s =
     by_word (find (λ (word : KindContent). bytes_eq word.name file.name) (reverse words)) refl
   where
@@ -120,7 +136,8 @@ found_upgraded words files name (Some file) none e =
     let kind = kind_kept words file (unnamed words files there.place file none there.at) in
     λ i. Plain found_head ∷ Plain (kind_line (kind i)) ∷ body_upgraded words files file i
 
-reply_upgraded : (words : List KindContent) (files : List File) (name : List ℕ) → NameNone files words → reply_pieces (upgraded words files) name ≡ reply_pieces files name
+reply_upgraded : (words : List KindContent) (files : List File) (name : List ℕ) → NameNone files words → reply_pieces (upgraded words files)
+    name ≡ reply_pieces files name
 reply_upgraded words files name none =
     ap (reply_to (upgraded words files)) (named_upgraded words files name) ∙ found_upgraded words files name (file_named files name) none refl
 
@@ -129,9 +146,11 @@ reply_upgraded words files name none =
 made_upgraded : (words : List KindContent) (files : List File) (function : Function) (argument : List ℕ) (snapshot : Snapshot)
     → made_text (upgraded words files) function argument snapshot ≡ made_text files function argument snapshot
 made_upgraded words files function argument snapshot =
-    ap (λ place. capture_text (capture_of function (option_map_or (λ at. slice_index_or snapshot.numbers at 0) place 0) snapshot.now)) (place_upgraded words files argument)
+    ap (λ place. capture_text (capture_of function (option_map_or (λ at. slice_index_or snapshot.numbers at 0) place 0) snapshot.now))
+    (place_upgraded words files argument)
 
-text_upgraded : (words : List KindContent) (files : List File) (output : List (ScriptPiece Function)) (captures : List Snapshot) → page_text (upgraded words files) output captures ≡ page_text files output captures
+text_upgraded : (words : List KindContent) (files : List File) (output : List (ScriptPiece Function)) (captures : List Snapshot)
+    → page_text (upgraded words files) output captures ≡ page_text files output captures
 text_upgraded words files [] captures = refl
 text_upgraded words files (Plain text ∷ more) captures = ap (λ rest. text ++ rest) (text_upgraded words files more captures)
 text_upgraded words files (Made function argument ∷ more) [] =
@@ -141,7 +160,8 @@ text_upgraded words files (Made function argument ∷ more) (capture ∷ later) 
     else text_upgraded words files more (capture ∷ later) i
 
 kept_by : (words : List KindContent) (files : List File) (asked : Wanted) (captures : List Snapshot) → NameNone files words
-    → (page_for (upgraded words files) asked captures ≡ page_for files asked captures) × (whole_for (upgraded words files) asked captures ≡ whole_for files asked captures)
+    → (page_for (upgraded words files) asked captures ≡ page_for files asked captures)
+    × (whole_for (upgraded words files) asked captures ≡ whole_for files asked captures)
 kept_by words files NotYet captures none = (refl, refl)
 kept_by words files Refused captures none = (refl, refl)
 kept_by words files (Name name) captures none =

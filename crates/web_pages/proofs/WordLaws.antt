@@ -1,9 +1,16 @@
 -- The two words of a request, as they are stored while they are received.
-use Rattle.web_pages.proofs.Prelude.{◌≡◌, ℕ, ◌<◌, ◌≤◌, ◌&&◌, ◌==◌, Bool, true, false, not, List, [], ◌∷◌, length, take, refl, sym, ap, subst, ◌∙◌, arith, length-take, if◌then◌else◌, codes, nat_lt, nat_eq, before_first, list_any, starts_with, concat, fold, bytes_eq, and_parts, not-true, ltb-true, ltb-false, eqb-true, same_from_decides, take_all, take_while-cons, bytes_eq-Decides, Space, SpaceOrLine, Line, is_query_mark, after, fresh, delivered, none_at_all, receives_in_pieces, Wanted, wanted, wanted_by, has_ended, method_of, after_method, target_of, name_in, NotYet, Refused, Name, reported_so_far, ReportedInPieces, LongNames, by_tests}
+use Rattle.web_pages.proofs.Prelude.{◌≡◌, ℕ, ◌<◌, ◌≤◌, ◌&&◌, ◌==◌, Bool, true, false, not, List, [], ◌∷◌, length, take, refl, sym, ap}
+use Rattle.web_pages.proofs.Prelude.{subst, ◌∙◌, arith, length-take, if◌then◌else◌, codes, nat_lt, nat_eq, before_first, list_any}
+use Rattle.web_pages.proofs.Prelude.{starts_with, concat, fold, bytes_eq, and_parts, not-true, ltb-true, ltb-false, eqb-true}
+use Rattle.web_pages.proofs.Prelude.{same_from_decides, take_all, take_while-cons, bytes_eq-Decides, Space, SpaceOrLine, Line}
+use Rattle.web_pages.proofs.Prelude.{is_query_mark, after, fresh, delivered, none_at_all, receives_in_pieces, Wanted, wanted, wanted_by}
+use Rattle.web_pages.proofs.Prelude.{has_ended, method_of, after_method, target_of, name_in, NotYet, Refused, Name, reported_so_far}
+use Rattle.web_pages.proofs.Prelude.{ReportedInPieces, LongNames, by_tests}
 
 -- ---- the method
 
-is_get_word : (word : List ℕ) → bytes_eq word (codes "GET") ≡ (bytes_eq (take 64 (before_first is_query_mark word)) (codes "GET") && not (list_any is_query_mark word))
+is_get_word : (word : List ℕ) → bytes_eq word (codes "GET") ≡ (bytes_eq (take 64 (before_first is_query_mark word)) (codes "GET")
+    && not (list_any is_query_mark word))
 is_get_word word =
     same_from_decides {P = word ≡ codes "GET"} _ _ (bytes_eq-Decides word (codes "GET")) (from, to)
   where
@@ -11,7 +18,8 @@ is_get_word word =
     from e =
         let both = and_parts (bytes_eq (take 64 (before_first is_query_mark word)) (codes "GET")) (not (list_any is_query_mark word)) e in
         let whole : before_first is_query_mark word ≡ word = none_at_all is_query_mark word (not-true (list_any is_query_mark word) both.1) in
-        let same : take 64 word ≡ codes "GET" = ap (take 64) (sym whole) ∙ (bytes_eq-Decides (take 64 (before_first is_query_mark word)) (codes "GET")).0 both.0 in
+        let same : take 64 word ≡ codes "GET" = ap (take 64) (sym whole)
+        ∙ (bytes_eq-Decides (take 64 (before_first is_query_mark word)) (codes "GET")).0 both.0 in
         let three : length (codes "GET") ≡ 3 = refl in
         let short : length word ≤ 64 = omega (arith, length-take 64 word, ap length same) in
         sym (take_all 64 word short) ∙ same
@@ -50,7 +58,8 @@ slash_prefix (x ∷ xs) =
     ] refl
 
 wanted_prefix : (target : List ℕ) → wanted_by (prefix target) ≡ wanted_by target
-wanted_prefix target = λ i. if slash_prefix target i then Name (if bytes_eq (prefix_again target i) (codes "/") then codes "/index.html" else prefix_again target i) else Refused
+wanted_prefix target = λ i. if slash_prefix target i then Name (if bytes_eq (prefix_again target i) (codes "/") then codes
+    "/index.html" else prefix_again target i) else Refused
 
 kept_prefix : (target : List ℕ) → nat_lt 64 (length (prefix target)) ≡ false → wanted_by (take 64 (prefix target)) ≡ wanted_by target
 kept_prefix target e = ap wanted_by (take_all 64 (prefix target) (ltb-false 64 (length (prefix target)) e)) ∙ wanted_prefix target
@@ -97,6 +106,8 @@ long_by true true true target name long e = named_by target name long e
 pub long_names : LongNames
 long_names pieces later rest name over e =
     let request = concat pieces in
-    let target : fold after (fresh SpaceOrLine) later ≡ delivered SpaceOrLine (after_method request) = receives_in_pieces SpaceOrLine later ∙ ap (delivered SpaceOrLine) (sym rest) in
+    let target : fold after (fresh SpaceOrLine) later ≡ delivered SpaceOrLine (after_method request) = receives_in_pieces SpaceOrLine later
+    ∙ ap (delivered SpaceOrLine) (sym rest) in
     let long = ltb-true 64 (length (prefix (target_of request))) (sym (ap (λ (line : Line). line.over) target) ∙ over) in
-    long_by (has_ended Space request) (bytes_eq (method_of request) (codes "GET")) (has_ended SpaceOrLine (after_method request)) (target_of request) name long e
+    long_by (has_ended Space request) (bytes_eq (method_of request) (codes "GET")) (has_ended SpaceOrLine (after_method request))
+    (target_of request) name long e

@@ -1,6 +1,12 @@
 -- What holds for the schedule of a seed.
 -- [add: schedule-line] A line that a seed draws.
-use Rattle.workload.proofs.Prelude.{◌≡◌, ℕ, suc, zero, ◌+◌, ◌-◌, ◌*◌, ◌/◌, ◌%◌, ◌<◌, ◌≤◌, ◌==◌, ◌&&◌, ◌||◌, nat_le, Bool, true, false, not, List, [], ◌∷◌, ◌++◌, length, map, replicate, refl, sym, ap, subst, arith, ◌∙◌, if◌then◌else◌, Result, Ok, Err, OnOk, common_steps, codes, flat_map, list_all, list_any, range_with_len, bytes_eq, length-append, flat_map-cons, list_all-append, length-map-range_with_len, first_words, Lcg, increment_of, started, multiplier_64, pcg32, Event, Opens, Again, Round, Twice, Reverse, Half, Lose, Line, Plan, SchedulePlan, meets, Keeps, are_apart, client_in_range, event_in_range, is_between, client_of, event_drawn, events_of, happens, numbered_from, words_from, workload_of}
+use Rattle.workload.proofs.Prelude.{◌≡◌, ℕ, suc, zero, ◌+◌, ◌-◌, ◌*◌, ◌/◌, ◌%◌, ◌<◌, ◌≤◌, ◌==◌, ◌&&◌, ◌||◌, nat_le, Bool, true, false, not}
+use Rattle.workload.proofs.Prelude.{List, [], ◌∷◌, ◌++◌, length, map, replicate, refl, sym, ap, subst, arith, ◌∙◌, if◌then◌else◌, Result}
+use Rattle.workload.proofs.Prelude.{Ok, Err, OnOk, common_steps, codes, flat_map, list_all, list_any, range_with_len, bytes_eq}
+use Rattle.workload.proofs.Prelude.{length-append, flat_map-cons, list_all-append, length-map-range_with_len, first_words, Lcg}
+use Rattle.workload.proofs.Prelude.{increment_of, started, multiplier_64, pcg32, Event, Opens, Again, Round, Twice, Reverse, Half, Lose}
+use Rattle.workload.proofs.Prelude.{Line, Plan, SchedulePlan, meets, Keeps, are_apart, client_in_range, event_in_range, is_between}
+use Rattle.workload.proofs.Prelude.{client_of, event_drawn, events_of, happens, numbered_from, words_from, workload_of}
 
 pub on_ok_by : {T E P Q : Type 0} (r : Result T E) → (P → Q) → OnOk r P → OnOk r Q
 on_ok_by (Ok x) f p = f p
@@ -34,7 +40,8 @@ no_meeting : (a b m : ℕ) → a < b → list_any (λ later. meets (client_of a)
 no_meeting a b zero lt = refl
 no_meeting a b (suc m) lt =
     neither (meets (client_of a) (client_of b)) (list_any (λ later. meets (client_of a) later) (map client_of (range_with_len (b + 1) m)))
-    (second_fails (bytes_eq (10 ∷ 0 ∷ 1 ∷ a ∷ []) (10 ∷ 0 ∷ 1 ∷ b ∷ [])) (1024 + a == 1024 + b) (other_port a b lt)) (no_meeting a (b + 1) m (omega (arith, lt)))
+    (second_fails (bytes_eq (10 ∷ 0 ∷ 1 ∷ a ∷ []) (10 ∷ 0 ∷ 1 ∷ b ∷ [])) (1024 + a == 1024 + b) (other_port a b lt))
+    (no_meeting a (b + 1) m (omega (arith, lt)))
 
 all_apart : (a m : ℕ) → are_apart (map client_of (range_with_len a m)) ≡ true
 all_apart a zero = refl
@@ -100,7 +107,8 @@ drawn_fit n [] some = refl
 drawn_fit n (w ∷ ws) some =
     ap (list_all (event_in_range n)) (flat_map-cons (happens n) w ws)
     ∙ both (event_in_range n (event_drawn (w % 8) (1 + w / 8 % n))) (list_all (event_in_range n) (flat_map (happens n) ws))
-    (event_fits n (w % 8) (1 + w / 8 % n) (between n (1 + w / 8 % n) (omega arith) (let lt = rest_below (w / 8) n some in omega (arith, lt)))) (drawn_fit n ws some)
+    (event_fits n (w % 8) (1 + w / 8 % n) (between n (1 + w / 8 % n) (omega arith) (let lt = rest_below (w / 8) n some in
+    omega (arith, lt)))) (drawn_fit n ws some)
 
 events_fit : (seed n : ℕ) → 1 ≤ n → list_all (event_in_range n) (events_of seed n) ≡ true
 events_fit seed n some =
@@ -109,7 +117,8 @@ events_fit seed n some =
     list_all-append (event_in_range n) (opens ++ drawn) (replicate 40 Round)
     ∙ both (list_all (event_in_range n) (opens ++ drawn)) true
     (list_all-append (event_in_range n) opens drawn
-    ∙ both (list_all (event_in_range n) opens) (list_all (event_in_range n) drawn) (opens_fit n 1 n (omega arith) (omega arith)) (drawn_fit n (words_from seed) some))
+    ∙ both (list_all (event_in_range n) opens) (list_all (event_in_range n) drawn) (opens_fit n 1 n (omega arith) (omega arith))
+    (drawn_fit n (words_from seed) some))
     refl
 
 pub keeps : (seed n : ℕ) → 1 ≤ n → n ≤ 64 → Keeps (workload_of seed n)
@@ -145,14 +154,17 @@ length-events seed n =
     omega (arith, a, b, o, d, w, r)
 
 pub all_events : (seed n : ℕ) (s : Lcg) (none opened drawn rested : List Event) → s ≡ started 64 multiplier_64 seed (increment_of 64 54) → none ≡ []
-    → opened ≡ none ++ map (λ k. Opens k) (range_with_len 1 n) → drawn ≡ opened ++ flat_map (happens n) (first_words pcg32 200 s) → rested ≡ drawn ++ replicate 40 Round
+    → opened ≡ none ++ map (λ k. Opens k) (range_with_len 1 n) → drawn ≡ opened ++ flat_map (happens n) (first_words pcg32 200 s)
+    → rested ≡ drawn ++ replicate 40 Round
     → rested ≡ events_of seed n
 all_events seed n s none opened drawn rested d e f g h =
     let opens = map (λ k. Opens k) (range_with_len 1 n) in
     let first : opened ≡ opens = f ∙ ap (λ (l : List Event). l ++ opens) e in
     h
     ∙ ap (λ (l : List Event). l ++ replicate 40 Round)
-    (g ∙ ap (λ (l : List Event). l ++ flat_map (happens n) (first_words pcg32 200 s)) first ∙ ap (λ (z : Lcg). opens ++ flat_map (happens n) (first_words pcg32 200 z)) d)
+    (g ∙ ap (λ (l : List Event). l ++ flat_map (happens n) (first_words pcg32 200 s)) first
+    ∙ ap (λ (z : Lcg). opens ++ flat_map (happens n) (first_words pcg32 200 z)) d)
 
-pub same_content : (plans ps : List Plan) (lines ls : List Line) → plans ≡ ps → lines ≡ ls → ◌≡◌ {A = SchedulePlan} (record { clients = plans; lines = lines }) (record { clients = ps; lines = ls })
+pub same_content : (plans ps : List Plan) (lines ls : List Line) → plans ≡ ps → lines ≡ ls
+    → ◌≡◌ {A = SchedulePlan} (record { clients = plans; lines = lines }) (record { clients = ps; lines = ls })
 same_content plans ps lines ls e f = cc

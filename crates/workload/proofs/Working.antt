@@ -1,5 +1,7 @@
 -- Lines one after another, and the events of words.
-use Rattle.workload.proofs.Prelude.{◌≡◌, ℕ, suc, zero, ◌+◌, ◌/◌, ◌%◌, ◌<◌, List, [], ◌∷◌, ◌++◌, length, take, get_or, refl, sym, ap, arith, ◌∙◌, append_assoc, flat_map, take_more, flat_map-cons, first_words, Lcg, pcg32, Event, Tick, Line, event_drawn, happens, numbered_from}
+use Rattle.workload.proofs.Prelude.{◌≡◌, ℕ, suc, zero, ◌+◌, ◌/◌, ◌%◌, ◌<◌, List, [], ◌∷◌, ◌++◌, length, take, get_or, refl, sym, ap, arith}
+use Rattle.workload.proofs.Prelude.{◌∙◌, append_assoc, flat_map, take_more, flat_map-cons, first_words, Lcg, pcg32, Event, Tick, Line}
+use Rattle.workload.proofs.Prelude.{event_drawn, happens, numbered_from}
 
 abbrev pub line_with : ℕ → Event → Line
 line_with number event = record { at = number; event = event }
@@ -18,7 +20,8 @@ length-prefix [] i lt = absurd (omega (arith, lt))
 length-prefix (x ∷ xs) zero lt = refl
 length-prefix (x ∷ xs) (suc i) lt = ap suc (length-prefix xs i (omega (arith, lt)))
 
-pub numbered_more : (a i : ℕ) (xs : List Event) (x : Event) → i < length xs → get_or xs i x ≡ x → numbered_from a (take (i + 1) xs) ≡ numbered_from a (take i xs) ++ line_with (a + i) x ∷ []
+pub numbered_more : (a i : ℕ) (xs : List Event) (x : Event) → i < length xs → get_or xs i x ≡ x → numbered_from a (take (i + 1) xs)
+    ≡ numbered_from a (take i xs) ++ line_with (a + i) x ∷ []
 numbered_more a i xs x lt at =
     let more : take (i + 1) xs ≡ take i xs ++ x ∷ [] = take_more xs i x lt ∙ ap (λ (y : Event). take i xs ++ y ∷ []) at in
     ap (numbered_from a) more ∙ numbered_push a (a + i) (take i xs) x (ap (λ n. a + n) (length-prefix xs i lt))

@@ -1,4 +1,5 @@
-use Rattle.device_values.proofs.Prelude.{◌≡◌, ℕ, List, ◌+◌, ◌-◌, ◌*◌, ap, sym, ◌∙◌, arith, drop, get_or, min, take, slice_range, All-drop, All-take, IsByte}
+use Rattle.device_values.proofs.Prelude.{◌≡◌, ℕ, List, ◌+◌, ◌-◌, ◌*◌, ap, sym, ◌∙◌, arith, drop, get_or, min, take, slice_range, All-drop}
+use Rattle.device_values.proofs.Prelude.{All-take, IsByte}
 use Rattle.device_values.proofs.Bytes.{low_same}
 use Rattle.device_values.proofs.values.value_at.Goals as goal
 

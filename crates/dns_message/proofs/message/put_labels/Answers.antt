@@ -1,4 +1,5 @@
-use Rattle.dns_message.proofs.Prelude.{◌≡◌, ◌++◌, ◌∷◌, [], arith, ◌∙◌, ◌+◌, ◌-◌, sym, ap, length, length-drop, length-append, length-take, drop, take, append_assoc, append-nil, flat_map, take_rest, label_bytes, labels}
+use Rattle.dns_message.proofs.Prelude.{◌≡◌, ◌++◌, ◌∷◌, [], arith, ◌∙◌, ◌+◌, ◌-◌, sym, ap, length, length-drop, length-append, length-take}
+use Rattle.dns_message.proofs.Prelude.{drop, take, append_assoc, append-nil, flat_map, take_rest, label_bytes, labels}
 use Rattle.dns_message.proofs.DotLaws.{cut, uncut}
 use Rattle.dns_message.proofs.message.put_labels.Goals as goal
 
@@ -17,7 +18,16 @@ loop-dot-preserved c =
           ∙ ap (λ l. c.loop-dot.out.items ++ flat_map label_bytes l) (sym (cut rest dot c.in-Some.ensures))
           ∙ c.loop-dot.invariant.text;
       room =
-          omega (arith, ap (λ l. length l) same, ap (λ l. length l) c.put_label.ensures, length-append c.loop-dot.out.items (label_bytes label), length-drop (dot + 1) rest, length-take dot rest, c.in-Some.ensures.0.high, c.loop-dot.invariant.room);
+          omega (
+            arith,
+            ap (λ l. length l) same,
+            ap (λ l. length l) c.put_label.ensures,
+            length-append c.loop-dot.out.items (label_bytes label),
+            length-drop (dot + 1) rest,
+            length-take dot rest,
+            c.in-Some.ensures.0.high,
+            c.loop-dot.invariant.room,
+          );
     }
 
 pub returns-clause-text : goal.returns-clause-text

@@ -14,7 +14,8 @@ loop-dot-preserved c =
     let rest = c.loop-dot.rest.now in
     let trailing = labels (drop (c.in-Some.dot + 1) rest) in
     ap (λ l. list_all is_label (labels l)) (take_rest rest (c.in-Some.dot + 1))
-    ∙ sym (ap (λ l. list_all is_label l) (cut rest c.in-Some.dot c.in-Some.ensures) ∙ ap (λ b. b && list_all is_label trailing) (sym c.is_label.ensures ∙ c.if-not-is_label.false))
+    ∙ sym (ap (λ l. list_all is_label l) (cut rest c.in-Some.dot c.in-Some.ensures) ∙ ap (λ b. b && list_all is_label trailing)
+    (sym c.is_label.ensures ∙ c.if-not-is_label.false))
     ∙ c.loop-dot.invariant
 
 pub returns : goal.returns

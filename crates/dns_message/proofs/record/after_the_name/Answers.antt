@@ -7,7 +7,8 @@ returns-then-trailing-count c =
     let rest = c.loop-rest.rest.now in
     let count = c.from-count.result in
     let same = take_rest rest 1 in
-    sym (c.loop-rest.invariant ∙ label_first rest count c.in-len1-up.len_at_least c.from-count.ensures c.if-count-eq0.false (omega (arith, c.if-count-ge64.false))
+    sym (c.loop-rest.invariant ∙ label_first rest count c.in-len1-up.len_at_least c.from-count.ensures c.if-count-eq0.false
+    (omega (arith, c.if-count-ge64.false))
     ∙ cut_off count (drop 1 rest) (omega (arith, ap (λ l. length l) same, c.if-trailing-count.true)))
 
 pub loop-rest-preserved : goal.loop-rest-preserved

@@ -5,4 +5,5 @@ pub loop-at-preserved : goal.loop-at-preserved
 loop-at-preserved c =
     let x = get_or c.loop-at.entries c.loop-at.at (record { addr = record { 0 = [] }; mac = record { 0 = [] }; age = 0 }) in
     ap (set c.loop-at.entries c.loop-at.at) c.older.ensures
-    ∙ map_over_more aged c.args.entries.now c.loop-at.entries c.loop-at.at x (omega arith) c.loop-at.invariant (get_or_default c.loop-at.entries c.loop-at.at _ x (omega arith))
+    ∙ map_over_more aged c.args.entries.now c.loop-at.entries c.loop-at.at x (omega arith) c.loop-at.invariant
+    (get_or_default c.loop-at.entries c.loop-at.at _ x (omega arith))

@@ -4,5 +4,6 @@ use Rattle.ethernet_arp.proofs.packets.arp_frame.Goals as goal
 
 pub returns : goal.returns
 returns c =
-    parts_are c.args.to.0 c.args.mac.0 c.args.own.0 c.args.target_mac.0 c.args.target.0 c.args.operation (omega arith) (omega arith) (omega arith) (omega arith) (omega arith)
+    parts_are c.args.to.0 c.args.mac.0 c.args.own.0 c.args.target_mac.0 c.args.target.0 c.args.operation (omega arith) (omega arith)
+    (omega arith) (omega arith) (omega arith)
     (omega arith)

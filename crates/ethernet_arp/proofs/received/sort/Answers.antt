@@ -1,4 +1,5 @@
-use Rattle.ethernet_arp.proofs.Prelude.{◌≡◌, ◌||◌, true, if◌then◌else◌, List, ℕ, [], drop, take, length, ◌-◌, subst, ap, sym, ◌∙◌, take_rest, bytes_eq, word_at, broadcast, mac_at, payload_brings, host_of, came_of}
+use Rattle.ethernet_arp.proofs.Prelude.{◌≡◌, ◌||◌, true, if◌then◌else◌, List, ℕ, [], drop, take, length, ◌-◌, subst, ap, sym, ◌∙◌}
+use Rattle.ethernet_arp.proofs.Prelude.{take_rest, bytes_eq, word_at, broadcast, mac_at, payload_brings, host_of, came_of}
 use Rattle.ethernet_arp.proofs.received.sort.Goals as goal
 
 pub returns-then-is_for-clause-decodes : goal.returns-then-is_for-clause-decodes

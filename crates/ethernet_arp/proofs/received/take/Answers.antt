@@ -1,4 +1,5 @@
-use Rattle.ethernet_arp.proofs.Prelude.{◌≡◌, ◌++◌, List, Some, length, length-drop, refl, arith, ap, sym, ◌∙◌, subst, MediumInput, acts_among, Host, arp_reply, Act, Asked, Pair, Replied, Knows, in_table, IsTaught, Arp}
+use Rattle.ethernet_arp.proofs.Prelude.{◌≡◌, ◌++◌, List, Some, length, length-drop, refl, arith, ap, sym, ◌∙◌, subst, MediumInput}
+use Rattle.ethernet_arp.proofs.Prelude.{acts_among, Host, arp_reply, Act, Asked, Pair, Replied, Knows, in_table, IsTaught, Arp}
 use Rattle.ethernet_arp.proofs.received.take.Goals as goal
 
 pub returns-in-Datagram-clause-reported : goal.returns-in-Datagram-clause-reported
@@ -32,7 +33,8 @@ returns-in-Replied-clause-knows c = λ acts k.
     (c.learn-in-Replied.ensures.knows (Replied pair) acts refl k)
 
 -- the pair of an act that taught it
-knows_pair : (new : Arp) (reported pair : Pair) → in_table new reported.addr ≡ Some reported.mac → Some reported ≡ Some pair → in_table new pair.addr ≡ Some pair.mac
+knows_pair : (new : Arp) (reported pair : Pair) → in_table new reported.addr ≡ Some reported.mac → Some reported ≡ Some pair
+    → in_table new pair.addr ≡ Some pair.mac
 knows_pair new reported pair e is = let same : reported ≡ pair = cc in subst (λ (p : Pair). in_table new p.addr ≡ Some p.mac) same e
 
 pub returns-in-Nothing-clause-table : goal.returns-in-Nothing-clause-table

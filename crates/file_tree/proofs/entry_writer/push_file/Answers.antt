@@ -9,5 +9,6 @@ returns-clause-file c =
     let old = c.args.image.now.items in
     ap (λ x. file_in x c.place_at.result) c.in_ok-push_entry.ensures
     ∙ ap (file_in (old ++ entry version file)) c.place_at.ensures
-    ∙ ap (λ s. file_in (old ++ entry version file) (place_after version s (length file.name) (length file.kind) (length file.content))) (c.len-start.ensures ∙ c.args.image.now.ok.0)
+    ∙ ap (λ s. file_in (old ++ entry version file) (place_after version s (length file.name) (length file.kind) (length file.content)))
+    (c.len-start.ensures ∙ c.args.image.now.ok.0)
     ∙ (written version old file c.requires.kind).file_is

@@ -7,12 +7,14 @@ pub returns-in-Ok-clause-found : goal.returns-in-Ok-clause-found
 returns-in-Ok-clause-found c =
     let files = files_in c.args.image.now c.args.files.now in
     let id = id_at c.args.order.now c.in-Ok.rank in
-    ap (option_map (λ (f : File). f.name)) (slice_get-get_or files id (record { name = []; kind = []; content = [] }) (c.requires.order_is.ids c.in-Ok.rank c.in-Ok.ensures.found.0))
+    ap (option_map (λ (f : File). f.name)) (slice_get-get_or files id (record { name = []; kind = []; content = [] })
+    (c.requires.order_is.ids c.in-Ok.rank c.in-Ok.ensures.found.0))
     ∙ ap Some c.in-Ok.ensures.found.1
 
 pub returns-in-Ok-clause-there : goal.returns-in-Ok-clause-there
 returns-in-Ok-clause-there c =
-    sym (found-name (files_in c.args.image.now c.args.files.now) c.args.order.now c.args.name.now c.in-Ok.rank c.requires.order_is c.in-Ok.ensures.found.0 c.in-Ok.ensures.found.1)
+    sym (found-name (files_in c.args.image.now c.args.files.now) c.args.order.now c.args.name.now c.in-Ok.rank c.requires.order_is
+    c.in-Ok.ensures.found.0 c.in-Ok.ensures.found.1)
 
 pub returns-in-Ok-clause-file : goal.returns-in-Ok-clause-file
 returns-in-Ok-clause-file c =

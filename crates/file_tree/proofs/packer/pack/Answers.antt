@@ -1,4 +1,6 @@
-use Rattle.file_tree.proofs.Prelude.{◌≡◌, ◌≤◌, [], length, Ok, Err, ap, sym, subst, ◌∙◌, arith, err_from_is_err_and, length-map, LONGEST_IMAGE, MOST_FILES, One, image, scripts, read_image, files_in, Fails, HeldFile, file_of, listed, named, packed}
+use Rattle.file_tree.proofs.Prelude.{◌≡◌, ◌≤◌, [], length, Ok, Err, ap, sym, subst, ◌∙◌, arith, err_from_is_err_and, length-map}
+use Rattle.file_tree.proofs.Prelude.{LONGEST_IMAGE, MOST_FILES, One, image, scripts, read_image, files_in, Fails, HeldFile, file_of, listed}
+use Rattle.file_tree.proofs.Prelude.{named, packed}
 use Rattle.file_tree.proofs.PackLemmas.{fine}
 use Rattle.file_tree.proofs.PackedLemmas.{packed-long, packed-many, packed-names, packed-scripts, packed-reads, are-listed}
 use Rattle.file_tree.proofs.ReadLemmas.{gives-fault, gives-same}
@@ -32,7 +34,8 @@ returns-in_err-push_all-clause-exact c =
 -- the scripts of the list, as they were measured
 measured : (c : After-measure) → c.measure.result ≡ scripts (listed c.args.list.now) 0 (listed c.args.list.now)
 measured c =
-    let files_are = ap (λ x. files_in x c.deref_mut.result.now) c.deref.ensures.value ∙ ap (files_in c.push_all.new.draft.image.items) c.deref_mut.ensures.value ∙ c.in_ok-push_all.ensures.files in
+    let files_are = ap (λ x. files_in x c.deref_mut.result.now) c.deref.ensures.value ∙ ap (files_in c.push_all.new.draft.image.items)
+    c.deref_mut.ensures.value ∙ c.in_ok-push_all.ensures.files in
     c.measure.ensures.scripts ∙ ap (λ fs. scripts fs 0 fs) files_are
 
 pub returns-in_err-measure-clause-exact : goal.returns-in_err-measure-clause-exact
@@ -48,7 +51,8 @@ pub returns-clause-exact : goal.returns-clause-exact
 returns-clause-exact c =
     let files = listed c.args.list.now in
     let at = (goal.at.returns-clause-exact c).Else-list-gt-MOST_FILES in
-    packed-scripts files fine (size at) (few at) c.in_ok-push_all.ensures.names (sym c.in_ok-measure.was ∙ measured (goal.at.returns-clause-exact c).After-measure)
+    packed-scripts files fine (size at) (few at) c.in_ok-push_all.ensures.names (sym c.in_ok-measure.was
+    ∙ measured (goal.at.returns-clause-exact c).After-measure)
     ∙ ap Ok (sym c.in_ok-push_all.ensures.image)
 
 pub returns-clause-reads : goal.returns-clause-reads
@@ -56,4 +60,5 @@ returns-clause-reads c =
     let files = listed c.args.list.now in
     let at = (goal.at.returns-clause-reads c).Else-list-gt-MOST_FILES in
     ap read_image c.in_ok-push_all.ensures.image
-    ∙ packed-reads files (are-listed c.args.list.now) (size at) (few at) c.in_ok-push_all.ensures.names (sym (measured (goal.at.returns-clause-reads c).After-measure) ∙ c.in_ok-measure.was)
+    ∙ packed-reads files (are-listed c.args.list.now) (size at) (few at) c.in_ok-push_all.ensures.names
+    (sym (measured (goal.at.returns-clause-reads c).After-measure) ∙ c.in_ok-measure.was)

@@ -6,7 +6,8 @@ use Rattle.file_tree.proofs.pages.included_len.Goals.{In-Ok}
 
 pub returns-in-Ok-clause-missing : goal.returns-in-Ok-clause-missing
 returns-in-Ok-clause-missing c =
-    found-name (files_in c.args.image.now c.args.files.now) c.args.order.now c.args.name.now c.in-Ok.rank c.requires.table.order_is c.in-Ok.ensures.found.0 c.in-Ok.ensures.found.1
+    found-name (files_in c.args.image.now c.args.files.now) c.args.order.now c.args.name.now c.in-Ok.rank c.requires.table.order_is
+    c.in-Ok.ensures.found.0 c.in-Ok.ensures.found.1
 
 -- the id that was found is that of a file
 found-id : (c : In-Ok) → id_at c.args.order.now c.in-Ok.rank < length c.args.files.now

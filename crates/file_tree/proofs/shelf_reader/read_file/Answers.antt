@@ -13,8 +13,10 @@ returns-clause-bytes g c =
           loading-full c.args.limit held c.args.name.now bytes c.loop-block.invariant.prefix
           (omega (arith, short, w.loop-block-test.false, c.len.ensures, c.loop-block.bytes.ok.0))
       | then-loop-block-test+in-Ok+then-count-eq0 w ↦
-          loading-stops c.args.limit held (g.H.Shelf.held c.loop-block.shelf) (g.H.Shelf.faults c.args.shelf.now) (g.H.Shelf.faults c.loop-block.shelf) c.args.name.now bytes w.read.new.buf
-          w.len-in-loop-block-2.result w.in-Ok.count c.loop-block.invariant w.in-Ok.ensures.bytes (w.len-in-loop-block-2.ensures ∙ c.loop-block.bytes.ok.0) w.if-count-eq0.true
+          loading-stops c.args.limit held (g.H.Shelf.held c.loop-block.shelf) (g.H.Shelf.faults c.args.shelf.now)
+          (g.H.Shelf.faults c.loop-block.shelf) c.args.name.now bytes w.read.new.buf
+          w.len-in-loop-block-2.result w.in-Ok.count c.loop-block.invariant w.in-Ok.ensures.bytes (w.len-in-loop-block-2.ensures
+          ∙ c.loop-block.bytes.ok.0) w.if-count-eq0.true
     ]
 
 pub loop-block-preserved : goal.loop-block-preserved
@@ -24,4 +26,14 @@ loop-block-preserved g c =
     (g.H.Shelf.faults c.args.shelf.now) (g.H.Shelf.faults c.loop-block.shelf) (g.H.Shelf.faults c.read.new.self) c.args.name.now
     bytes c.read.new.buf (drop c.min-room.result c.loop-block.block) c.extend_from_slice.new.self.items c.len-in-loop-block-2.result c.in-Ok.count
     c.loop-block.invariant c.in-Ok.ensures.bytes (c.len-in-loop-block-2.ensures ∙ c.loop-block.bytes.ok.0) c.in-Ok.ensures.within
-    (omega (arith, c.in-Ok.ensures.within, c.read.auto.buf, length-take c.min-room.result c.loop-block.block, c.min-room.ensures, c.len-in-loop-block.ensures, c.loop-block.bytes.ok.0, c.len.ensures, c.loop-block-test.true)) c.read.ensures.kept c.in-Ok.ensures.cause.same c.in_ok-extend_from_slice.ensures.items
+    (omega (
+      arith,
+      c.in-Ok.ensures.within,
+      c.read.auto.buf,
+      length-take c.min-room.result c.loop-block.block,
+      c.min-room.ensures,
+      c.len-in-loop-block.ensures,
+      c.loop-block.bytes.ok.0,
+      c.len.ensures,
+      c.loop-block-test.true,
+    )) c.read.ensures.kept c.in-Ok.ensures.cause.same c.in_ok-extend_from_slice.ensures.items

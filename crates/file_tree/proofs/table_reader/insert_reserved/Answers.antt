@@ -8,6 +8,7 @@ loop-at-preserved c =
       omega (arith, c.loop-at-test.true),
       omega (arith, c.loop-at.invariant.1),
       c.swap.ensures.items
-          ∙ moved-down c.args.order.now.items c.loop-at.order.items at c.args.id (omega (arith, c.loop-at-test.true)) c.loop-at.invariant.1 c.loop-at.invariant.2,
+          ∙ moved-down c.args.order.now.items c.loop-at.order.items at c.args.id (omega (arith, c.loop-at-test.true)) c.loop-at.invariant.1
+          c.loop-at.invariant.2,
       c.swap.ensures.capacity ∙ c.loop-at.invariant.3,
     )

@@ -1,4 +1,5 @@
-use Rattle.file_tree.proofs.Prelude.{◌≡◌, ◌+◌, drop, ap, sym, subst, ◌∙◌, false, Some, slice_range, err_from_is_err_and, has_name, text, after_text, kind_given, after_kind, IsPart, files_in, IsEntry}
+use Rattle.file_tree.proofs.Prelude.{◌≡◌, ◌+◌, drop, ap, sym, subst, ◌∙◌, false, Some, slice_range, err_from_is_err_and, has_name, text}
+use Rattle.file_tree.proofs.Prelude.{after_text, kind_given, after_kind, IsPart, files_in, IsEntry}
 use Rattle.file_tree.proofs.OrderLemmas.{found-name, slot-fresh}
 use Rattle.file_tree.proofs.EntryLemmas.{fault-twice, fault-kind, fault-content, entry-by-parts}
 use Rattle.file_tree.proofs.table_reader.read_entry.Goals as goal
@@ -11,7 +12,8 @@ returns-in_default-clause-err c =
     let part : IsPart c.args.image.now name (text bytes) (after_text bytes) = (c.in_ok-name.ensures.ok).1 in
     let found = c.in_default.ensures.found in
     fault-twice c.args.version (files_in c.args.image.now c.args.files.now) bytes (c.in_ok-name.ensures.ok).0
-    (found-name (files_in c.args.image.now c.args.files.now) c.args.order.now (text bytes) c.in_default.field-0 c.requires.order found.0 (found.1 ∙ part.value_is))
+    (found-name (files_in c.args.image.now c.args.files.now) c.args.order.now (text bytes) c.in_default.field-0 c.requires.order found.0
+    (found.1 ∙ part.value_is))
 
 -- no earlier file has the name
 fresh : (c : In-Err) → has_name (files_in c.args.image.now c.args.files.now) (text (drop c.args.at c.args.image.now)) ≡ false
@@ -40,8 +42,10 @@ returns-in_err-content-clause-err c =
     let part : IsPart c.args.image.now c.in_ok-name.name (text bytes) (after_text bytes) = (c.in_ok-name.ensures.ok).1 in
     let kind : IsPart c.args.image.now c.in_ok-kind.kind (kind_given c.args.version rest) (after_kind c.args.version rest) = (c.in_ok-kind.ensures.ok).1 in
     rw (p.1, p.2)
-    (fault-content c.args.version (files_in c.args.image.now c.args.files.now) bytes (Some c.in_err-content.field-0.0) rest (drop c.in_ok-kind.kind.next c.args.image.now)
-    (c.in_ok-name.ensures.ok).0 (fresh (goal.at.returns-in_err-content-clause-err c).In-Err) part.rest_is (c.in_ok-kind.ensures.ok).0 kind.rest_is c.in_err-content.ensures.err)
+    (fault-content c.args.version (files_in c.args.image.now c.args.files.now) bytes (Some c.in_err-content.field-0.0) rest
+    (drop c.in_ok-kind.kind.next c.args.image.now)
+    (c.in_ok-name.ensures.ok).0 (fresh (goal.at.returns-in_err-content-clause-err c).In-Err) part.rest_is (c.in_ok-kind.ensures.ok).0
+    kind.rest_is c.in_err-content.ensures.err)
 
 pub returns-clause-ok : goal.returns-clause-ok
 returns-clause-ok c =
@@ -49,5 +53,6 @@ returns-clause-ok c =
     c.in_ok-name.name c.in_ok-kind.kind c.in_ok-content.content c.in-Err.slot c.requires.order
     (c.in_ok-name.ensures.ok).0 (c.in_ok-name.ensures.ok).1 c.in-Err.ensures.missing
     (c.in_ok-kind.ensures.ok).0 (c.in_ok-kind.ensures.ok).1 (c.in_ok-content.ensures.ok).0 (c.in_ok-content.ensures.ok).1 in
-    subst (λ place. IsEntry c.args.image.now c.args.version (files_in c.args.image.now c.args.files.now) c.args.order.now c.args.at place c.in-Err.slot c.in_ok-content.content.next)
+    subst (λ place. IsEntry c.args.image.now c.args.version (files_in c.args.image.now c.args.files.now) c.args.order.now c.args.at place
+    c.in-Err.slot c.in_ok-content.content.next)
     (sym c.place_of.ensures) made

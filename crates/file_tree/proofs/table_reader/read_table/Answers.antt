@@ -1,4 +1,6 @@
-use Rattle.file_tree.proofs.Prelude.{◌≡◌, [], List, ◌++◌, length, take, drop, Ok, Err, ap, sym, subst, ◌∙◌, arith, err_from_is_err_and, take_at, length-drop, length-map, Place, entries, scripts, read_image, file_in, files_in, Fails, IsIndex, AreMeasured, image-reads}
+use Rattle.file_tree.proofs.Prelude.{◌≡◌, [], List, ◌++◌, length, take, drop, Ok, Err, ap, sym, subst, ◌∙◌, arith, err_from_is_err_and}
+use Rattle.file_tree.proofs.Prelude.{take_at, length-drop, length-map, Place, entries, scripts, read_image, file_in, files_in, Fails}
+use Rattle.file_tree.proofs.Prelude.{IsIndex, AreMeasured, image-reads}
 use Rattle.file_tree.proofs.ReadLemmas.{read-at-head, read-at-entries, read-at-rest, read-at-end, image-files-are, gives-fault, gives-same}
 use Rattle.file_tree.proofs.GoodLemmas.{image-good, image-apart}
 use Rattle.file_tree.proofs.table_reader.read_table.Goals as goal
@@ -13,7 +15,8 @@ returns-in_err-version-clause-exact c =
 pub returns-in_err-table-clause-exact : goal.returns-in_err-table-clause-exact
 returns-in_err-table-clause-exact c =
     let p = err_from_is_err_and c.from_residual-in_err-table.result c.from_residual-in_err-table.ensures.1 in
-    gives-same _ c.from_residual-in_err-table.result p.0 (entries c.in_ok-version.version c.in_ok-version.count [] (drop 10 c.args.image.now)) (read_image c.args.image.now) p.1
+    gives-same _ c.from_residual-in_err-table.result p.0 (entries c.in_ok-version.version c.in_ok-version.count []
+    (drop 10 c.args.image.now)) (read_image c.args.image.now) p.1
     (subst (λ f. Fails f (entries c.in_ok-version.version c.in_ok-version.count [] (drop 10 c.args.image.now))) (sym p.2) c.in_err-table.ensures.err)
     (λ e h. read-at-entries c.args.image.now (c.in_ok-version.version, c.in_ok-version.count) e (sym c.in_ok-version.ensures.head) h)
 
@@ -73,11 +76,13 @@ returns-clause-loaded c =
     let count = c.in_ok-table.ensures.count_is in
     let few = c.in_ok-version.ensures.few in
     let counted : length (places c) ≡ length c.in_ok-table.table.files.items =
-    ap length (places-are c) ∙ sym (length-map c.measure.new.files (file_in image)) ∙ ap length (same-files c) ∙ length-map c.in_ok-table.table.files.items (file_in image) in
+    ap length (places-are c) ∙ sym (length-map c.measure.new.files (file_in image)) ∙ ap length (same-files c)
+    ∙ length-map c.in_ok-table.table.files.items (file_in image) in
     record {
       read = image-files-are image (files_in image (places c)) (omega (arith, size.0)) (is-read c);
       good = image-good image (files_in image (places c)) (image-reads image (files_in image (places c)) (λ i. omega (arith, c.type_inv.image i)) (is-read c));
-      apart = image-apart image (files_in image (places c)) (image-reads image (files_in image (places c)) (λ i. omega (arith, c.type_inv.image i)) (is-read c));
+      apart = image-apart image (files_in image (places c)) (image-reads image (files_in image (places c))
+          (λ i. omega (arith, c.type_inv.image i)) (is-read c));
       size = size.1;
       few = omega (arith, counted, count, few);
       table = subst (λ ps. IsIndex image ps c.in_ok-table.table.order.items) (sym (places-are c))

@@ -8,7 +8,8 @@ added c = record { name = c.args.file.name.now; kind = c.args.file.kind.now; con
 
 -- the places with the further one
 pushed : (c : In_ok-push) → AreWithin c.push_file.new.image.items (c.args.files.now.items ++ c.in_ok-place.place ∷ [])
-    × (files_in c.push_file.new.image.items (c.args.files.now.items ++ c.in_ok-place.place ∷ []) ≡ files_in c.args.image.now.items c.args.files.now.items ++ added c ∷ [])
+    × (files_in c.push_file.new.image.items (c.args.files.now.items ++ c.in_ok-place.place ∷ []) ≡ files_in c.args.image.now.items
+    c.args.files.now.items ++ added c ∷ [])
 pushed c =
     file-push c.args.image.now.items c.push_file.new.image.items (entry Two (added c)) c.args.files.now.items c.in_ok-place.place (added c)
     c.in_ok-place.ensures.items c.requires.within c.in_ok-place.ensures.place c.in_ok-place.ensures.file

@@ -1,4 +1,6 @@
-use Rattle.file_tree.proofs.Prelude.{◌≡◌, ◌≤◌, length, Ok, Err, ap, sym, subst, ◌∙◌, arith, nat_lt, err_from_is_err_and, length-map, LONGEST_IMAGE, TooLong, Two, image, refuse, scripts, read_image, file_in, files_in, Fails, IsIndex, SiteContent, IsLoaded, files_of, upgraded, second_image}
+use Rattle.file_tree.proofs.Prelude.{◌≡◌, ◌≤◌, length, Ok, Err, ap, sym, subst, ◌∙◌, arith, nat_lt, err_from_is_err_and, length-map}
+use Rattle.file_tree.proofs.Prelude.{LONGEST_IMAGE, TooLong, Two, image, refuse, scripts, read_image, file_in, files_in, Fails, IsIndex}
+use Rattle.file_tree.proofs.Prelude.{SiteContent, IsLoaded, files_of, upgraded, second_image}
 use Rattle.file_tree.proofs.UpgradeLemmas.{table-upgraded, second-long, second-scripts, second-reads}
 use Rattle.file_tree.proofs.ReadLemmas.{gives-fault, gives-same}
 use Rattle.file_tree.proofs.upgrader.upgrade.Goals as goal
@@ -32,9 +34,11 @@ measure-requires-clause-table c =
     c.in_ok-push_new_files.ensures.within c.in_ok-push_new_files.ensures.files)))
 
 -- the scripts of the new list, as they were measured
-measured : (c : After-measure) → c.measure.result ≡ scripts (upgraded c.args.words.now (files_of c.args.site.now)) 0 (upgraded c.args.words.now (files_of c.args.site.now))
+measured : (c : After-measure) → c.measure.result ≡ scripts (upgraded c.args.words.now (files_of c.args.site.now)) 0
+    (upgraded c.args.words.now (files_of c.args.site.now))
 measured c =
-    let files_are = ap (λ x. files_in x c.deref_mut.result.now) c.deref.ensures.value ∙ ap (files_in c.push_new_files.new.image.items) c.deref_mut.ensures.value ∙ c.in_ok-push_new_files.ensures.files in
+    let files_are = ap (λ x. files_in x c.deref_mut.result.now) c.deref.ensures.value ∙ ap (files_in c.push_new_files.new.image.items)
+    c.deref_mut.ensures.value ∙ c.in_ok-push_new_files.ensures.files in
     c.measure.ensures.scripts ∙ ap (λ fs. scripts fs 0 fs) files_are
 
 size : (c : In_ok-push_new_files) → length (image Two (upgraded c.args.words.now (files_of c.args.site.now))) ≤ LONGEST_IMAGE

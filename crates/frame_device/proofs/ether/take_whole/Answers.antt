@@ -1,4 +1,5 @@
-use Rattle.frame_device.proofs.Prelude.{◌≡◌, ◌∷◌, ◌∙◌, [], arith, ap, drop, length, length-drop, length-take, take, drop-take, written, Datagram, arp_reply, Asked, host_of, interface_of}
+use Rattle.frame_device.proofs.Prelude.{◌≡◌, ◌∷◌, ◌∙◌, [], arith, ap, drop, length, length-drop, length-take, take, drop-take, written}
+use Rattle.frame_device.proofs.Prelude.{Datagram, arp_reply, Asked, host_of, interface_of}
 use Rattle.frame_device.proofs.EtherLaws.{brings_payload, prefix_of, is_silent}
 use Rattle.frame_device.proofs.ether.take_whole.Goals as goal
 

@@ -1,5 +1,6 @@
 -- The last digit of what is left goes before the digits that are written.
-use Rattle.generators.proofs.Prelude.{◌+◌, ◌++◌, ◌-◌, ◌%◌, ◌/◌, ◌≡◌, ◌∙◌, ap, append-nil, arith, decimal, drop, drop_all, length-set, refl, set, sym, take}
+use Rattle.generators.proofs.Prelude.{◌+◌, ◌++◌, ◌-◌, ◌%◌, ◌/◌, ◌≡◌, ◌∙◌, ap, append-nil, arith, decimal, drop, drop_all, length-set, refl}
+use Rattle.generators.proofs.Prelude.{set, sym, take}
 use Rattle.generators.proofs.Digits.{digit_put, fewer, first_put, kept_put, ten_most}
 use Rattle.generators.proofs.numbers.put_digits.Goals as goal
 
@@ -25,7 +26,8 @@ loop-left-preserved c =
     record {
       digits =
           ap (λ k. decimal (c.loop-left.left / 10) ++ drop k (set c.loop-left.places c.loop-left.at (48 + c.loop-left.left % 10))) same
-          ∙ digit_put c.loop-left.left c.loop-left.at c.loop-left.places c.loop-left-test.true (omega arith) (omega (arith, c.loop-left.invariant.low, c.loop-left.invariant.long))
+          ∙ digit_put c.loop-left.left c.loop-left.at c.loop-left.places c.loop-left-test.true (omega arith)
+          (omega (arith, c.loop-left.invariant.low, c.loop-left.invariant.long))
           ∙ c.loop-left.invariant.digits;
       room = omega (arith, c.loop-left.invariant.room, more);
       low = omega (arith, c.loop-left.invariant.low);

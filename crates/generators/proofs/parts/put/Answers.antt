@@ -6,4 +6,5 @@ use Rattle.generators.proofs.Pasting.{put_holds}
 pub returns-clause-part : goal.returns-clause-part
 returns-clause-part c = λ text h.
     rw c.paste.ensures
-    (put_holds text c.args.piece.now c.args.out.now c.args.place c.min-from.result c.min-to.result c.min-count.result (omega arith) (omega arith) c.min-count.ensures h)
+    (put_holds text c.args.piece.now c.args.out.now c.args.place c.min-from.result c.min-to.result c.min-count.result (omega arith)
+    (omega arith) c.min-count.ensures h)

@@ -4,7 +4,8 @@ use Rattle.generators.proofs.slices.fill_rows.Goals as goal
 
 pub fill_all-requires-clause-enough : goal.fill_all-requires-clause-enough
 fill_all-requires-clause-enough c =
-    subst (λ (text : List ℕ). c.args.at + length c.args.out.now ≤ length text) (sym (packed_text c.args.rows.now c.packed.result.now c.packed.ensures.rows)) c.requires
+    subst (λ (text : List ℕ). c.args.at + length c.args.out.now ≤ length text)
+    (sym (packed_text c.args.rows.now c.packed.result.now c.packed.ensures.rows)) c.requires
 
 pub returns : goal.returns
 returns c =

@@ -1,5 +1,6 @@
 -- One thing more.
-use Rattle.generators.proofs.Prelude.{ℕ, List, ◌++◌, ◌≡◌, ◌≤◌, ◌+◌, ◌*◌, arith, flat_map, length, length-append, take, sym, ap, ◌∙◌, mul-le-mul_left}
+use Rattle.generators.proofs.Prelude.{ℕ, List, ◌++◌, ◌≡◌, ◌≤◌, ◌+◌, ◌*◌, arith, flat_map, length, length-append, take, sym, ap, ◌∙◌}
+use Rattle.generators.proofs.Prelude.{mul-le-mul_left}
 use Rattle.generators.proofs.written.put_all.Goals as goal
 use Rattle.generators.proofs.Pasting.{flat_map_next, holds_joined}
 
@@ -14,7 +15,8 @@ loop-item-preserved g c =
     let before : List ℕ = flat_map g.T.Written.text (take c.loop-item.item-index c.args.items.now) in
     let own : List ℕ = g.T.Written.text c.item-item.result in
     let next : List ℕ = flat_map g.T.Written.text (take (c.loop-item.item-index + 1) c.args.items.now) in
-    let joined : before ++ own ≡ next = flat_map_next g.T.Written.text c.args.items.now c.loop-item.item-index c.item-item.result c.loop-item-test.true c.item-item.is in
+    let joined : before ++ own ≡ next = flat_map_next g.T.Written.text c.args.items.now c.loop-item.item-index c.item-item.result
+    c.loop-item-test.true c.item-item.is in
     let long : length next ≡ length before + length own = sym (ap length joined) ∙ length-append before own in
     record {
       at = c.put_needed-come.ensures.at ∙ c.loop-item.invariant.at;

@@ -16,7 +16,9 @@ returns g c =
       counts = record { net = inside.net; ticks = inside.ticks; ident = inside.ident };
       shared = inside.shared;
     } in
-    then_arrives g.A.App (λ n. gives_up (connection_in c.args.slot n)) c.args.head.now c.args.seg.now c.args.node.now c.give_up.new.node (record view { packet = c.set_len.new.self }) c.segment_arrives.new.self c.segment_arrives.result
+    then_arrives g.A.App (λ n. gives_up (connection_in c.args.slot n)) c.args.head.now c.args.seg.now c.args.node.now c.give_up.new.node
+    (record view { packet = c.set_len.new.self }) c.segment_arrives.new.self c.segment_arrives.result
     c.give_up.ensures
-    (with_len view c.give_up.new.node c.args.node.now c.set_len.new.self (length c.bytes-len.result.now) c.node-2.view_is c.set_len.ensures (ap length (c.bytes-len.ensures ∙ ap (λ x. datagram_in x.packet) c.node.view_is)))
+    (with_len view c.give_up.new.node c.args.node.now c.set_len.new.self (length c.bytes-len.result.now) c.node-2.view_is c.set_len.ensures
+    (ap length (c.bytes-len.ensures ∙ ap (λ x. datagram_in x.packet) c.node.view_is)))
     c.segment_arrives.ensures.refines

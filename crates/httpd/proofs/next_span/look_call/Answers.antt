@@ -1,4 +1,5 @@
-use Rattle.httpd.proofs.Prelude.{◌+◌, ◌∙◌, sym, subst, ap, if◌then◌else◌, script_functions, Body, Made, silent_text, silent_end, body_from, calls_in, left_from, reply_by, Fits}
+use Rattle.httpd.proofs.Prelude.{◌+◌, ◌∙◌, sym, subst, ap, if◌then◌else◌, script_functions, Body, Made, silent_text, silent_end, body_from}
+use Rattle.httpd.proofs.Prelude.{calls_in, left_from, reply_by, Fits}
 use Rattle.httpd.proofs.Seeing.{keeps_all, nothing_seen}
 use Rattle.httpd.proofs.next_span.look_call.Goals as goal
 

@@ -1,4 +1,5 @@
-use Rattle.httpd.proofs.Prelude.{[], ◌∷◌, sym, ap, subst, arith, bytes_or, Plain, script_functions, body_from, left_from, reply_by, Fits, Body, Inside, Sees}
+use Rattle.httpd.proofs.Prelude.{[], ◌∷◌, sym, ap, subst, arith, bytes_or, Plain, script_functions, body_from, left_from, reply_by, Fits}
+use Rattle.httpd.proofs.Prelude.{Body, Inside, Sees}
 use Rattle.httpd.proofs.Seeing.{keeps_all, leads_first, nothing_seen}
 use Rattle.httpd.proofs.next_span.look_include.Goals as goal
 
@@ -14,7 +15,8 @@ pub returns-clause-sees : goal.returns-clause-sees
 unfolding left_from
 returns-clause-sees g c =
     let r = reply_by (script_functions g.R.Function.Calls.calling g.R.CallRecord.output) g.R.CallRecord.text c.args.site.now c.args.found c.args.capture.now in
-    subst (λ o. Sees g.R.CallRecord.text r (Plain (bytes_or [] o) ∷ body_from r c.args.next) c.look_inside.result) c.in-Some.ensures.file c.look_inside.ensures.sees
+    subst (λ o. Sees g.R.CallRecord.text r (Plain (bytes_or [] o) ∷ body_from r c.args.next) c.look_inside.result) c.in-Some.ensures.file
+    c.look_inside.ensures.sees
 
 pub returns-in_default-clause-sees : goal.returns-in_default-clause-sees
 unfolding left_from Fits

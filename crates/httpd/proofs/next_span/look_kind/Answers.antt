@@ -7,7 +7,8 @@ pub returns-clause-sees : goal.returns-clause-sees
 unfolding Fits
 returns-clause-sees g c =
     let r = reply_by (script_functions g.R.Function.Calls.calling g.R.CallRecord.output) g.R.CallRecord.text c.args.site.now c.args.found c.args.capture.now in
-    kind_seen g.R.CallRecord.text r c.args.at (span.Line c.kind_of.result c.args.at) c.requires.fits (subst (λ xs. length xs ≤ 64) c.kind_of.ensures.text c.kind_of.ensures.short)
+    kind_seen g.R.CallRecord.text r c.args.at (span.Line c.kind_of.result c.args.at) c.requires.fits
+    (subst (λ xs. length xs ≤ 64) c.kind_of.ensures.text c.kind_of.ensures.short)
     (record {
       plain = tt;
       text = ap (λ xs. drop c.args.at (kind_line xs)) c.kind_of.ensures.text;

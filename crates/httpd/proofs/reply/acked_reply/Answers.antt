@@ -5,8 +5,10 @@ use Rattle.httpd.proofs.reply.acked_reply.Goals as goal
 
 pub loop-left-preserved : goal.loop-left-preserved
 loop-left-preserved g c = (
-  acked_on g.R.CallRecord.text (reply_by (script_functions g.R.Function.Calls.calling g.R.CallRecord.output) g.R.CallRecord.text c.args.site.now c.args.found c.args.capture.now) c.args.thread c.loop-left.place c.args.count c.loop-left.left c.span_len-len.result c.look-seen.result
-      c.requires.enough c.loop-left.invariant.0 c.loop-left.invariant.1 c.loop-left-test.true c.look-seen.ensures.sees c.span_len-len.ensures.length c.if-left-len.false,
+  acked_on g.R.CallRecord.text (reply_by (script_functions g.R.Function.Calls.calling g.R.CallRecord.output) g.R.CallRecord.text
+      c.args.site.now c.args.found c.args.capture.now) c.args.thread c.loop-left.place c.args.count c.loop-left.left c.span_len-len.result c.look-seen.result
+      c.requires.enough c.loop-left.invariant.0 c.loop-left.invariant.1 c.loop-left-test.true c.look-seen.ensures.sees
+      c.span_len-len.ensures.length c.if-left-len.false,
   omega (arith, c.loop-left.invariant.1),
 )
 

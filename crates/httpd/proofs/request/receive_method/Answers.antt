@@ -14,8 +14,10 @@ returns-then-not-is_get c = λ request is.
 
 pub returns : goal.returns
 returns c = λ request is.
-    let begins = target_begins c.args.line.now c.feed-count.new.line request c.args.piece.now c.feed-count.result is c.feed-count.ensures.after c.feed-count.ensures.taken
+    let begins = target_begins c.args.line.now c.feed-count.new.line request c.args.piece.now c.feed-count.result is
+    c.feed-count.ensures.after c.feed-count.ensures.taken
     (sym c.done.ensures ∙ c.if-not-done.false) (sym c.is_get.ensures ∙ c.if-not-is_get.false) in
     subst (λ bytes. ReceivesTo c.receive_target.result c.receive_target.new.line bytes)
     (ap (λ rest. (request ++ prefix_of c.args.piece.now) ++ rest) (take_rest c.args.piece.now c.feed-count.result) ∙ begins.joined)
-    (c.receive_target.ensures (request ++ prefix_of c.args.piece.now) (subst (λ l. ReceivesTarget l (request ++ prefix_of c.args.piece.now)) (sym c.new.ensures) begins.received))
+    (c.receive_target.ensures (request ++ prefix_of c.args.piece.now) (subst (λ l. ReceivesTarget l (request ++ prefix_of c.args.piece.now))
+    (sym c.new.ensures) begins.received))

@@ -7,7 +7,8 @@ pub returns-clause-place : goal.returns-clause-place
 returns-clause-place g c =
     found_place (files_of c.args.site.now) c.see_loaded.ensures.apart c.args.name.now c.find.result c.find.ensures.found c.find.ensures.there
 
-there : (files : List File) (name : List ℕ) (o : Option FileId) → IfSome o (λ id. option_map (λ (file : File). file.name) (slice_get files id.0) ≡ Some name) → IsFound files o
+there : (files : List File) (name : List ℕ) (o : Option FileId)
+    → IfSome o (λ id. option_map (λ (file : File). file.name) (slice_get files id.0) ≡ Some name) → IsFound files o
 there files name None named = tt
 there files name (Some id) named = named_within files id.0 name named
 

@@ -8,7 +8,8 @@ slice_bounds-fate_of-count c =
 
 pub slice_bounds-fate_of-start : goal.slice_bounds-fate_of-start
 slice_bounds-fate_of-start c =
-    let facts = head_facts c.args.head.now (datagram_in c.args.packet.now) c.requires in omega (arith, facts.least, facts.most, ap length c.bytes-datagram.ensures)
+    let facts = head_facts c.args.head.now (datagram_in c.args.packet.now) c.requires in
+    omega (arith, facts.least, facts.most, ap length c.bytes-datagram.ensures)
 
 pub slice_bounds-fate_of-end : goal.slice_bounds-fate_of-end
 slice_bounds-fate_of-end c =

@@ -1,5 +1,6 @@
 -- The text is at its offset, and all after it is unchanged.
-use Rattle.link_client.proofs.Prelude.{ℕ, ◌≡◌, ◌+◌, ◌-◌, ◌≤◌, List, ◌++◌, take, drop, length, slice_range, ap, ◌∙◌, arith, drop_at, length-take-le, drop-put_mid, take-append_seam}
+use Rattle.link_client.proofs.Prelude.{ℕ, ◌≡◌, ◌+◌, ◌-◌, ◌≤◌, List, ◌++◌, take, drop, length, slice_range, ap, ◌∙◌, arith, drop_at}
+use Rattle.link_client.proofs.Prelude.{length-take-le, drop-put_mid, take-append_seam}
 use borrow.Rule.Slice.PartMut.{post_of, put_mid}
 use Rattle.link_client.proofs.output.put_text.Goals as goal
 

@@ -12,7 +12,8 @@ returns-clause-replaces g c = rw (← c.node.view_is) (λ n represents. record {
   addr = represents.addr;
   slots = subst (λ k. SlotsRepresent g.H.App k c.node.inside.table.conns n.connections) (sym c.put.ensures.same) represents.slots;
   iss = represents.iss;
-  numbers_represented = c.put.ensures.numbers ∙ ap (λ (l : List ℕ). g.H.HoldsOwn.among (write_message (message_of c.args.message)) l) represents.numbers_represented;
+  numbers_represented = c.put.ensures.numbers ∙ ap (λ (l : List ℕ). g.H.HoldsOwn.among (write_message (message_of c.args.message)) l)
+      represents.numbers_represented;
   counts = represents.counts;
 })
 

@@ -3,7 +3,9 @@ use Rattle.own_node.proofs.ReadingLaws.{none_seen, nothing_pending, own_seen, pe
 use Rattle.own_node.proofs.port_status.pending.Goals as goal
 
 pub returns-in-None : goal.returns-in-None
-returns-in-None g c = λ n represents. nothing_pending (g.H.HoldsOwn.seen (connection_in c.args.slot n)) (none_seen g.H.App g.H.HoldsOwn.seen _ n _ _ _ _ represents.slots c.conn-conn.ensures c.own.ensures c.in-None.is)
+returns-in-None g c = λ n represents. nothing_pending (g.H.HoldsOwn.seen (connection_in c.args.slot n))
+    (none_seen g.H.App g.H.HoldsOwn.seen _ n _ _ _ _ represents.slots c.conn-conn.ensures c.own.ensures c.in-None.is)
 
 pub returns-in-Some : goal.returns-in-Some
-returns-in-Some g c = λ n represents. c.pending_by.ensures ∙ pending_is _ _ _ _ _ (own_seen g.H.App g.H.HoldsOwn.seen _ n _ _ _ _ represents.slots c.conn-conn.ensures c.own.ensures c.in-Some.app c.in-Some.is)
+returns-in-Some g c = λ n represents. c.pending_by.ensures ∙ pending_is _ _ _ _ _ (own_seen g.H.App g.H.HoldsOwn.seen _ n _ _ _ _
+    represents.slots c.conn-conn.ensures c.own.ensures c.in-Some.app c.in-Some.is)

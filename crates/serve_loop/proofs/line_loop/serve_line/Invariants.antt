@@ -1,4 +1,5 @@
-use Rattle.serve_loop.proofs.Prelude.{All, ◌≡◌, ◌+◌, [], List, ℕ, length, AppSpec, Item, Consumes, bytes_among, line_view, IsCalm, Addr, IsItem, station_events_of_line, AllWritten, HasTaken, IsHere}
+use Rattle.serve_loop.proofs.Prelude.{All, ◌≡◌, ◌+◌, [], List, ℕ, length, AppSpec, Item, Consumes, bytes_among, line_view, IsCalm, Addr}
+use Rattle.serve_loop.proofs.Prelude.{IsItem, station_events_of_line, AllWritten, HasTaken, IsHere}
 use Rattle.serve_loop.proofs.line_loop.serve_line.Given as goal
 
 abbrev pub invariant-loop-left : goal.invariant-loop-left

@@ -26,7 +26,8 @@ returns-in-Err-feed_bytes-clause-turns g c = λ k pace before h.
       items = map Byte bytes;
       are = All-map IsItem Byte bytes done.are;
       consumed = reported.items;
-      within = (let count : length (map Byte bytes) ≡ c.in-Ok-Bytes.count = counted c.in-Ok-Bytes.count c.next.new.buf reported.count.1 in omega (arith, count, reported.count.1, c.next.auto.buf));
+      within = (let count : length (map Byte bytes) ≡ c.in-Ok-Bytes.count = counted c.in-Ok-Bytes.count c.next.new.buf reported.count.1 in
+          omega (arith, count, reported.count.1, c.next.auto.buf));
       cause = (reported.cause.same, done.cause.failed);
       on = tt;
       wrote = done.err k pace before h;

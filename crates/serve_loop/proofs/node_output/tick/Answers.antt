@@ -16,7 +16,8 @@ loop-slot-init g c = record {
 
 pub returns-in_err-call_slot-clause-err : goal.returns-in_err-call_slot-clause-err
 returns-in_err-call_slot-clause-err g c =
-    on_err _ (slots_broke g.A.App.served g.M.Medium.spec (λ k. map OfMedium (g.M.Medium.spec k).at_tick) _ _ _ _ _ _ c.loop-slot.slot (omega arith) c.loop-slot.invariant.wrote c.in_err-call_slot.ensures.err)
+    on_err _ (slots_broke g.A.App.served g.M.Medium.spec (λ k. map OfMedium (g.M.Medium.spec k).at_tick) _ _ _ _ _ _ c.loop-slot.slot
+    (omega arith) c.loop-slot.invariant.wrote c.in_err-call_slot.ensures.err)
 
 pub loop-slot-preserved : goal.loop-slot-preserved
 loop-slot-preserved g c =
@@ -29,11 +30,13 @@ loop-slot-preserved g c =
       wrote = λ k m own.
           let acts = map OfMedium (g.M.Medium.spec k).at_tick in
           wrote_by m g.A.App.served (g.M.Medium.spec k) own _ _ _ _ _ _ (calls_after acts slot)
-          (wrote_then m g.A.App.served (g.M.Medium.spec k) own (acts ++ calls slot) (OfNode (Periodic slot) ∷ []) _ _ _ _ _ _ (inv.wrote k m own) (reported.ok k m own));
+          (wrote_then m g.A.App.served (g.M.Medium.spec k) own (acts ++ calls slot) (OfNode (Periodic slot) ∷ []) _ _ _ _ _ _
+          (inv.wrote k m own) (reported.ok k m own));
       calm = reported.cause.same ∙ inv.calm;
     }
 
 pub returns-clause-ok : goal.returns-clause-ok
 returns-clause-ok g c = λ k m own.
     let all : 10 ≡ c.loop-slot.slot = omega arith in
-    wrote_by m g.A.App.served (g.M.Medium.spec k) own _ _ _ _ _ _ (ap (λ i. map OfMedium (g.M.Medium.spec k).at_tick ++ calls i) all) (c.loop-slot.invariant.wrote k m own)
+    wrote_by m g.A.App.served (g.M.Medium.spec k) own _ _ _ _ _ _ (ap (λ i. map OfMedium (g.M.Medium.spec k).at_tick ++ calls i) all)
+    (c.loop-slot.invariant.wrote k m own)

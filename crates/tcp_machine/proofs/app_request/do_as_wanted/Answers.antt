@@ -6,7 +6,8 @@ use Rattle.tcp_machine.proofs.app_request.do_as_wanted.Goals as goal
 pub send-requires-in-Send-clause-some : goal.send-requires-in-Send-clause-some
 send-requires-in-Send-clause-some g c =
     let k = g.A.App.config c.args.shared.now in
-    let some = sends_some g.A.App.app_spec g.A.App.represents k c.args.conn.now.app (g.met.A.App.lawful c.args.conn.now.app k) (g.A.App.numbers c.args.shared.now) c.in-Send.count
+    let some = sends_some g.A.App.app_spec g.A.App.represents k c.args.conn.now.app (g.met.A.App.lawful c.args.conn.now.app k)
+    (g.A.App.numbers c.args.shared.now) c.in-Send.count
     (has_part_of g.A.App k c.args.conn.now c.requires.sound c.requires.asked.open_to_it)
     (λ p s. sym c.in-Send.is ∙ c.requires.want p s) in
     let low = (c.requires.sound.numbers (open_lives c.args.conn.now.state c.requires.asked.open_to_it)).mss_low in
@@ -20,7 +21,8 @@ returns-in-Send-clause-takes g c = record {
     says = λ _.
         let k = g.A.App.config c.args.shared.now in
         let can = can_less g.A.App.app_spec g.A.App.represents c.args.conn.now.app k c.in-Send.count c.min-len.result (omega (arith, c.min-len.ensures))
-        (can_supply_wanted g.A.App.app_spec g.A.App.represents c.args.conn.now.app k (g.A.App.numbers c.args.shared.now) c.in-Send.count (g.met.A.App.lawful c.args.conn.now.app k)
+        (can_supply_wanted g.A.App.app_spec g.A.App.represents c.args.conn.now.app k (g.A.App.numbers c.args.shared.now) c.in-Send.count
+        (g.met.A.App.lawful c.args.conn.now.app k)
         (has_part_of g.A.App k c.args.conn.now c.requires.sound c.requires.asked.open_to_it)
         (λ p s. sym c.in-Send.is ∙ c.requires.want p s)) in
         rw (c.send-in-Send.ensures.kept.app, c.send-in-Send.ensures.len) can;

@@ -9,5 +9,6 @@ is_due-requires g c = has_part_of g.A.App (g.A.App.config c.args.shared.now) c.a
 pub returns : goal.returns
 returns g c = record {
   not_due = λ e a now h.
-      ap (λ (p : AppState). record a { part = p }) (c.is_due.ensures.not_due e a.part now (h.part (sym (ap is_open h.numbers.state) ∙ c.requires.asked.open_to_it)));
+      ap (λ (p : AppState). record a { part = p })
+      (c.is_due.ensures.not_due e a.part now (h.part (sym (ap is_open h.numbers.state) ∙ c.requires.asked.open_to_it)));
 }

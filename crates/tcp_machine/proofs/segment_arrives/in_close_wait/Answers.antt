@@ -7,7 +7,8 @@ returns-then-acked g c = λ s. record {
   same = search rules;
   sound = record {
     numbers = search rules;
-    says = λ _. rw (c.set_window.ensures.kept.app, c.set_window.ensures.kept.len) (c.ack_received.ensures.sound.says (ap is_open (c.ack_received.ensures.state ∙ c.requires.state)));
+    says = λ _. rw (c.set_window.ensures.kept.app, c.set_window.ensures.kept.len)
+        (c.ack_received.ensures.sound.says (ap is_open (c.ack_received.ensures.state ∙ c.requires.state)));
   };
   place = search rules;
   fits = search rules;

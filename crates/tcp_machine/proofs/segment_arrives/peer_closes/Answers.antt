@@ -8,7 +8,8 @@ returns g c = record {
   same = search rules;
   sound = record {
     numbers = search rules;
-    says = λ _. rw (c.enter.ensures.kept.app, c.enter.ensures.kept.len) (c.receive_text.ensures.sound.says (ap is_open (c.receive_text.ensures.state ∙ c.requires.state)));
+    says = λ _. rw (c.enter.ensures.kept.app, c.enter.ensures.kept.len)
+        (c.receive_text.ensures.sound.says (ap is_open (c.receive_text.ensures.state ∙ c.requires.state)));
   };
   place = search rules;
   fits = search rules;

@@ -10,7 +10,8 @@ returns-in-Wait-clause-takes g c = record {
   place = search rules;
   fits = search rules;
   meets = λ a h.
-      wait_meets g.A.App (g.A.App.config c.args.shared.now) (g.A.App.app_spec (g.A.App.config c.args.shared.now)) c.args.conn.now c.tick.new.self a (g.A.App.numbers c.args.shared.now) c.limit_of.result
+      wait_meets g.A.App (g.A.App.config c.args.shared.now) (g.A.App.app_spec (g.A.App.config c.args.shared.now)) c.args.conn.now
+      c.tick.new.self a (g.A.App.numbers c.args.shared.now) c.limit_of.result
       h c.requires.live c.requires.out c.limit_of.ensures c.in-Wait.ensures.ages;
 }
 
@@ -38,6 +39,7 @@ returns-in-Again-clause-takes g c =
       place = search rules;
       fits = search rules;
       meets = λ a h.
-          again_meets g.A.App (g.A.App.config c.args.shared.now) (g.A.App.app_spec (g.A.App.config c.args.shared.now)) c.args.conn.now c.tick.new.self a (g.A.App.numbers c.args.shared.now) c.limit_of.result c.outstanding.result
+          again_meets g.A.App (g.A.App.config c.args.shared.now) (g.A.App.app_spec (g.A.App.config c.args.shared.now)) c.args.conn.now
+          c.tick.new.self a (g.A.App.numbers c.args.shared.now) c.limit_of.result c.outstanding.result
           h c.requires.live c.requires.out c.limit_of.ensures c.outstanding.ensures c.in-Again.ensures.ages;
     }

@@ -1,4 +1,5 @@
-use Rattle.tcp_segment.proofs.Prelude.{◌≡◌, ◌+◌, ◌-◌, ◌∙◌, length, take, drop, arith, length-take, length-drop, IfOk-weaker, head_facts, Segment}
+use Rattle.tcp_segment.proofs.Prelude.{◌≡◌, ◌+◌, ◌-◌, ◌∙◌, length, take, drop, arith, length-take, length-drop, IfOk-weaker, head_facts}
+use Rattle.tcp_segment.proofs.Prelude.{Segment}
 use Rattle.tcp_segment.proofs.received.check.Goals as goal
 
 pub slice_bounds-payload-count : goal.slice_bounds-payload-count

@@ -1,4 +1,5 @@
-use Rattle.tcp_segment.proofs.Prelude.{◌≡◌, ◌+◌, ◌++◌, ◌∙◌, ap, drop, slice_range, arith, List, ℕ, Option, IsSome, is_some, datagram_bytes, offset_of, datagram_len, datagram_of}
+use Rattle.tcp_segment.proofs.Prelude.{◌≡◌, ◌+◌, ◌++◌, ◌∙◌, ap, drop, slice_range, arith, List, ℕ, Option, IsSome, is_some, datagram_bytes}
+use Rattle.tcp_segment.proofs.Prelude.{offset_of, datagram_len, datagram_of}
 use Rattle.tcp_segment.proofs.Putting.{no_option, option_put}
 use Rattle.tcp_segment.proofs.sent.put_in.Goals as goal
 

@@ -23,5 +23,12 @@ returns-in-Err g c =
       consumed = r.consumed;
       ends = (r.within, r.calm, r.stopped.rose);
       wrote = prefix_by _ _ _ _ both (breaks_prefix _ _ _ _ r.stopped.broke);
-      some = λ is. (let some = r.stopped.broke.some in omega (arith, some, ap (λ l. length l) both, length-append (text_after c.args.form [] r.before) (text_after c.args.form r.before (map Byte r.bytes))));
+      some = λ is. (let some = r.stopped.broke.some in
+          omega (
+            arith,
+            some,
+            ap (λ l. length l) both,
+            length-append (text_after c.args.form [] r.before)
+                (text_after c.args.form r.before (map Byte r.bytes)),
+          ));
     }

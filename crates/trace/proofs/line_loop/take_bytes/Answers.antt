@@ -1,4 +1,5 @@
-use Rattle.trace.proofs.Prelude.{◌++◌, [], ◌∙◌, take, refl, sym, ap, subst, List, map, append-nil, append_assoc, arith, length-append, length-take-le, map-append, moved_on, Item, Byte}
+use Rattle.trace.proofs.Prelude.{◌++◌, [], ◌∙◌, take, refl, sym, ap, subst, List, map, append-nil, append_assoc, arith, length-append}
+use Rattle.trace.proofs.Prelude.{length-take-le, map-append, moved_on, Item, Byte}
 use Rattle.trace.proofs.line_loop.take_bytes.Goals as goal
 
 pub loop-rest-init : goal.loop-rest-init

@@ -5,7 +5,8 @@ use Rattle.udp_datagram.proofs.received.carries_udp.Goals as goal
 
 pub bounds-datagram-9 : goal.bounds-datagram-9
 bounds-datagram-9 c =
-    let w = is_whole c.args.own.0 c.args.datagram.now (ap is_of_other_protocol (sym c.check.ensures.exact ∙ c.in-Err-Protocol.is ∙ ap Err c.in-Err-Protocol.field-0-is)) in
+    let w = is_whole c.args.own.0 c.args.datagram.now (ap is_of_other_protocol (sym c.check.ensures.exact ∙ c.in-Err-Protocol.is
+    ∙ ap Err c.in-Err-Protocol.field-0-is)) in
     omega (arith, w.0, w.1)
 
 pub returns-in-Err-Protocol-clause-whole : goal.returns-in-Err-Protocol-clause-whole

@@ -1,4 +1,5 @@
-use Rattle.udp_resolver.proofs.Prelude.{◌∷◌, [], ◌+◌, ◌++◌, ◌∙◌, None, refl, sym, ap, arith, drop, get_or, length-append, drop_all, drop_more, answer_to, option_or}
+use Rattle.udp_resolver.proofs.Prelude.{◌∷◌, [], ◌+◌, ◌++◌, ◌∙◌, None, refl, sym, ap, arith, drop, get_or, length-append, drop_all}
+use Rattle.udp_resolver.proofs.Prelude.{drop_more, answer_to, option_or}
 use Rattle.udp_resolver.proofs.StepLaws.{get_seam, received_none, received_step, here, set_seam}
 use Rattle.udp_resolver.proofs.answers.receive.Goals as goal
 
@@ -21,7 +22,8 @@ loop-at-preserved c =
       prefix = inv.prefix ++ b ∷ [];
       size = length-append inv.prefix (b ∷ []) ∙ ap (λ n. n + 1) inv.size;
       answers = set_seam c.loop-at.answers inv.prefix a b (drop (at + 1) olds) at inv.size now;
-      heard = received_step c.args.datagram.now c.loop-at.asking c.next_asking-asking.result _ _ name _ _ a b _ inv.prefix named known c.next_asking-asking.ensures
+      heard = received_step c.args.datagram.now c.loop-at.asking c.next_asking-asking.result _ _ name _ _ a b _ inv.prefix named known
+          c.next_asking-asking.ensures
           (c.known_or.ensures ∙ ap (λ o. option_or o (answer_to c.loop-at.asking name c.args.datagram.now)) same) inv.heard;
     }
 
@@ -31,4 +33,5 @@ returns c =
     let at = c.loop-at.at in
     let none = drop_all at c.args.names.now c.loop-at-test.false in
     let left = drop_all at c.args.answers.now (omega (arith, c.requires, c.loop-at-test.false)) in
-    inv.answers ∙ ap (λ l. inv.prefix ++ l) (left ∙ sym (received_none c.args.datagram.now c.loop-at.asking (drop at c.args.names.now) (drop at c.args.answers.now) none)) ∙ sym inv.heard
+    inv.answers ∙ ap (λ l. inv.prefix ++ l) (left ∙ sym (received_none c.args.datagram.now c.loop-at.asking (drop at c.args.names.now)
+    (drop at c.args.answers.now) none)) ∙ sym inv.heard

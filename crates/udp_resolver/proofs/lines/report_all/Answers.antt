@@ -1,4 +1,5 @@
-use Rattle.udp_resolver.proofs.Prelude.{◌≡◌, ◌+◌, ◌++◌, ◌∙◌, None, sym, ap, drop, get_or, Appends-then, appends_by, on_err, sink_view, writes_broken, writes_by, fate_by, line_of, lines_by}
+use Rattle.udp_resolver.proofs.Prelude.{◌≡◌, ◌+◌, ◌++◌, ◌∙◌, None, sym, ap, drop, get_or, Appends-then, appends_by, on_err, sink_view}
+use Rattle.udp_resolver.proofs.Prelude.{writes_broken, writes_by, fate_by, line_of, lines_by}
 use Rattle.udp_resolver.proofs.StepLaws.{line_moves, line_some, some_moves}
 use Rattle.udp_resolver.proofs.lines.report_all.Goals as goal
 

@@ -1,4 +1,5 @@
-use Rattle.udp_resolver.proofs.Prelude.{◌++◌, refl, arith, length-append, length-take, inr, Consumes-then, calm_then, all_settled, questions, events, line_view}
+use Rattle.udp_resolver.proofs.Prelude.{◌++◌, refl, arith, length-append, length-take, inr, Consumes-then, calm_then, all_settled}
+use Rattle.udp_resolver.proofs.Prelude.{questions, events, line_view}
 use Rattle.udp_resolver.proofs.AskLaws.{added, open_by_test, stopped}
 use Rattle.udp_resolver.proofs.run.ask.Goals as goal
 
@@ -15,7 +16,8 @@ loop-asking-preserved g c =
       area = went.area;
       each = went.each;
       taken = inv.taken ++ turn.more;
-      consumed = Consumes-then (g.L.Link.coming c.args.link.now) (g.L.Link.coming c.loop-asking.link) (g.L.Link.coming c.turn.new.link) inv.taken turn.more inv.consumed turn.consumed;
+      consumed = Consumes-then (g.L.Link.coming c.args.link.now) (g.L.Link.coming c.loop-asking.link) (g.L.Link.coming c.turn.new.link)
+          inv.taken turn.more inv.consumed turn.consumed;
       number = omega (arith, length-append inv.taken turn.more, turn.cause.0, inv.number, went.fits.1, room);
       needed = inr (record { before = inv.taken; last = turn.more; whole = refl; is_open = is_open; once = turn.by.once });
       knows = turn.by.knows;

@@ -1,4 +1,5 @@
-use Rattle.udp_resolver.proofs.Prelude.{◌≡◌, ◌≤◌, ◌+◌, [], List, length, ◌⊎◌, Appends, TEXT_LIMIT, Consumes, Item, line_view, IsCalm, LARGEST_DATAGRAM, line_text, questions, events, LastAsked, RunRepresents}
+use Rattle.udp_resolver.proofs.Prelude.{◌≡◌, ◌≤◌, ◌+◌, [], List, length, ◌⊎◌, Appends, TEXT_LIMIT, Consumes, Item, line_view, IsCalm}
+use Rattle.udp_resolver.proofs.Prelude.{LARGEST_DATAGRAM, line_text, questions, events, LastAsked, RunRepresents}
 use Rattle.udp_resolver.proofs.run.ask.Given as goal
 
 abbrev pub invariant-loop-asking : goal.invariant-loop-asking

@@ -13,7 +13,8 @@ invariant_of-device c = record {
       record {
         sound = record {
           numbers = it.sound.numbers;
-          says = λ opened. ∥∥₁_map (it.sound.says opened) (λ said. (said.0, part_with_ports conn.app (both.config c.device.inside.0.1.0.shared) ports said.0 said.1, said.2));
+          says = λ opened. ∥∥₁_map (it.sound.says opened)
+              (λ said. (said.0, part_with_ports conn.app (both.config c.device.inside.0.1.0.shared) ports said.0 said.1, said.2));
         };
         busy = it.busy;
       });

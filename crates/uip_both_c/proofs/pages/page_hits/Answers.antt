@@ -4,4 +4,5 @@ use Rattle.uip_both_c.proofs.pages.page_hits.Goals as goal
 
 pub returns : goal.returns
 returns c = rw (← c.node.view_is) (λ n represented.
-    c.hits.ensures ∙ ap (λ (l : List ℕ). hits_of (files_of c.node.inside.shared.first.web.site) l c.args.name.now) (page_numbers _ _ n.numbers represented.numbers_represented))
+    c.hits.ensures ∙ ap (λ (l : List ℕ). hits_of (files_of c.node.inside.shared.first.web.site) l c.args.name.now)
+    (page_numbers _ _ n.numbers represented.numbers_represented))

@@ -1,4 +1,5 @@
-use Rattle.uip_device.proofs.Prelude.{◌++◌, ◌∙◌, ◌-◌, arith, drop, length, length-drop, length-take, refl, sym, ap, take, take-append-drop, take_rest, moved_on, rest_text}
+use Rattle.uip_device.proofs.Prelude.{◌++◌, ◌∙◌, ◌-◌, arith, drop, length, length-drop, length-take, refl, sym, ap, take, take-append-drop}
+use Rattle.uip_device.proofs.Prelude.{take_rest, moved_on, rest_text}
 use Rattle.uip_device.proofs.HandLaws.{prefix_put}
 use Rattle.uip_device.proofs.pending_output.write_on.Goals as goal
 

@@ -1,4 +1,5 @@
-use Rattle.uip_device.proofs.Prelude.{◌≡◌, ℕ, List, ap, subst, sym, ◌∙◌, CompactRepresent, option_map, FileId, files_of, record_text, wanted, words, kept_query, kept_text, place_wanted, query_in, text_after_mark, target_of}
+use Rattle.uip_device.proofs.Prelude.{◌≡◌, ℕ, List, ap, subst, sym, ◌∙◌, CompactRepresent, option_map, FileId, files_of, record_text}
+use Rattle.uip_device.proofs.Prelude.{wanted, words, kept_query, kept_text, place_wanted, query_in, text_after_mark, target_of}
 use Rattle.uip_device.proofs.QueryLaws.{reply_keeps}
 use Rattle.uip_device.proofs.value_pages.keep.Goals as goal
 

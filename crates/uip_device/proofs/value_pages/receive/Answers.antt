@@ -1,4 +1,5 @@
-use Rattle.uip_device.proofs.Prelude.{◌++◌, ap, subst, sym, ◌∙◌, CompactRepresent, SiteContent, files_of, record_text, wanted, words, kept_query, place_wanted, query_in}
+use Rattle.uip_device.proofs.Prelude.{◌++◌, ap, subst, sym, ◌∙◌, CompactRepresent, SiteContent, files_of, record_text, wanted, words}
+use Rattle.uip_device.proofs.Prelude.{kept_query, place_wanted, query_in}
 use Rattle.uip_device.proofs.QueryLaws.{after_first, after_later}
 use Rattle.uip_device.proofs.value_pages.receive.Goals as goal
 

@@ -1,4 +1,5 @@
-use Rattle.uip_device.proofs.Prelude.{◌≡◌, ◌<◌, ℕ, Option, length, option_map, subst, sym, AreApart, FileId, WebContent, files_of, found_place, place_of, IfSome}
+use Rattle.uip_device.proofs.Prelude.{◌≡◌, ◌<◌, ℕ, Option, length, option_map, subst, sym, AreApart, FileId, WebContent, files_of}
+use Rattle.uip_device.proofs.Prelude.{found_place, place_of, IfSome}
 use Rattle.uip_device.proofs.web_device.file_in.Goals as goal
 
 pub returns-clause-place : goal.returns-clause-place

@@ -1,5 +1,6 @@
 -- The text in the area.
-use Rattle.uip_node.proofs.Prelude.{ℕ, ◌≡◌, ◌+◌, ◌-◌, ◌≤◌, List, ◌++◌, take, drop, length, slice_range, sym, ap, ◌∙◌, subst, arith, length-take, length-drop, drop_at, length-take-le, take-append_seam, CanSupply, text_left}
+use Rattle.uip_node.proofs.Prelude.{ℕ, ◌≡◌, ◌+◌, ◌-◌, ◌≤◌, List, ◌++◌, take, drop, length, slice_range, sym, ap, ◌∙◌, subst, arith}
+use Rattle.uip_node.proofs.Prelude.{length-take, length-drop, drop_at, length-take-le, take-append_seam, CanSupply, text_left}
 use borrow.Rule.Slice.PartMut.{post_of, put_mid}
 use Rattle.uip_node.proofs.output.fill_at_40.Goals as goal
 
@@ -15,7 +16,8 @@ put area text len fits long =
 
 pub fill-requires : goal.fill-requires
 fill-requires g c =
-    subst (λ (n : ℕ). CanSupply g.A.App.app_spec g.A.App.represents c.args.app.now (g.A.App.config c.args.shared.now) n) (sym (cut c.args.area.now c.args.len c.requires.fits)) c.requires.says
+    subst (λ (n : ℕ). CanSupply g.A.App.app_spec g.A.App.represents c.args.app.now (g.A.App.config c.args.shared.now) n)
+    (sym (cut c.args.area.now c.args.len c.requires.fits)) c.requires.says
 
 pub returns-clause-text : goal.returns-clause-text
 returns-clause-text g c = λ p s.

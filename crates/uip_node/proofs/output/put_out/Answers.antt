@@ -15,4 +15,5 @@ returns-clause-size c =
 pub returns-clause-bytes : goal.returns-clause-bytes
 returns-clause-bytes c =
     let addrs : HasAddrs c.args.out.now = (c.has_four_bytes.ensures, c.has_four_bytes-2.ensures) in
-    sent_is c.args.out.now c.args.packet.now.area c.put.new.packet.area c.put.new.packet.len addrs (omega (arith, c.requires.size, c.requires.len)) c.put.ensures.area c.put.ensures.len
+    sent_is c.args.out.now c.args.packet.now.area c.put.new.packet.area c.put.new.packet.len addrs
+    (omega (arith, c.requires.size, c.requires.len)) c.put.ensures.area c.put.ensures.len

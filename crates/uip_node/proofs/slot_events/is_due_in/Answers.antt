@@ -8,7 +8,8 @@ is_due-requires-clause-asked g c =
 
 pub is_due-requires-clause-sound : goal.is_due-requires-clause-sound
 is_due-requires-clause-sound g c =
-    c.requires.sound c.args.slot c.index-conn.result.now (at_viewed _ _ c.args.slot c.index-conn.result.now c.table.view_is c.requires.within c.index-conn.ensures)
+    c.requires.sound c.args.slot c.index-conn.result.now (at_viewed _ _ c.args.slot c.index-conn.result.now c.table.view_is
+    c.requires.within c.index-conn.ensures)
 
 pub returns : goal.returns
 returns g c = record {

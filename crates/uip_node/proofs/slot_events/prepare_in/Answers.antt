@@ -1,16 +1,19 @@
 -- The connection in its slot.
-use Rattle.uip_node.proofs.Prelude.{ap, sym, ◌∙◌, length, length-set, subst, Connections, open_lives, prepared, CanBeAsked, AllSound, OthersRest, SlotsRepresent}
+use Rattle.uip_node.proofs.Prelude.{ap, sym, ◌∙◌, length, length-set, subst, Connections, open_lives, prepared, CanBeAsked, AllSound}
+use Rattle.uip_node.proofs.Prelude.{OthersRest, SlotsRepresent}
 use Rattle.uip_node.proofs.Places.{is_in_after, others_stay, sound_after, represents_after}
 use Rattle.uip_node.proofs.Tables.{at_inside, at_viewed, table_keeps}
 use Rattle.uip_node.proofs.slot_events.prepare_in.Goals as goal
 
 pub prepare-requires-clause-asked : goal.prepare-requires-clause-asked
 prepare-requires-clause-asked g c =
-    c.requires.asked c.index_mut-conn.result.now (at_viewed _ _ c.args.slot c.index_mut-conn.result.now c.table.view_is c.requires.within c.index_mut-conn.ensures.value)
+    c.requires.asked c.index_mut-conn.result.now (at_viewed _ _ c.args.slot c.index_mut-conn.result.now c.table.view_is c.requires.within
+    c.index_mut-conn.ensures.value)
 
 pub prepare-requires-clause-sound : goal.prepare-requires-clause-sound
 prepare-requires-clause-sound g c =
-    c.requires.sound c.args.slot c.index_mut-conn.result.now (at_viewed _ _ c.args.slot c.index_mut-conn.result.now c.table.view_is c.requires.within c.index_mut-conn.ensures.value)
+    c.requires.sound c.args.slot c.index_mut-conn.result.now (at_viewed _ _ c.args.slot c.index_mut-conn.result.now c.table.view_is
+    c.requires.within c.index_mut-conn.ensures.value)
 
 pub invariant_of-table : goal.invariant_of-table
 invariant_of-table g c =

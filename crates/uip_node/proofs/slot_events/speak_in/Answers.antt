@@ -5,7 +5,8 @@ use Rattle.uip_node.proofs.slot_events.speak_in.Goals as goal
 
 pub speak-requires-clause-sound : goal.speak-requires-clause-sound
 speak-requires-clause-sound g c =
-    (c.requires.kept c.args.slot c.index-conn.result.now (at_viewed _ _ c.args.slot c.index-conn.result.now c.table.view_is c.requires.within c.index-conn.ensures)).sound
+    (c.requires.kept c.args.slot c.index-conn.result.now (at_viewed _ _ c.args.slot c.index-conn.result.now c.table.view_is
+    c.requires.within c.index-conn.ensures)).sound
 
 pub speak-requires-clause-fits : goal.speak-requires-clause-fits
 speak-requires-clause-fits g c =

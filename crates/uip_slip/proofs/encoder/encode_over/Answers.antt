@@ -1,4 +1,5 @@
-use Rattle.uip_slip.proofs.Prelude.{◌≡◌, ◌++◌, ◌∷◌, [], ◌∙◌, refl, sym, ap, arith, length, append-nil, length-append, escaped, slip_text, sink_view, Appends-none, Appends-then, appends_by, writes_broken, writes_by, writes_then}
+use Rattle.uip_slip.proofs.Prelude.{◌≡◌, ◌++◌, ◌∷◌, [], ◌∙◌, refl, sym, ap, arith, length, append-nil, length-append, escaped, slip_text}
+use Rattle.uip_slip.proofs.Prelude.{sink_view, Appends-none, Appends-then, appends_by, writes_broken, writes_by, writes_then}
 use Rattle.uip_slip.proofs.TextLaws.{gathered, text_parts, split_pieces, whole_text, escaped-bound}
 use Rattle.uip_slip.proofs.encoder.encode_over.Goals as goal
 
@@ -8,7 +9,8 @@ returns-in_err-write_whole g c =
     let part = c.split_at.result.0.now in
     let others = c.split_at.result.1.now in
     let text = c.put_escaped.new.self in
-    let pieces = split_pieces c.args.datagram.now inv.prefix c.loop-rest.rest.now part others 1500 inv.pieces c.split_at.ensures.front c.split_at.ensures.back in
+    let pieces = split_pieces c.args.datagram.now inv.prefix c.loop-rest.rest.now part others 1500 inv.pieces c.split_at.ensures.front
+    c.split_at.ensures.back in
     let made : inv.sent ++ text ≡ 192 ∷ escaped (inv.prefix ++ part) = gathered inv.sent c.loop-rest.text text inv.prefix part inv.made c.put_escaped.ensures in
     let whole : (inv.sent ++ text) ++ (escaped others ++ 192 ∷ []) ≡ slip_text c.args.datagram.now =
     ap (λ l. l ++ (escaped others ++ 192 ∷ [])) made ∙ text_parts c.args.datagram.now inv.prefix part others pieces in
@@ -39,7 +41,8 @@ loop-rest-preserved g c =
     record {
       prefix = inv.prefix ++ part;
       sent = inv.sent ++ text;
-      pieces = split_pieces c.args.datagram.now inv.prefix c.loop-rest.rest.now part c.split_at.result.1.now 1500 inv.pieces c.split_at.ensures.front c.split_at.ensures.back;
+      pieces = split_pieces c.args.datagram.now inv.prefix c.loop-rest.rest.now part c.split_at.result.1.now 1500 inv.pieces
+          c.split_at.ensures.front c.split_at.ensures.back;
       made = ap (λ l. (inv.sent ++ text) ++ l) c.clear-in-loop-rest.ensures ∙ append-nil (inv.sent ++ text)
           ∙ gathered inv.sent c.loop-rest.text text inv.prefix part inv.made c.put_escaped.ensures;
       room = (let none : length c.clear-in-loop-rest.new.self ≡ 0 = ap (λ l. length l) c.clear-in-loop-rest.ensures in omega (arith, none));
@@ -60,5 +63,6 @@ returns g c =
     let whole = whole_text c.args.datagram.now inv.sent c.loop-rest.text c.put_escaped-2.new.self full inv.prefix c.loop-rest.rest.now inv.made
     c.put_escaped-2.ensures c.push-2.ensures inv.pieces in
     writes_by _ _ _ (inv.sent ++ full) _ (sym whole)
-    (writes_then _ (sink_view g.K.Sink c.args.sink.now) (sink_view g.K.Sink c.loop-rest.sink) (sink_view g.K.Sink c.write_whole-2.new.self) inv.sent full inv.written inv.same
+    (writes_then _ (sink_view g.K.Sink c.args.sink.now) (sink_view g.K.Sink c.loop-rest.sink) (sink_view g.K.Sink c.write_whole-2.new.self)
+    inv.sent full inv.written inv.same
     (writes_by _ _ _ c.bytes-2.result.now full (sym c.bytes-2.ensures) c.write_whole-2.ensures))

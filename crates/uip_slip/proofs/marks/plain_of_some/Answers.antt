@@ -13,6 +13,7 @@ returns g c =
     record {
       within = omega (arith, w.le);
       plain = all_plain c.args.bytes.now (last + c.plain_lanes.result) (omega (arith, w.le))
-          (none_before c.args.bytes.now last g.row.N c.plain_lanes.result w (λ k h. prefix_plain c.args.bytes.now g.row.N c.plain_lanes-prefix.result f k (omega (arith, h))));
+          (none_before c.args.bytes.now last g.row.N c.plain_lanes.result w (λ k h. prefix_plain c.args.bytes.now g.row.N
+          c.plain_lanes-prefix.result f k (omega (arith, h))));
       marked = λ h. w.stops (omega (arith, h));
     }

@@ -12,5 +12,12 @@ loop-rest-preserved c =
       pieces = moved_on _ inv.prefix rest step.result.count inv.pieces;
       made = escaped_then _ _ _ inv.prefix (take step.result.count rest) inv.made step.ensures.text;
       long = step.ensures.long ∙ inv.long;
-      bound = omega (arith, inv.bound, step.ensures.bound, step.ensures.within, length-take (length rest - step.result.count) (drop step.result.count rest), length-drop step.result.count rest);
+      bound = omega (
+        arith,
+        inv.bound,
+        step.ensures.bound,
+        step.ensures.within,
+        length-take (length rest - step.result.count) (drop step.result.count rest),
+        length-drop step.result.count rest,
+      );
     }

@@ -1,4 +1,5 @@
-use Rattle.workload.proofs.Prelude.{◌++◌, ◌-◌, ◌%◌, List, append-nil, sym, ap, ◌∙◌, flat_map, first_words, pcg32, Event, event_drawn, happens}
+use Rattle.workload.proofs.Prelude.{◌++◌, ◌-◌, ◌%◌, List, append-nil, sym, ap, ◌∙◌, flat_map, first_words, pcg32, Event, event_drawn}
+use Rattle.workload.proofs.Prelude.{happens}
 use Rattle.workload.proofs.Keeping.{more_from, on_ok_by}
 use Rattle.workload.proofs.Working.{drawn_step, none_drawn}
 use Rattle.workload.proofs.events.+push_drawn.Goals as goal

@@ -1,4 +1,5 @@
-use Rattle.workload.proofs.Prelude.{◌++◌, ◌+◌, List, [], ◌∷◌, map, sym, ap, ◌∙◌, append_assoc, arith, range_with_len, map-range_with_len_more, Event, Opens}
+use Rattle.workload.proofs.Prelude.{◌++◌, ◌+◌, List, [], ◌∷◌, map, sym, ap, ◌∙◌, append_assoc, arith, range_with_len}
+use Rattle.workload.proofs.Prelude.{map-range_with_len_more, Event, Opens}
 use Rattle.workload.proofs.events.push_opens.Goals as goal
 
 pub loop-place-preserved : goal.loop-place-preserved

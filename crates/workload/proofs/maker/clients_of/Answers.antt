@@ -1,4 +1,5 @@
-use Rattle.workload.proofs.Prelude.{◌≡◌, ◌++◌, ◌+◌, List, [], ◌∷◌, map, sym, ap, ◌∙◌, arith, rules, tests, range_with_len, map-range_with_len_more, Plan, client_of}
+use Rattle.workload.proofs.Prelude.{◌≡◌, ◌++◌, ◌+◌, List, [], ◌∷◌, map, sym, ap, ◌∙◌, arith, rules, tests, range_with_len}
+use Rattle.workload.proofs.Prelude.{map-range_with_len_more, Plan, client_of}
 use Rattle.workload.proofs.maker.clients_of.Goals as goal
 
 pub loop-place-preserved : goal.loop-place-preserved

@@ -3,19 +3,28 @@ use Rattle.app_pair.proofs.PairParts.{counts, has, in_first, in_second, moves}
 use Rattle.app_pair.proofs.pair.AppPairApp.polled.Goals as goal
 
 pub polled-requires : goal.polled-requires
-polled-requires g c = has (in_first g.A.App g.B.App g.met.A.CanPair.can_pair g.met.B.CanPair.can_pair c.args.shared.now c.args.self.now c.in-First.app c.in-First.is) c.requires
+polled-requires g c = has (in_first g.A.App g.B.App g.met.A.CanPair.can_pair g.met.B.CanPair.can_pair c.args.shared.now c.args.self.now
+    c.in-First.app c.in-First.is) c.requires
 
 pub polled-requires-in-Second : goal.polled-requires-in-Second
-polled-requires-in-Second g c = has (in_second g.A.App g.B.App g.met.A.CanPair.can_pair g.met.B.CanPair.can_pair c.args.shared.now c.args.self.now c.in-Second.app c.in-Second.is) c.requires
+polled-requires-in-Second g c = has (in_second g.A.App g.B.App g.met.A.CanPair.can_pair g.met.B.CanPair.can_pair c.args.shared.now
+    c.args.self.now c.in-Second.app c.in-Second.is) c.requires
 
 pub returns-in-First-clause-part : goal.returns-in-First-clause-part
-returns-in-First-clause-part g c = moves (in_first g.A.App g.B.App g.met.A.CanPair.can_pair g.met.B.CanPair.can_pair c.args.shared.now c.args.self.now c.in-First.app c.in-First.is) c.polled.new.self (λ m l p. m.polled l p) (λ p. refl) (λ x l p. (x.port.polled l p, x.snapshots.polled l p)) c.polled.ensures.part
+returns-in-First-clause-part g c = moves (in_first g.A.App g.B.App g.met.A.CanPair.can_pair g.met.B.CanPair.can_pair c.args.shared.now
+    c.args.self.now c.in-First.app c.in-First.is) c.polled.new.self (λ m l p. m.polled l p) (λ p. refl)
+    (λ x l p. (x.port.polled l p, x.snapshots.polled l p)) c.polled.ensures.part
 
 pub returns-in-First-clause-numbers : goal.returns-in-First-clause-numbers
-returns-in-First-clause-numbers g c = counts (in_first g.A.App g.B.App g.met.A.CanPair.can_pair g.met.B.CanPair.can_pair c.args.shared.now c.args.self.now c.in-First.app c.in-First.is) (g.A.App.numbers c.polled.new.shared) (λ m l p. (m.polled l p).numbers) (λ p. refl) c.polled.ensures.numbers
+returns-in-First-clause-numbers g c = counts (in_first g.A.App g.B.App g.met.A.CanPair.can_pair g.met.B.CanPair.can_pair c.args.shared.now
+    c.args.self.now c.in-First.app c.in-First.is) (g.A.App.numbers c.polled.new.shared) (λ m l p. (m.polled l p).numbers) (λ p. refl) c.polled.ensures.numbers
 
 pub returns-in-Second-clause-part : goal.returns-in-Second-clause-part
-returns-in-Second-clause-part g c = moves (in_second g.A.App g.B.App g.met.A.CanPair.can_pair g.met.B.CanPair.can_pair c.args.shared.now c.args.self.now c.in-Second.app c.in-Second.is) c.polled-in-Second.new.self (λ m l p. m.polled l p) (λ p. refl) (λ x l p. (x.port.polled l p, x.snapshots.polled l p)) c.polled-in-Second.ensures.part
+returns-in-Second-clause-part g c = moves (in_second g.A.App g.B.App g.met.A.CanPair.can_pair g.met.B.CanPair.can_pair c.args.shared.now
+    c.args.self.now c.in-Second.app c.in-Second.is) c.polled-in-Second.new.self (λ m l p. m.polled l p) (λ p. refl)
+    (λ x l p. (x.port.polled l p, x.snapshots.polled l p)) c.polled-in-Second.ensures.part
 
 pub returns-in-Second-clause-numbers : goal.returns-in-Second-clause-numbers
-returns-in-Second-clause-numbers g c = counts (in_second g.A.App g.B.App g.met.A.CanPair.can_pair g.met.B.CanPair.can_pair c.args.shared.now c.args.self.now c.in-Second.app c.in-Second.is) (g.B.App.numbers c.polled-in-Second.new.shared) (λ m l p. (m.polled l p).numbers) (λ p. refl) c.polled-in-Second.ensures.numbers
+returns-in-Second-clause-numbers g c = counts (in_second g.A.App g.B.App g.met.A.CanPair.can_pair g.met.B.CanPair.can_pair c.args.shared.now
+    c.args.self.now c.in-Second.app c.in-Second.is) (g.B.App.numbers c.polled-in-Second.new.shared) (λ m l p. (m.polled l p).numbers)
+    (λ p. refl) c.polled-in-Second.ensures.numbers

@@ -9,4 +9,9 @@ pub overflow_add-self : goal.overflow_add-self
 overflow_add-self c = omega (arith, room c.args.self.now c.args.count c.requires)
 
 pub returns-clause-part : goal.returns-clause-part
-returns-clause-part c = λ p s. record { input = s.input; number = s.number; at = omega (arith, s.at); within = moves c.args.self.now c.args.count c.requires p s }
+returns-clause-part c = λ p s. record {
+  input = s.input;
+  number = s.number;
+  at = omega (arith, s.at);
+  within = moves c.args.self.now c.args.count c.requires p s;
+}

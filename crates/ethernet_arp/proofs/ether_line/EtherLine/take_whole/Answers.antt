@@ -1,4 +1,5 @@
-use Rattle.ethernet_arp.proofs.Prelude.{◌-◌, ◌∷◌, ◌∙◌, [], length, take, drop, refl, arith, ap, sym, Datagram, Host, frame_brings, framed, arp_reply, Asked, Pair, Replied, host_of}
+use Rattle.ethernet_arp.proofs.Prelude.{◌-◌, ◌∷◌, ◌∙◌, [], length, take, drop, refl, arith, ap, sym, Datagram, Host, frame_brings, framed}
+use Rattle.ethernet_arp.proofs.Prelude.{arp_reply, Asked, Pair, Replied, host_of}
 use Rattle.ethernet_arp.proofs.Bytes.{payload_is}
 use Rattle.ethernet_arp.proofs.TakenLaws.{brings_act, brings_datagram, brings_none}
 use Rattle.ethernet_arp.proofs.ether_line.EtherLine.take_whole.Goals as goal
@@ -8,7 +9,8 @@ returns-in-Nothing-clause-reported c = ap (λ l. frame_brings (host_of c.args.se
 
 pub returns-in-Nothing-clause-knows : goal.returns-in-Nothing-clause-knows
 returns-in-Nothing-clause-knows c =
-    brings_none c.args.self.now.arp c.args.self.now.arp _ (ap (λ l. frame_brings (host_of c.args.self.now.arp) l) (sym c.frame.ensures) ∙ c.in-Nothing.ensures.decodes) (λ acts k. k)
+    brings_none c.args.self.now.arp c.args.self.now.arp _ (ap (λ l. frame_brings (host_of c.args.self.now.arp) l) (sym c.frame.ensures)
+    ∙ c.in-Nothing.ensures.decodes) (λ acts k. k)
 
 pub returns-in-Datagram-clause-reported : goal.returns-in-Datagram-clause-reported
 returns-in-Datagram-clause-reported c =
@@ -20,7 +22,8 @@ returns-in-Datagram-clause-reported c =
 
 pub returns-in-Datagram-clause-knows : goal.returns-in-Datagram-clause-knows
 returns-in-Datagram-clause-knows c =
-    brings_datagram c.args.self.now.arp c.args.self.now.arp _ _ (ap (λ l. frame_brings (host_of c.args.self.now.arp) l) (sym c.frame.ensures) ∙ c.in-Datagram.ensures.decodes) (λ acts k. k)
+    brings_datagram c.args.self.now.arp c.args.self.now.arp _ _ (ap (λ l. frame_brings (host_of c.args.self.now.arp) l)
+    (sym c.frame.ensures) ∙ c.in-Datagram.ensures.decodes) (λ acts k. k)
 
 pub returns-in-Asked-clause-reported : goal.returns-in-Asked-clause-reported
 returns-in-Asked-clause-reported c =
@@ -33,7 +36,8 @@ returns-in-Asked-clause-reported c =
 pub returns-in-Asked-clause-knows : goal.returns-in-Asked-clause-knows
 returns-in-Asked-clause-knows c =
     let pair : Pair = record { addr = c.in-Asked.addr.0; mac = c.in-Asked.mac.0 } in
-    brings_act c.args.self.now.arp c.learn.new.self _ (Asked pair) (ap (λ l. frame_brings (host_of c.args.self.now.arp) l) (sym c.frame.ensures) ∙ c.in-Asked.ensures.decodes)
+    brings_act c.args.self.now.arp c.learn.new.self _ (Asked pair) (ap (λ l. frame_brings (host_of c.args.self.now.arp) l)
+    (sym c.frame.ensures) ∙ c.in-Asked.ensures.decodes)
     (λ acts k. c.learn.ensures.knows (Asked pair) acts refl k)
 
 pub returns-in-Replied-clause-reported : goal.returns-in-Replied-clause-reported
@@ -44,5 +48,6 @@ returns-in-Replied-clause-reported c =
 pub returns-in-Replied-clause-knows : goal.returns-in-Replied-clause-knows
 returns-in-Replied-clause-knows c =
     let pair : Pair = record { addr = c.in-Replied.addr.0; mac = c.in-Replied.mac.0 } in
-    brings_act c.args.self.now.arp c.learn-in-Replied.new.self _ (Replied pair) (ap (λ l. frame_brings (host_of c.args.self.now.arp) l) (sym c.frame.ensures) ∙ c.in-Replied.ensures.decodes)
+    brings_act c.args.self.now.arp c.learn-in-Replied.new.self _ (Replied pair) (ap (λ l. frame_brings (host_of c.args.self.now.arp) l)
+    (sym c.frame.ensures) ∙ c.in-Replied.ensures.decodes)
     (λ acts k. c.learn-in-Replied.ensures.knows (Replied pair) acts refl k)

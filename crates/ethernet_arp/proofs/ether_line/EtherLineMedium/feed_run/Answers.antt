@@ -1,4 +1,5 @@
-use Rattle.ethernet_arp.proofs.Prelude.{◌++◌, ◌∙◌, [], take, sym, subst, ltb-false, ltb-true, open_from, Holds, shown_of, host_of, FramePart}
+use Rattle.ethernet_arp.proofs.Prelude.{◌++◌, ◌∙◌, [], take, sym, subst, ltb-false, ltb-true, open_from, Holds, shown_of, host_of}
+use Rattle.ethernet_arp.proofs.Prelude.{FramePart}
 use Rattle.ethernet_arp.proofs.LineLaws.{brings_nothing, did_nothing, did_whole, fed_more, reported_whole, whole_none}
 use Rattle.ethernet_arp.proofs.ether_line.EtherLineMedium.feed_run.Goals as goal
 
@@ -17,12 +18,14 @@ returns-then-is_waiting-clause-fed c = λ k before fed. (fed.0, fed_more _ _ bef
 
 pub returns-then-is_waiting-clause-reported : goal.returns-then-is_waiting-clause-reported
 returns-then-is_waiting-clause-reported c = λ k before fed.
-    brings_nothing k before _ (c.take_frame.ensures.takes.waits (ltb-true _ _ (sym c.is_waiting-2.ensures ∙ c.if-is_waiting.true)) k (open_from [] before) fed.1)
+    brings_nothing k before _ (c.take_frame.ensures.takes.waits (ltb-true _ _ (sym c.is_waiting-2.ensures ∙ c.if-is_waiting.true)) k
+    (open_from [] before) fed.1)
 
 pub returns-then-is_waiting-clause-did : goal.returns-then-is_waiting-clause-did
 returns-then-is_waiting-clause-did c = λ k before acts fed did. (
   did.0,
-  did_nothing c.args.self.now.arp k before _ acts (c.take_frame.ensures.takes.waits (ltb-true _ _ (sym c.is_waiting-2.ensures ∙ c.if-is_waiting.true)) k (open_from [] before) fed.1) did.1,
+  did_nothing c.args.self.now.arp k before _ acts
+      (c.take_frame.ensures.takes.waits (ltb-true _ _ (sym c.is_waiting-2.ensures ∙ c.if-is_waiting.true)) k (open_from [] before) fed.1) did.1,
 )
 
 pub returns-then-is_taken-clause-fed : goal.returns-then-is_taken-clause-fed

@@ -7,6 +7,7 @@ returns-clause-takes c =
     let n = c.min-count.result in
     let run = take n c.args.bytes.now in
     let count : length run ≡ n = length-take-le n c.args.bytes.now (omega (arith, c.min-count.ensures)) in
-    takes_in c.args.self.now _ run (let w = c.requires.waiting in omega (arith, count, c.min-count.ensures, c.requires.some)) c.requires.waiting (ap (λ m. c.args.self.now.len + m) (sym count))
+    takes_in c.args.self.now _ run (let w = c.requires.waiting in omega (arith, count, c.min-count.ensures, c.requires.some))
+    c.requires.waiting (ap (λ m. c.args.self.now.len + m) (sym count))
     (let w = c.requires.waiting in omega (arith, c.min-count.ensures)) refl refl
     (λ frame len kept. ap (λ m. take (c.args.self.now.len + m) c.keep.new.area) (sym count) ∙ c.keep.ensures frame len kept)

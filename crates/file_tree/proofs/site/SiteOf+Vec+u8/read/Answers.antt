@@ -9,4 +9,5 @@ returns-clause-spelled c =
 
 pub returns-clause-only : goal.returns-clause-only
 returns-clause-only c files is =
-    subst (Gives files_of c.from_image.result) (ap read_image c.in_ok-from_slice.ensures.items ∙ image-again c.args.image.now files is) c.from_image.ensures.exact
+    subst (Gives files_of c.from_image.result) (ap read_image c.in_ok-from_slice.ensures.items ∙ image-again c.args.image.now files is)
+    c.from_image.ensures.exact

@@ -7,7 +7,8 @@ returns-in-Nothing-clause-answers g c = record {
   kept = refl;
   rules = refl;
   each = λ k m own s here.
-      brings_silent g.A.App (guarded_link (g.M.Frames.spec k) c.args.self.now.guard.rules) m own s (λ acts. g.M.Frames.did c.take.new.self k acts) c.args.self.now.node
+      brings_silent g.A.App (guarded_link (g.M.Frames.spec k) c.args.self.now.guard.rules) m own s
+      (λ acts. g.M.Frames.did c.take.new.self k acts) c.args.self.now.node
       ((g.M.Frames.spec k).decodes (take c.args.len c.args.buf.now)) (rw c.in-Nothing.is at (c.take.ensures.reported k s.acts here.acted)) here.represented
       (c.take.ensures.did k s.acts here.acted);
 }
@@ -18,8 +19,10 @@ returns-in-Own-clause-answers g c = record {
   rules = refl;
   each = λ k m own s here.
       let reported = rw c.in-Own.is at (c.take.ensures.reported k s.acts here.acted) in
-      brings_own g.A.App (guarded_link (g.M.Frames.spec k) c.args.self.now.guard.rules) m own s (λ acts. g.M.Frames.did c.take.new.self k acts) c.args.self.now.node
-      ((g.M.Frames.spec k).decodes (take c.args.len c.args.buf.now)) reported.0 _ reported.1 reported.2 here.represented (c.take.ensures.did k s.acts here.acted);
+      brings_own g.A.App (guarded_link (g.M.Frames.spec k) c.args.self.now.guard.rules) m own s
+      (λ acts. g.M.Frames.did c.take.new.self k acts) c.args.self.now.node
+      ((g.M.Frames.spec k).decodes (take c.args.len c.args.buf.now)) reported.0 _ reported.1 reported.2 here.represented
+      (c.take.ensures.did k s.acts here.acted);
 }
 
 pub returns-in-Datagram-clause-answers : goal.returns-in-Datagram-clause-answers
@@ -33,8 +36,10 @@ returns-in-Datagram-clause-answers g c =
       each = λ k m own s here.
           let reported = rw c.in-Datagram.is at (c.take.ensures.reported k s.acts here.acted) in
           let w = guarded_link (g.M.Frames.spec k) c.args.self.now.guard.rules in
-          brings_datagram g.A.App w m own s (λ acts. g.M.Frames.did c.take.new.self k acts) c.args.self.now.node c.guarded_input-sent.new.node c.guarded_input-sent.result
+          brings_datagram g.A.App w m own s (λ acts. g.M.Frames.did c.take.new.self k acts) c.args.self.now.node
+          c.guarded_input-sent.new.node c.guarded_input-sent.result
           ((g.M.Frames.spec k).decodes (take c.args.len c.args.buf.now)) (datagram (at + len - at)) (take c.write_sent.result c.write_sent.new.out)
           (reported ∙ ap (λ n. Datagram (datagram n) ∷ []) (omega arith)) c.guarded_input-sent.ensures.takes
-          (λ acts replies did is. c.write_sent.ensures.text k acts (leaving w.rules.key) own replies did is) here.represented (c.take.ensures.did k s.acts here.acted);
+          (λ acts replies did is. c.write_sent.ensures.text k acts (leaving w.rules.key) own replies did is) here.represented
+          (c.take.ensures.did k s.acts here.acted);
     }

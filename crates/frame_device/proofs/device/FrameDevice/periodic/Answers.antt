@@ -8,7 +8,8 @@ returns-clause-answers g c = record {
   rules = refl;
   each = λ k m own s here.
       let w = guarded_link (g.M.Frames.spec k) c.args.self.now.guard.rules in
-      calls_events g.A.App w m own s (λ acts. g.M.Frames.did c.begin_tick.new.frames k acts) c.args.self.now.node c.guarded_periodic-sent.new.node c.guarded_periodic-sent.result
+      calls_events g.A.App w m own s (λ acts. g.M.Frames.did c.begin_tick.new.frames k acts) c.args.self.now.node
+      c.guarded_periodic-sent.new.node c.guarded_periodic-sent.result
       (acts_before w.link c.args.slot) (λ n. Periodic c.args.slot ∷ []) (take c.write_sent.result c.write_sent.new.out) (c.begin_tick.ensures.silent k)
       c.guarded_periodic-sent.ensures.takes (λ acts replies did is. c.write_sent.ensures.text k acts (leaving w.rules.key) own replies did is) here.represented
       (c.begin_tick.ensures.did k s.acts here.acted);

@@ -2,7 +2,8 @@ use Rattle.httpd.proofs.Prelude.{◌≡◌, ap, sym, subst, IsRepresented, SiteC
 use Rattle.httpd.proofs.httpd.HttpdApp.is_due.Goals as goal
 
 pub is_due_at-requires : goal.is_due_at-requires
-is_due_at-requires c = subst (λ (site : SiteContent). IsRepresented HttpdRepresents c.args.self.now site) (sym (ap (λ (w : WebContent). w.site) c.shared.view_is)) c.requires
+is_due_at-requires c = subst (λ (site : SiteContent). IsRepresented HttpdRepresents c.args.self.now site)
+    (sym (ap (λ (w : WebContent). w.site) c.shared.view_is)) c.requires
 
 pub returns : goal.returns
 returns c = record {

@@ -11,5 +11,7 @@ returns-clause-part c = λ p s.
 pub returns-clause-numbers : goal.returns-clause-numbers
 returns-clause-numbers c = λ p s.
     let is = ap (λ (w : WebContent). w.site) c.shared.view_is in
-    hits_left c.take_piece.new.hits c.shared.inside.hits.items _ _ _ _ _ (wanted p.input) (wanted (p.input ++ c.args.piece.now)) (omega (arith, c.deref_mut.ensures.len, c.take_piece.auto.hits))
-    (c.take_piece.ensures.hits p (subst (λ (site : SiteContent). HttpdRepresents c.args.self.now site p) (sym is) s)) is (c.deref_mut.ensures.value ∙ ap (λ (w : WebContent). w.hits) c.shared.view_is)
+    hits_left c.take_piece.new.hits c.shared.inside.hits.items _ _ _ _ _ (wanted p.input) (wanted (p.input ++ c.args.piece.now))
+    (omega (arith, c.deref_mut.ensures.len, c.take_piece.auto.hits))
+    (c.take_piece.ensures.hits p (subst (λ (site : SiteContent). HttpdRepresents c.args.self.now site p) (sym is) s)) is
+    (c.deref_mut.ensures.value ∙ ap (λ (w : WebContent). w.hits) c.shared.view_is)

@@ -5,21 +5,30 @@ use Rattle.httpd.proofs.httpd.Pages.prepare_at.Goals as goal
 
 pub due_call-requires-clause-found : goal.due_call-requires-clause-found
 due_call-requires-clause-found g c =
-    reply_found (script_functions g.R.Function.Calls.calling g.R.CallRecord.output) g.R.CallRecord.text c.args.self.now c.args.site.now c.in-Reply.found c.in-Reply.is c.requires.part
+    reply_found (script_functions g.R.Function.Calls.calling g.R.CallRecord.output) g.R.CallRecord.text c.args.self.now c.args.site.now
+    c.in-Reply.found c.in-Reply.is c.requires.part
 
 pub due_call-requires-clause-fits : goal.due_call-requires-clause-fits
 due_call-requires-clause-fits g c =
-    reply_fits (script_functions g.R.Function.Calls.calling g.R.CallRecord.output) g.R.CallRecord.text c.args.self.now c.args.site.now c.in-Reply.found c.in-Reply.is c.requires.part
+    reply_fits (script_functions g.R.Function.Calls.calling g.R.CallRecord.output) g.R.CallRecord.text c.args.self.now c.args.site.now
+    c.in-Reply.found c.in-Reply.is c.requires.part
 
 pub returns-in-Some : goal.returns-in-Some
 returns-in-Some g c = λ p s.
-    due_represents (script_functions g.R.Function.Calls.calling g.R.CallRecord.output) g.R.CallRecord.text c.args.self.now c.args.site.now c.in-Reply.found p c.in-Some.due c.take.result (record { numbers = c.args.hits.now ++ g.R.CallRecord.own_numbers c.args.own.now; now = c.args.now.now }) c.in-Reply.is
+    due_represents (script_functions g.R.Function.Calls.calling g.R.CallRecord.output) g.R.CallRecord.text c.args.self.now c.args.site.now
+    c.in-Reply.found p c.in-Some.due c.take.result (record {
+      numbers = c.args.hits.now ++ g.R.CallRecord.own_numbers c.args.own.now;
+      now = c.args.now.now;
+    }) c.in-Reply.is
     c.in-Some.ensures s
     (c.take.ensures
-    ∙ ap (λ n. g.R.CallRecord.output c.in-Some.due.function c.in-Some.due.argument.now n (g.R.CallRecord.own_numbers c.args.own.now) c.args.now.now) c.hits_of-count.ensures
-    ∙ sym (made_prefix (script_functions g.R.Function.Calls.calling g.R.CallRecord.output) (files_of c.args.site.now) c.args.hits.now (g.R.CallRecord.own_numbers c.args.own.now) c.in-Some.due.function c.in-Some.due.argument.now c.args.now.now c.requires.counted))
+    ∙ ap (λ n. g.R.CallRecord.output c.in-Some.due.function c.in-Some.due.argument.now n (g.R.CallRecord.own_numbers c.args.own.now)
+    c.args.now.now) c.hits_of-count.ensures
+    ∙ sym (made_prefix (script_functions g.R.Function.Calls.calling g.R.CallRecord.output) (files_of c.args.site.now) c.args.hits.now
+    (g.R.CallRecord.own_numbers c.args.own.now) c.in-Some.due.function c.in-Some.due.argument.now c.args.now.now c.requires.counted))
 
 pub returns-in_default-due_call : goal.returns-in_default-due_call
 returns-in_default-due_call g c = λ p s.
-    not_due (script_functions g.R.Function.Calls.calling g.R.CallRecord.output) g.R.CallRecord.text c.args.self.now c.args.site.now c.in-Reply.found p (record { numbers = c.args.hits.now ++ g.R.CallRecord.own_numbers c.args.own.now; now = c.args.now.now }) c.in-Reply.is
+    not_due (script_functions g.R.Function.Calls.calling g.R.CallRecord.output) g.R.CallRecord.text c.args.self.now c.args.site.now
+    c.in-Reply.found p (record { numbers = c.args.hits.now ++ g.R.CallRecord.own_numbers c.args.own.now; now = c.args.now.now }) c.in-Reply.is
     c.in_default-due_call.ensures s

@@ -1,5 +1,6 @@
 -- An open client sends what is next of its request, or its FIN.
-use Rattle.link_client.proofs.Prelude.{◌≡◌, ◌&&◌, ◌||◌, Bool, true, false, [], refl, sym, ap, ◌∙◌, Client, has_more_to_send, is_opened, abstract_client, ClientState, Closing}
+use Rattle.link_client.proofs.Prelude.{◌≡◌, ◌&&◌, ◌||◌, Bool, true, false, [], refl, sym, ap, ◌∙◌, Client, has_more_to_send, is_opened}
+use Rattle.link_client.proofs.Prelude.{abstract_client, ClientState, Closing}
 use Rattle.link_client.proofs.client.Client.close_now.Goals as goal
 
 or_false : (b : Bool) → b || false ≡ b

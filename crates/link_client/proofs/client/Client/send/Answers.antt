@@ -1,5 +1,6 @@
 -- The datagram is written around its text, and the area after it is unchanged.
-use Rattle.link_client.proofs.Prelude.{◌≡◌, ℕ, ◌+◌, ◌-◌, ◌*◌, ◌≤◌, List, ◌++◌, length, drop, IsSome, Option, Some, None, refl, sym, ap, ◌∙◌, arith, length-append, length-drop, drop-drop, drop_at, offset_of}
+use Rattle.link_client.proofs.Prelude.{◌≡◌, ℕ, ◌+◌, ◌-◌, ◌*◌, ◌≤◌, List, ◌++◌, length, drop, IsSome, Option, Some, None, refl, sym, ap, ◌∙◌}
+use Rattle.link_client.proofs.Prelude.{arith, length-append, length-drop, drop-drop, drop_at, offset_of}
 use Rattle.link_client.proofs.client.Client.send.Goals as goal
 
 -- what was written at the start stays there

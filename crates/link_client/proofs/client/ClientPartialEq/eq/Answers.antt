@@ -22,4 +22,12 @@ in_order false out window true false fin rcv = refl
 in_order false out window false state fin rcv = refl
 
 pub returns : goal.returns
-returns c = rw (c.and_eq-6.ensures, c.and_eq-5.ensures, c.and_eq-4.ensures, c.and_eq-3.ensures, c.and_eq-2.ensures, c.and_eq.ensures, c.eq.ensures) (search (in_order, rules))
+returns c = rw (
+  c.and_eq-6.ensures,
+  c.and_eq-5.ensures,
+  c.and_eq-4.ensures,
+  c.and_eq-3.ensures,
+  c.and_eq-2.ensures,
+  c.and_eq.ensures,
+  c.eq.ensures,
+) (search (in_order, rules))

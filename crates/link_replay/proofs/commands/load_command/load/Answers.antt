@@ -13,5 +13,7 @@ pub returns-in-Err-Bad-clause-ends : goal.returns-in-Err-Bad-clause-ends
 returns-in-Err-Bad-clause-ends g c =
     let old : WorkView = work_view g.H.Shelf g.K.Sink c.args.shelf.now c.args.out.now in
     let new : WorkView = work_view g.H.Shelf g.K.Sink c.open.new.shelf c.report_site.new.out in
-    let opens = subst (λ (f : LoadFault). Opens c.args.site.now old.shelf.held old.shelf.faults new.shelf.faults (Err f)) c.in-Err-Bad.field-0-is c.in-Err-Bad.ensures.opens in
-    load_image_ends c.args.site.now c.args.seed c.args.clients old new c.in-Err-Bad.ensures.kept opens.1 c.in-Err-Bad.error c.report_site.result opens.0 c.report_site.ensures
+    let opens = subst (λ (f : LoadFault). Opens c.args.site.now old.shelf.held old.shelf.faults new.shelf.faults (Err f))
+    c.in-Err-Bad.field-0-is c.in-Err-Bad.ensures.opens in
+    load_image_ends c.args.site.now c.args.seed c.args.clients old new c.in-Err-Bad.ensures.kept opens.1 c.in-Err-Bad.error
+    c.report_site.result opens.0 c.report_site.ensures

@@ -9,5 +9,6 @@ returns-in-Ok-clause-ends g c = λ name read.
     (work_view g.H.Shelf g.K.Sink c.read_file.new.shelf c.play_text.new.out)
     c.in-Ok.ensures.kept c.in-Ok.ensures.cause (files_of c.args.site) c.in-Ok.text.items c.play_text.result read c.in-Ok.ensures.bytes
     (subst
-    (λ (bytes : List ℕ). WritesDue (IsTextDue (files_of c.args.site) bytes c.args.show) (sink_view g.K.Sink c.args.out.now) (sink_view g.K.Sink c.play_text.new.out) c.play_text.result)
+    (λ (bytes : List ℕ). WritesDue (IsTextDue (files_of c.args.site) bytes c.args.show) (sink_view g.K.Sink c.args.out.now)
+    (sink_view g.K.Sink c.play_text.new.out) c.play_text.result)
     c.deref.ensures.value c.play_text.ensures)

@@ -6,5 +6,6 @@ pub returns-in-Ok : goal.returns-in-Ok
 returns-in-Ok g c =
     inl
     (subst
-    (λ (text : List ℕ). WritesEnd (ends.BadSchedule c.args.line c.args.why) ends.WriteFault (sink_view g.K.Sink c.args.out.now) (sink_view g.K.Sink c.write_text.new.out) text c.write_text.result)
+    (λ (text : List ℕ). WritesEnd (ends.BadSchedule c.args.line c.args.why) ends.WriteFault (sink_view g.K.Sink c.args.out.now)
+    (sink_view g.K.Sink c.write_text.new.out) text c.write_text.result)
     (c.deref.ensures.value ∙ c.in-Ok.ensures) c.write_text.ensures)

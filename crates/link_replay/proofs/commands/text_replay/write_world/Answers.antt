@@ -8,4 +8,5 @@ pub returns-in-Report-clause-err : goal.returns-in-Report-clause-err
 returns-in-Report-clause-err g c = rw c.in-Report.is c.report.ensures.err
 
 pub returns-in-Summary-clause-err : goal.returns-in-Summary-clause-err
-returns-in-Summary-clause-err g c = rw c.in-Summary.is (on_err_weaker c.summary.result (λ wrote m served w represented at. wrote w represented) c.summary.ensures.err)
+returns-in-Summary-clause-err g c = rw c.in-Summary.is
+    (on_err_weaker c.summary.result (λ wrote m served w represented at. wrote w represented) c.summary.ensures.err)

@@ -19,4 +19,5 @@ returns-clause-wrote g c =
     let r = c.write_received.result in
     wrote_then _ _ _ line text c.in_ok-write_word.field-0 r
     (wrote_by _ _ _ c.bytes.result.now line (c.bytes.ensures ∙ c.client_line.ensures) c.in_ok-write_word.ensures.wrote)
-    (wrote_by _ _ r _ text (ap (λ (l : List ℕ). word_if c.args.show (text_line l)) (c.deref.ensures.value ∙ ap (λ (x : CodeSide). x.received) c.side.view_is)) c.write_received.ensures.wrote)
+    (wrote_by _ _ r _ text (ap (λ (l : List ℕ). word_if c.args.show (text_line l)) (c.deref.ensures.value
+    ∙ ap (λ (x : CodeSide). x.received) c.side.view_is)) c.write_received.ensures.wrote)

@@ -1,4 +1,5 @@
-use Rattle.link_replay.proofs.Prelude.{◌≡◌, ◌+◌, length, map, refl, ◌∙◌, slice_get_read, err_from_is_err_and, CodeSide, ShownSide, lines_of_client, code_side_shown}
+use Rattle.link_replay.proofs.Prelude.{◌≡◌, ◌+◌, length, map, refl, ◌∙◌, slice_get_read, err_from_is_err_and, CodeSide, ShownSide}
+use Rattle.link_replay.proofs.Prelude.{lines_of_client, code_side_shown}
 use Rattle.link_replay.proofs.Listing.{texts_end, texts_more, texts_stop}
 use Rattle.link_replay.proofs.Matching.{matched_image}
 use Rattle.link_replay.proofs.Shown.{lines_reported}
@@ -12,8 +13,10 @@ returns-in_err-write_client-clause-wrote g c =
     let p = err_from_is_err_and c.from_residual.result c.from_residual.ensures.1 in
     let at = slice_get_read xs (length xs) place c.index-sides-place.result refl c.loop-place-test.true c.index-sides-place.is in
     let m = matched_image code_side_shown xs in
-    texts_stop P xs (map code_side_shown xs) (lines_of_client c.args.show) m place c.index-sides-place.result _ _ _ c.in_err-write_client.field-0.0 p.0 c.from_residual.result p.1 at
-    c.loop-place.invariant.transmitting (λ y here same. lines_reported c.args.show (place + 1) c.index-sides-place.result y _ _ _ same c.in_err-write_client.ensures.wrote)
+    texts_stop P xs (map code_side_shown xs) (lines_of_client c.args.show) m place c.index-sides-place.result _ _ _
+    c.in_err-write_client.field-0.0 p.0 c.from_residual.result p.1 at
+    c.loop-place.invariant.transmitting (λ y here same. lines_reported c.args.show (place + 1) c.index-sides-place.result y _ _ _ same
+    c.in_err-write_client.ensures.wrote)
 
 pub loop-place-preserved : goal.loop-place-preserved
 loop-place-preserved g c =
@@ -23,8 +26,10 @@ loop-place-preserved g c =
     let at = slice_get_read xs (length xs) place c.index-sides-place.result refl c.loop-place-test.true c.index-sides-place.is in
     let m = matched_image code_side_shown xs in
     record {
-      transmitting = texts_more P xs (map code_side_shown xs) (lines_of_client c.args.show) m place c.index-sides-place.result _ _ _ c.in_ok-write_client.field-0 at
-          c.loop-place.invariant.transmitting (λ y here same. lines_reported c.args.show (place + 1) c.index-sides-place.result y _ _ _ same c.in_ok-write_client.ensures.wrote);
+      transmitting = texts_more P xs (map code_side_shown xs) (lines_of_client c.args.show) m place c.index-sides-place.result _ _ _
+          c.in_ok-write_client.field-0 at
+          c.loop-place.invariant.transmitting (λ y here same. lines_reported c.args.show (place + 1) c.index-sides-place.result y _ _ _ same
+          c.in_ok-write_client.ensures.wrote);
       same = c.in_ok-write_client.ensures.cause.same ∙ c.loop-place.invariant.same;
     }
 

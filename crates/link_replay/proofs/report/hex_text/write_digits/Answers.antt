@@ -19,7 +19,8 @@ loop-rest-preserved g c =
     let others = c.split_at.result.1.now in
     record {
       transmitting = sending_more _ _ _ _ (encode_lower rest) (encode_lower block) (encode_lower others) c.in_ok-write_block.field-0
-          c.loop-rest.invariant.transmitting (digits_parts 64 rest block others c.split_at.ensures.front c.split_at.ensures.back) c.in_ok-write_block.ensures.wrote;
+          c.loop-rest.invariant.transmitting (digits_parts 64 rest block others c.split_at.ensures.front c.split_at.ensures.back)
+          c.in_ok-write_block.ensures.wrote;
       same = c.in_ok-write_block.ensures.cause.same ∙ c.loop-rest.invariant.same;
     }
 

@@ -1,4 +1,5 @@
-use Rattle.link_replay.proofs.Prelude.{Bool, List, length, sym, ◌∙◌, ◌==◌, length-map, is_none, not, column, CodeSent, CodeSide, code_side_shown}
+use Rattle.link_replay.proofs.Prelude.{Bool, List, length, sym, ◌∙◌, ◌==◌, length-map, is_none, not, column, CodeSent, CodeSide}
+use Rattle.link_replay.proofs.Prelude.{code_side_shown}
 use Rattle.link_replay.proofs.Counted.{count_image, same_tally, sum_image}
 use Rattle.link_replay.proofs.report.tally.count_up.Goals as goal
 

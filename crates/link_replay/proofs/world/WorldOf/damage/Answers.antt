@@ -1,4 +1,6 @@
-use Rattle.link_replay.proofs.Prelude.{◌≡◌, ℕ, ◌<◌, ◌≤◌, length, List, Option, sym, ap, ◌∙◌, arith, subst, rules, tests, event_of, Reply, step, does, hands_over, Act, damaged, sent_bytes, changed, World, Sent, Who, SentRepresents, WorldRepresents, CodeSent, link_of, AnswersTo, LARGEST_DATAGRAM}
+use Rattle.link_replay.proofs.Prelude.{◌≡◌, ℕ, ◌<◌, ◌≤◌, length, List, Option, sym, ap, ◌∙◌, arith, subst, rules, tests, event_of, Reply}
+use Rattle.link_replay.proofs.Prelude.{step, does, hands_over, Act, damaged, sent_bytes, changed, World, Sent, Who, SentRepresents}
+use Rattle.link_replay.proofs.Prelude.{WorldRepresents, CodeSent, link_of, AnswersTo, LARGEST_DATAGRAM}
 use Rattle.link_replay.proofs.Damaging.{damage_answers}
 use Rattle.link_replay.proofs.Readable.{sent_fits}
 use Rattle.link_replay.proofs.Pairs.{none_numbered, numbered_partner}
@@ -8,11 +10,15 @@ use Rattle.link_replay.proofs.world.WorldOf.damage.Goals as goal
 pub hand-requires : goal.hand-requires
 hand-requires g c = record {
   most =
-      let fits = sent_fits _ (link_of c.self.inside.sides.items c.self.inside.sent.items) c.args.number c.in-Some.sent.now (cc c.in-Some.ensures) c.self.invariant.link.1 in
+      let fits = sent_fits _ (link_of c.self.inside.sides.items c.self.inside.sent.items) c.args.number c.in-Some.sent.now
+      (cc c.in-Some.ensures) c.self.invariant.link.1 in
       let items : c.in_ok-bytes.bytes.items ≡ c.as_slice-2.result.now = search (rules, tests) in
-      let old : c.as_mut_slice.result.now ≡ c.in-Some.sent.now.bytes = c.as_mut_slice.ensures.value ∙ items ∙ c.as_slice-2.ensures.value ∙ ap (λ (x : CodeSent). x.bytes) c.sent.view_is in
-      let whole = area_is c.change.new.bytes c.in_ok-bytes.bytes.items c.in_ok-bytes.bytes.len (c.change.auto.bytes ∙ ap length c.as_mut_slice.ensures.value) (sym c.as_mut_slice.ensures.len ∙ ap length c.as_mut_slice.ensures.value) in
-      let size : length c.as_slice-3.result.now ≡ length c.in-Some.sent.now.bytes = ap length (c.as_slice-3.ensures.value ∙ whole) ∙ c.change.auto.bytes ∙ ap length old in
+      let old : c.as_mut_slice.result.now ≡ c.in-Some.sent.now.bytes = c.as_mut_slice.ensures.value ∙ items ∙ c.as_slice-2.ensures.value
+      ∙ ap (λ (x : CodeSent). x.bytes) c.sent.view_is in
+      let whole = area_is c.change.new.bytes c.in_ok-bytes.bytes.items c.in_ok-bytes.bytes.len (c.change.auto.bytes
+      ∙ ap length c.as_mut_slice.ensures.value) (sym c.as_mut_slice.ensures.len ∙ ap length c.as_mut_slice.ensures.value) in
+      let size : length c.as_slice-3.result.now ≡ length c.in-Some.sent.now.bytes = ap length (c.as_slice-3.ensures.value ∙ whole)
+      ∙ c.change.auto.bytes ∙ ap length old in
       subst (λ (k : ℕ). k ≤ LARGEST_DATAGRAM) (sym size) fits;
 }
 
@@ -20,7 +26,8 @@ pub returns-in_default-clause-damaged : goal.returns-in_default-clause-damaged
 returns-in_default-clause-damaged g c = λ w h f s.
     let a = g.A.App in
     let t = subst (λ x. WorldRepresents a x w) (sym c.self.view_is) s in
-    subst (λ (x : Option Sent). WorldRepresents a c.args.self.now (damaged (a.app_spec (a.config c.args.self.now.node.shared)) a.served w c.args.at c.args.mask x)) (sym (none_numbered (SentRepresents w) c.self.inside.sent.items w.sent c.args.number t.link.sent (cc c.in_default.ensures))) s
+    subst (λ (x : Option Sent). WorldRepresents a c.args.self.now (damaged (a.app_spec (a.config c.args.self.now.node.shared)) a.served w
+    c.args.at c.args.mask x)) (sym (none_numbered (SentRepresents w) c.self.inside.sent.items w.sent c.args.number t.link.sent (cc c.in_default.ensures))) s
 
 pub returns-clause-damaged : goal.returns-clause-damaged
 returns-clause-damaged g c = λ w h f s.
@@ -29,13 +36,21 @@ returns-clause-damaged g c = λ w h f s.
     let m = a.app_spec (a.config c.args.self.now.node.shared) in
     let p = numbered_partner (SentRepresents w) c.self.inside.sent.items w.sent c.args.number c.in-Some.sent.now t.link.sent (cc c.in-Some.ensures) in
     let e : Sent = p.other in
-    let shown : SentRepresents w (record { who = c.sent.inside.who; tick = c.sent.inside.tick; epoch = c.sent.inside.epoch; again = c.sent.inside.again; bytes = c.sent.inside.bytes.items }) e
+    let shown : SentRepresents w (record {
+      who = c.sent.inside.who;
+      tick = c.sent.inside.tick;
+      epoch = c.sent.inside.epoch;
+      again = c.sent.inside.again;
+      bytes = c.sent.inside.bytes.items;
+    }) e
     = subst (λ (x : CodeSent). SentRepresents w x e) (sym c.sent.view_is) p.pair in
     let items : c.in_ok-bytes.bytes.items ≡ c.as_slice-2.result.now = search (rules, tests) in
     let old : c.as_mut_slice.result.now ≡ sent_bytes w e = c.as_mut_slice.ensures.value ∙ items ∙ c.as_slice-2.ensures.value ∙ shown.bytes in
-    let whole = area_is c.change.new.bytes c.in_ok-bytes.bytes.items c.in_ok-bytes.bytes.len (c.change.auto.bytes ∙ ap length c.as_mut_slice.ensures.value) (sym c.as_mut_slice.ensures.len ∙ ap length c.as_mut_slice.ensures.value) in
+    let whole = area_is c.change.new.bytes c.in_ok-bytes.bytes.items c.in_ok-bytes.bytes.len (c.change.auto.bytes
+    ∙ ap length c.as_mut_slice.ensures.value) (sym c.as_mut_slice.ensures.len ∙ ap length c.as_mut_slice.ensures.value) in
     let bytes : c.as_slice-3.result.now ≡ changed (sent_bytes w e) c.args.at c.args.mask
-    = c.as_slice-3.ensures.value ∙ whole ∙ c.change.ensures ∙ ap (λ (xs : List ℕ). changed xs c.from.result c.args.mask) old ∙ ap (λ i. changed (sent_bytes w e) i c.args.mask) c.from.ensures in
+    = c.as_slice-3.ensures.value ∙ whole ∙ c.change.ensures ∙ ap (λ (xs : List ℕ). changed xs c.from.result c.args.mask) old
+    ∙ ap (λ i. changed (sent_bytes w e) i c.args.mask) c.from.ensures in
     let low : 1 ≤ c.args.mask = c.requires.mask in
     let high : c.args.mask < 256 = omega arith in
     let answer : Option Reply = (step m a.served w.node (event_of w.node.addr c.as_slice-3.result.now)).sent in

@@ -14,6 +14,12 @@ returns-in_ok-receive-in-FromNode-clause-handed g c = rw (← c.self-in-FromNode
     let m = a.app_spec (a.config c.self-in-FromNode.inside.node.shared) in
     let number = c.in-FromNode.client in
     let link = link_of c.receive.new.sides.items c.receive.new.sent.items in
-    subst (λ (who : Who). WorldRepresents a (record { node = c.self-in-FromNode.inside.node; link = link; mark = c.self-in-FromNode.inside.mark; spent = c.self-in-FromNode.inside.spent; area = c.receive.new.area.items }) (hands_over m a.served w c.args.bytes.now who)) (sym c.in-FromNode.is)
+    subst (λ (who : Who). WorldRepresents a (record {
+      node = c.self-in-FromNode.inside.node;
+      link = link;
+      mark = c.self-in-FromNode.inside.mark;
+      spent = c.self-in-FromNode.inside.spent;
+      area = c.receive.new.area.items;
+    }) (hands_over m a.served w c.args.bytes.now who)) (sym c.in-FromNode.is)
     (handed_done a _ link c.receive.new.area.items w number c.args.bytes.now s
     (c.in_ok-receive-in-FromNode.ensures.delivered w s.link (c.ticks-tick.ensures ∙ s.node.counts.ticks)) (c.receive.ensures.kept w.node.addr s.home)))

@@ -18,7 +18,10 @@ pub returns-clause-represented : goal.returns-clause-represented
 returns-clause-represented g c =
     record {
       node = c.in_ok-node.ensures.represented;
-      link = record { sides = sides_represent c.args.clients.now c.in_ok-sides.sides.items c.in_ok-sides.ensures; sent = none_represent _ c.new-2.result.items c.new-2.ensures.items };
+      link = record {
+        sides = sides_represent c.args.clients.now c.in_ok-sides.sides.items c.in_ok-sides.ensures;
+        sent = none_represent _ c.new-2.result.items c.new-2.ensures.items;
+      };
       home = link_opened server _ c.args.clients.now c.in_ok-sides.ensures c.requires.few c.new-2.ensures.items refl;
       mark = refl;
       fresh = refl;

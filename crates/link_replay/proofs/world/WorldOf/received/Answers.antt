@@ -8,4 +8,5 @@ returns-clause-shows g c =
 
 pub returns-clause-represented : goal.returns-clause-represented
 returns-clause-represented g c = λ w s h e.
-    c.as_slice.ensures.value ∙ ap (λ (x : CodeSide). x.received) c.found.view_is ∙ ap (λ (k : AbstractClient). k.received) (c.side-found.ensures.represented w s h e).client
+    c.as_slice.ensures.value ∙ ap (λ (x : CodeSide). x.received) c.found.view_is ∙ ap (λ (k : AbstractClient). k.received)
+    (c.side-found.ensures.represented w s h e).client

@@ -1,5 +1,6 @@
 -- The line is that of the world's clients and datagrams.
-use Rattle.link_replay.proofs.Prelude.{◌≡◌, ℕ, List, map, ap, subst, ◌∙◌, on_err_weaker, on_ok_weaker, Appends, AppendsPrefix, CodeSent, CodeSide, code_side_shown, World, LinkRepresents, Link, summary_of, tally_line, tally_of, Tally}
+use Rattle.link_replay.proofs.Prelude.{◌≡◌, ℕ, List, map, ap, subst, ◌∙◌, on_err_weaker, on_ok_weaker, Appends, AppendsPrefix, CodeSent}
+use Rattle.link_replay.proofs.Prelude.{CodeSide, code_side_shown, World, LinkRepresents, Link, summary_of, tally_line, tally_of, Tally}
 use Rattle.link_replay.proofs.Transmission.{wrote_by}
 use Rattle.link_replay.proofs.Shown.{tally_reported}
 use Rattle.link_replay.proofs.world.WorldOf.summary.Goals as goal
@@ -26,11 +27,13 @@ returns-clause-shows g c = rw (← c.self.view_is) (
 pub returns-clause-ok : goal.returns-clause-ok
 returns-clause-ok g c =
     on_ok_weaker c.write_whole.result
-    (λ wrote w represented. of_world (Appends (g.K.Sink.written c.args.sink.now) (g.K.Sink.written c.write_whole.new.self)) c.args.self.now.link w represented.link wrote)
+    (λ wrote w represented. of_world (Appends (g.K.Sink.written c.args.sink.now) (g.K.Sink.written c.write_whole.new.self))
+    c.args.self.now.link w represented.link wrote)
     (returns-clause-shows g c).whole
 
 pub returns-clause-err : goal.returns-clause-err
 returns-clause-err g c =
     on_err_weaker c.write_whole.result
-    (λ wrote w represented. of_world (AppendsPrefix (g.K.Sink.written c.args.sink.now) (g.K.Sink.written c.write_whole.new.self)) c.args.self.now.link w represented.link wrote)
+    (λ wrote w represented. of_world (AppendsPrefix (g.K.Sink.written c.args.sink.now) (g.K.Sink.written c.write_whole.new.self))
+    c.args.self.now.link w represented.link wrote)
     (returns-clause-shows g c).prefix

@@ -14,6 +14,7 @@ loop-slot-preserved g c =
           (let here = inv.so_far w s in
           let v : World = node_handles m a.served here.0 (Periodic slot) in
           let now : WorldRepresents a c.node_ticks.new.self v
-          = subst (λ k. WorldRepresents a c.node_ticks.new.self (node_handles (a.app_spec k) a.served here.0 (Periodic slot))) inv.follows.same (c.in_ok-node_ticks.ensures.ticked here.0 here.1) in
+          = subst (λ k. WorldRepresents a c.node_ticks.new.self (node_handles (a.app_spec k) a.served here.0 (Periodic slot)))
+          inv.follows.same (c.in_ok-node_ticks.ensures.ticked here.0 here.1) in
           (v, now, ap (λ (es : List Event). handles_all m a.served es here.0) (sym (next_call slot c.loop-slot-test.true)) ∙ here.2));
     }

@@ -1,4 +1,5 @@
-use Rattle.link_replay.proofs.Prelude.{◌≡◌, ℕ, ◌-◌, suc, sym, arith, refl, subst, set, advertises_window, Side, client_stepped, with_client, LinkRepresents, Link, link_of}
+use Rattle.link_replay.proofs.Prelude.{◌≡◌, ℕ, ◌-◌, suc, sym, arith, refl, subst, set, advertises_window, Side, client_stepped, with_client}
+use Rattle.link_replay.proofs.Prelude.{LinkRepresents, Link, link_of}
 use Rattle.link_replay.proofs.Pairs.{there_is}
 use Rattle.link_replay.proofs.Places.{side_put}
 use Rattle.link_replay.proofs.Sending

@@ -1,4 +1,5 @@
-use Rattle.link_replay.proofs.Prelude.{◌≡◌, ◌<◌, ◌+◌, ◌-◌, ℕ, ◌∷◌, [], ◌++◌, ap, sym, ◌∙◌, arith, suc, rules, tests, append_assoc, range_with_len}
+use Rattle.link_replay.proofs.Prelude.{◌≡◌, ◌<◌, ◌+◌, ◌-◌, ℕ, ◌∷◌, [], ◌++◌, ap, sym, ◌∙◌, arith, suc, rules, tests, append_assoc}
+use Rattle.link_replay.proofs.Prelude.{range_with_len}
 use Rattle.link_replay.proofs.world.line_acts.past_mark.Goals as goal
 
 next : (n sent : ℕ) → n < sent → range_with_len (n + 1) (sent - n) ≡ (n + 1) ∷ range_with_len (n + 1 + 1) (sent - (n + 1))

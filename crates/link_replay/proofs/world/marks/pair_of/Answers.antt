@@ -1,4 +1,5 @@
-use Rattle.link_replay.proofs.Prelude.{Some, Option, ap, ◌∙◌, sym, AbstractClient, Side, sockets_for, pair_at, SideRepresents, pair_at_side, SocketPair, CodeSide}
+use Rattle.link_replay.proofs.Prelude.{Some, Option, ap, ◌∙◌, sym, AbstractClient, Side, sockets_for, pair_at, SideRepresents, pair_at_side}
+use Rattle.link_replay.proofs.Prelude.{SocketPair, CodeSide}
 use Rattle.link_replay.proofs.Pairs.{numbered_partner}
 use Rattle.link_replay.proofs.world.marks.pair_of.Goals as goal
 

@@ -1,4 +1,5 @@
-use Rattle.link_replay.proofs.Prelude.{◌≡◌, ℕ, ◌-◌, suc, Some, Option, slice_get, set, refl, sym, ap, ◌∙◌, arith, subst, FitsRequest, Side, marked, numbered, with_side, LinkRepresents, SideRepresents, Link, link_of, sees, CodeSide}
+use Rattle.link_replay.proofs.Prelude.{◌≡◌, ℕ, ◌-◌, suc, Some, Option, slice_get, set, refl, sym, ap, ◌∙◌, arith, subst, FitsRequest, Side}
+use Rattle.link_replay.proofs.Prelude.{marked, numbered, with_side, LinkRepresents, SideRepresents, Link, link_of, sees, CodeSide}
 use Rattle.link_replay.proofs.Pairs.{there_is, partner}
 use Rattle.link_replay.proofs.Places.{side_put, link_put}
 use Rattle.link_replay.proofs.world.marks.see.Goals as goal

@@ -8,6 +8,8 @@ returns-clause-posted c = λ w content h t b.
     let items : c.push.new.self.items ≡ c.args.sent.now.items ++ x ∷ [] = search (rules, tests) in
     record {
       sides = h.sides;
-      sent = subst (λ (xs : List CodeSent). Matched (SentRepresents (posts w c.args.who c.args.again content)) xs (posts w c.args.who c.args.again content).sent) (sym items)
-          (posted w c.args.sent.now.items x c.args.who c.args.again content h.sent record { who = refl; tick = t; epoch = c.epoch_of-epoch.ensures w.sides h.sides; again = refl; bytes = b });
+      sent = subst (λ (xs : List CodeSent). Matched (SentRepresents (posts w c.args.who c.args.again content)) xs
+          (posts w c.args.who c.args.again content).sent) (sym items)
+          (posted w c.args.sent.now.items x c.args.who c.args.again content h.sent
+          record { who = refl; tick = t; epoch = c.epoch_of-epoch.ensures w.sides h.sides; again = refl; bytes = b });
     }

@@ -4,7 +4,8 @@ use Rattle.own_app.proofs.app.OwnAppApp.fill.Goals as goal
 
 pub copy_from-requires : goal.copy_from-requires
 copy_from-requires c =
-    subst (λ (l : List ℕ). c.args.self.now.at + length c.args.out.now ≤ length l) (sym c.as_slice.ensures.value) (room c.args.self.now (length c.args.out.now) c.requires)
+    subst (λ (l : List ℕ). c.args.self.now.at + length c.args.out.now ≤ length l) (sym c.as_slice.ensures.value)
+    (room c.args.self.now (length c.args.out.now) c.requires)
 
 pub returns : goal.returns
 returns c = λ p s.

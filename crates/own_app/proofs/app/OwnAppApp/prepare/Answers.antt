@@ -1,4 +1,5 @@
-use Rattle.own_app.proofs.Prelude.{Bool, OwnState, StateRepresents, if◌then◌else◌, message_of, numbers_of, state_of, subst, sym, with_message, ◌∙◌}
+use Rattle.own_app.proofs.Prelude.{Bool, OwnState, StateRepresents, if◌then◌else◌, message_of, numbers_of, state_of, subst, sym}
+use Rattle.own_app.proofs.Prelude.{with_message, ◌∙◌}
 use Rattle.own_app.proofs.CaptureLaws.{capture_represents, is_next_by_value, message_back}
 use Rattle.own_app.proofs.app.OwnAppApp.prepare.Goals as goal
 

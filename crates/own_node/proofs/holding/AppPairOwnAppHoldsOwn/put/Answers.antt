@@ -1,4 +1,5 @@
-use Rattle.own_node.proofs.Prelude.{List, ap, sym, true, ℕ, ◌∙◌, message_of, numbers_of, write_message, pair_numbers, with_own, second_back, second_kept}
+use Rattle.own_node.proofs.Prelude.{List, ap, sym, true, ℕ, ◌∙◌, message_of, numbers_of, write_message, pair_numbers, with_own, second_back}
+use Rattle.own_node.proofs.Prelude.{second_kept}
 use Rattle.own_node.proofs.holding.AppPairOwnAppHoldsOwn.put.Goals as goal
 
 pub returns-clause-numbers : goal.returns-clause-numbers

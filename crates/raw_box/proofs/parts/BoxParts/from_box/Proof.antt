@@ -1,6 +1,7 @@
 -- `from_box` by hand, since it makes a struct that owns memory: the call of `into_raw_with_allocator` gives the pointer and
 -- the allocator with what the box owned, and the parts are made of these.
-use Rattle.raw_box.proofs.Prelude.{◌≡◌, [], ◌∷◌, ◌++◌, refl, ap, ◌∙◌, Goes-blank, handle_tells, fm, box_owns, box_out, box_in, proved_at, leaves}
+use Rattle.raw_box.proofs.Prelude.{◌≡◌, [], ◌∷◌, ◌++◌, refl, ap, ◌∙◌, Goes-blank, handle_tells, fm, box_owns, box_out, box_in, proved_at}
+use Rattle.raw_box.proofs.Prelude.{leaves}
 use mir.Syntax.{a_type, dcons, dnil}
 use mir.Raw.{raw as bare}
 use mir.Val.{Val, vptr, vstruct, of_list}
@@ -8,7 +9,8 @@ use mir.MapTy.{inst_fn}
 use base.Logic.{emp, never, id⊢, fst∗}
 use base.Fml.{ftrue, fsep, flft}
 use types.Logic.{sem}
-use types.Kit.{‵, raw, ◌⊛◌, some, later, ◌$◌, ◌∵◌, !, qed, by, move, keep, drop, split, split3, join, fsplit, fjoin, fpick, pick, use0, use1, await, rewrite, feq_l}
+use types.Kit.{‵, raw, ◌⊛◌, some, later, ◌$◌, ◌∵◌, !, qed, by, move, keep, drop, split, split3, join, fsplit, fjoin, fpick, pick, use0}
+use types.Kit.{use1, await, rewrite, feq_l}
 use types.Run.{stop, fld, of_opd, no_more, and_then, returns}
 use types.ByLocal.{alloc_all, pass_all, free_all, look_at, get, get_in, sets, lands_as}
 use types.Part.{agg, sub, whole}
@@ -45,7 +47,8 @@ from_box_spec 𝓤 𝓛 𝓜 𝓡 wired T A L LA g d dx dd allocator glue glued 
     let E : box.Bx = record { row = T; laws = L; al = record { row = A; laws = LA; g = g; d = d; drops = dd } } in
     let Whole = plain (λ _. box.B E) in
     let stays : Stays En.signature.params En.kept = (stay_dropped Whole no, tt) in
-    proved_at 𝓛 En stays c 𝓜 𝓡 (Goes-blank 𝓛 2 Whole no (λ κs x f. tt), tt) (#self types) (inst_fn types code.function) (code.unfolded 𝓤 𝓛.H 𝓜 𝓡 wired (T, (A, tt)) d dx dd) (λ z are.
+    proved_at 𝓛 En stays c 𝓜 𝓡 (Goes-blank 𝓛 2 Whole no (λ κs x f. tt), tt) (#self types) (inst_fn types code.function)
+    (code.unfolded 𝓤 𝓛.H 𝓜 𝓡 wired (T, (A, tt)) d dx dd) (λ z are.
     let κs = z.0.0 in
     let qs = z.0.1 in
     let v = z.0.3.0 in
@@ -80,4 +83,5 @@ from_box_spec 𝓤 𝓛 𝓜 𝓡 wired T A L LA g d dx dd allocator glue glued 
     move ! (3 ∷ 0 ∷ []) $ parts_in R Z LZ g ! b' o' h' a v.value $
     use0 𝓛 (raw (fact 𝓤 (v.value ≡ v.value))) (fact_i 𝓤 (v.value ≡ v.value) (emp 𝓤) refl) $ nothing ! $ nothing ! $ fjoin ! $
     returns ! (look_at ! 0 refl) $ free_all ! refl $ keep ! (4 ∷ 0 ∷ 2 ∷ 1 ∷ []) $
-    by ! (leaves 𝓛 En stays c z (two_words (vptr b' o') h') (record { at = block_ptr b' o'; alloc = a; value = v.value }) ((tt, (tt, tt)), tt) (tt, tt))))))))))))))
+    by ! (leaves 𝓛 En stays c z (two_words (vptr b' o') h') (record { at = block_ptr b' o'; alloc = a; value = v.value })
+    ((tt, (tt, tt)), tt) (tt, tt))))))))))))))

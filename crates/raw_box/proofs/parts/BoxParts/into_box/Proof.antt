@@ -1,12 +1,14 @@
 -- `into_box` by hand, since it opens a struct that owns memory: the parts are opened, and the call of `from_raw` takes the
 -- block and what it holds.
-use Rattle.raw_box.proofs.Prelude.{◌≡◌, List, [], ◌∷◌, refl, sym, ap, subst, Goes-blank, after, fm, Good, box_out, box_in, proved_at, leaves, met}
+use Rattle.raw_box.proofs.Prelude.{◌≡◌, List, [], ◌∷◌, refl, sym, ap, subst, Goes-blank, after, fm, Good, box_out, box_in, proved_at}
+use Rattle.raw_box.proofs.Prelude.{leaves, met}
 use mir.Syntax.{a_type, dcons, dnil}
 use mir.Val.{Val, vptr}
 use mir.MapTy.{inst_fn}
 use base.Logic.{SProp, id⊢}
 use base.Fml.{ftrue, flft}
-use types.Kit.{‵, raw, ◌⊛◌, some, later, at_ret, ◌$◌, ◌∵◌, !, qed, by, move, keep, drop, split, split3, join, fsplit, fjoin, pick, use1, await, rewrite, feq_i}
+use types.Kit.{‵, raw, ◌⊛◌, some, later, at_ret, ◌$◌, ◌∵◌, !, qed, by, move, keep, drop, split, split3, join, fsplit, fjoin, pick, use1}
+use types.Kit.{await, rewrite, feq_i}
 use types.Run.{stop, fld, of_opd, no_more, and_then, first, blocks, exec, returns}
 use types.ByLocal.{alloc_all, pass_all, free_all, look_at, get, get_in, sets, lands_last, env}
 use types.Part.{sub, whole}

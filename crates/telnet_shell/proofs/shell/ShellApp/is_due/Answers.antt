@@ -6,5 +6,6 @@ pub returns : goal.returns
 returns c = record {
   not_due = λ e. rw (← c.self.view_is) (λ p now s.
       stays _ p c.args._shared.now.hits now
-      (ap (λ (q : List Command). due q c.self.inside.capture) (sym c.as_slice.ensures.value) ∙ sym c.due.ensures ∙ none_of c.due.result (sym c.is_some.ensures ∙ e)) s);
+      (ap (λ (q : List Command). due q c.self.inside.capture) (sym c.as_slice.ensures.value) ∙ sym c.due.ensures
+      ∙ none_of c.due.result (sym c.is_some.ensures ∙ e)) s);
 }

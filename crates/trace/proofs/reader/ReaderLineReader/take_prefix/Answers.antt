@@ -21,4 +21,5 @@ returns-in_ok-look-clause-took g c = λ start before at.
 pub returns-else-len-self-clause-took : goal.returns-else-len-self-clause-took
 returns-else-len-self-clause-took g c = λ start before at.
     let self = c.args.self.now in
-    grown start (g.K.Sink.written c.args.sink.now) before (take c.min-count.result c.args.bytes.now) self.stage self.number self.part c.put.new.self c.put.ensures.text at
+    grown start (g.K.Sink.written c.args.sink.now) before (take c.min-count.result c.args.bytes.now) self.stage self.number self.part
+    c.put.new.self c.put.ensures.text at

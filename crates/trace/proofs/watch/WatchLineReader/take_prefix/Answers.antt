@@ -17,8 +17,10 @@ returns-clause-took g c = λ k before h.
     let bytes = take c.feed_run-run.result.count c.args.bytes.now in
     record {
       form = ap (λ w. w.form) c.put_frame.ensures ∙ h.form;
-      seen = rw c.put_frame.ensures (prefix_seen self.decoder c.feed_run-run.new.self self.frames self.silences bytes reported c.feed_run-run.ensures.prefix.frames before h.seen);
+      seen = rw c.put_frame.ensures (prefix_seen self.decoder c.feed_run-run.new.self self.frames self.silences bytes reported
+          c.feed_run-run.ensures.prefix.frames before h.seen);
       written = wrote_on k before _ _ self h (map Byte bytes) _
-          (prefix_text self.decoder c.feed_run-run.new.self self.frames self.silences bytes reported c.feed_run-run.ensures.prefix.frames self.form before h.seen
+          (prefix_text self.decoder c.feed_run-run.new.self self.frames self.silences bytes reported c.feed_run-run.ensures.prefix.frames
+          self.form before h.seen
           ∙ sym (ap (λ w. w.area) c.put_frame.ensures)) c.in_ok-write_area.ensures.whole;
     }

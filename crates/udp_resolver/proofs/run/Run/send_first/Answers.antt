@@ -12,7 +12,8 @@ returns-clause-knows g c =
       fed = c.requires.fed;
       at = c.requires.at;
       heard = none;
-      sent = ident ∙ ap (λ n. last_ident n first) c.requires.ident ∙ ap (λ l. last_ident 0 l) (first_asked asked c.as_slice.result.now (c.as_slice.ensures.value ∙ none));
+      sent = ident ∙ ap (λ n. last_ident n first) c.requires.ident ∙ ap (λ l. last_ident 0 l)
+          (first_asked asked c.as_slice.result.now (c.as_slice.ensures.value ∙ none));
     })
     c.send_open.ensures.ident
 
@@ -22,5 +23,6 @@ returns-clause-writes g c =
     let first = unanswered asked c.as_slice.result.now in
     let none = c.requires.answers ∙ none_yet asked (length c.args.names.now) (questions-length c.args.asking c.args.names.now) in
     writes_some_by c.send_open.result _ _ _ _
-    (sym (ap (λ n. query_texts n first) c.requires.ident ∙ ap (λ l. query_texts 0 l) (first_asked asked c.as_slice.result.now (c.as_slice.ensures.value ∙ none))))
+    (sym (ap (λ n. query_texts n first) c.requires.ident ∙ ap (λ l. query_texts 0 l)
+    (first_asked asked c.as_slice.result.now (c.as_slice.ensures.value ∙ none))))
     c.send_open.ensures.writes

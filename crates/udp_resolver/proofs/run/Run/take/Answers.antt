@@ -11,7 +11,8 @@ loop-byte-preserved c =
       each = c.take_byte.ensures.each;
       clock = c.take_byte.ensures.clock ∙ inv.clock;
       knows = λ items e k.
-          subst (λ (l : List Item). RunRepresents (questions c.args.asking c.args.names.now) l c.take_byte.new.self) (byte_more items bytes i c.loop-byte-test.true)
+          subst (λ (l : List Item). RunRepresents (questions c.args.asking c.args.names.now) l c.take_byte.new.self)
+          (byte_more items bytes i c.loop-byte-test.true)
           (c.take_byte.ensures.knows (items ++ map Byte (take i bytes)) (calm_over items (take i bytes) e) (inv.knows items e k));
     }
 
@@ -23,6 +24,7 @@ returns c =
       each = inv.each;
       clock = inv.clock;
       knows = λ items e k.
-          subst (λ (l : _). RunRepresents (questions c.args.asking c.args.names.now) (items ++ map Byte l) c.loop-byte.self) (take_all c.loop-byte.byte-index bytes c.loop-byte-test.false)
+          subst (λ (l : _). RunRepresents (questions c.args.asking c.args.names.now) (items ++ map Byte l) c.loop-byte.self)
+          (take_all c.loop-byte.byte-index bytes c.loop-byte-test.false)
           (inv.knows items e k);
     }

@@ -1,4 +1,5 @@
-use Rattle.udp_resolver.proofs.Prelude.{◌≡◌, ◌++◌, List, false, length, map, take, Item, Byte, is_given_up, questions, events, RunRepresents}
+use Rattle.udp_resolver.proofs.Prelude.{◌≡◌, ◌++◌, List, false, length, map, take, Item, Byte, is_given_up, questions, events}
+use Rattle.udp_resolver.proofs.Prelude.{RunRepresents}
 use Rattle.udp_resolver.proofs.run.Run.take.Given as goal
 
 abbrev pub invariant-loop-byte : goal.invariant-loop-byte

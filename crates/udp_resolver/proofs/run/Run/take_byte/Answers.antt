@@ -14,7 +14,8 @@ returns-in-Datagram-clause-knows c = λ items e k.
     let long = ap (λ l. length l) c.receive.ensures ∙ heard-length c.bytes.result.now asked c.as_mut_slice.result.now size ∙ ap (λ l. length l) lent in
     knows_came asked items c.args.byte datagram c.args.self.now _ e k reported.0
     (sym (by_reported (bytes_among items) c.args.byte (Datagram datagram ∷ []) reported.1)) refl refl
-    (refill_same olds c.receive.new.answers long ∙ c.receive.ensures ∙ ap (λ l. received_now l asked c.as_mut_slice.result.now) c.bytes.ensures ∙ ap (λ l. received_now datagram asked l) lent)
+    (refill_same olds c.receive.new.answers long ∙ c.receive.ensures ∙ ap (λ l. received_now l asked c.as_mut_slice.result.now)
+    c.bytes.ensures ∙ ap (λ l. received_now datagram asked l) lent)
 
 pub returns-in_default : goal.returns-in_default
 returns-in_default c = record {
@@ -23,6 +24,7 @@ returns-in_default c = record {
   knows = λ items e k.
       let reported = c.feed.ensures.frames (bytes_among items) k.fed in
       knows_byte (questions c.args.asking c.args.names.now) items c.args.byte c.args.self.now _ k reported.0
-      (sym (by_reported (bytes_among items) c.args.byte (reported_by c.feed.result c.feed.new.self) reported.1) ∙ reported_none c.feed.result c.feed.new.self c.in_default.not-Datagram)
+      (sym (by_reported (bytes_among items) c.args.byte (reported_by c.feed.result c.feed.new.self) reported.1)
+      ∙ reported_none c.feed.result c.feed.new.self c.in_default.not-Datagram)
       refl refl refl;
 }

@@ -15,7 +15,8 @@ returns-clause-knows g c =
     let asked = questions c.args.asking c.args.names.now in
     let due = sym (c.tick.ensures.again (events items) e k.at) ∙ c.if-not-tick.false in
     knows_silence asked items c.args.self.now _ e k (c.tick.ensures.at (events items) e k.at) refl refl
-    (ident ∙ ap (λ l. last_ident c.args.self.now.sender.ident l) (sym (next_by asked items c.args.self.now c.as_slice.result.now e k c.as_slice.ensures.value due))))
+    (ident ∙ ap (λ l. last_ident c.args.self.now.sender.ident l)
+    (sym (next_by asked items c.args.self.now c.as_slice.result.now e k c.as_slice.ensures.value due))))
     c.send_open.ensures.ident
 
 pub returns-then-not-tick-clause-writes : goal.returns-then-not-tick-clause-writes

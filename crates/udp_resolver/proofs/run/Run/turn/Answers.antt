@@ -1,4 +1,5 @@
-use Rattle.udp_resolver.proofs.Prelude.{◌≡◌, ◌∷◌, [], refl, arith, map, take, length, inl, inr, Byte, Quiet, Appends-none, counted, query_texts, questions, events, asked_next}
+use Rattle.udp_resolver.proofs.Prelude.{◌≡◌, ◌∷◌, [], refl, arith, map, take, length, inl, inr, Byte, Quiet, Appends-none, counted}
+use Rattle.udp_resolver.proofs.Prelude.{query_texts, questions, events, asked_next}
 use Rattle.udp_resolver.proofs.FateLaws.{not_given_up}
 use Rattle.udp_resolver.proofs.RunLaws.{adds_bytes, adds_quiet}
 use Rattle.udp_resolver.proofs.run.Run.turn.Goals as goal

@@ -1,4 +1,5 @@
-use Rattle.udp_resolver.proofs.Prelude.{◌≡◌, ◌+◌, ◌++◌, ◌∙◌, None, refl, sym, ap, drop, get_or, Appends-then, appends_by, on_err, sink_view, writes_broken, last_ident, query_texts, next_asking, questions, unanswered, unless_answered}
+use Rattle.udp_resolver.proofs.Prelude.{◌≡◌, ◌+◌, ◌++◌, ◌∙◌, None, refl, sym, ap, drop, get_or, Appends-then, appends_by, on_err, sink_view}
+use Rattle.udp_resolver.proofs.Prelude.{writes_broken, last_ident, query_texts, next_asking, questions, unanswered, unless_answered}
 use Rattle.udp_resolver.proofs.StepLaws.{last_ident-append, query_texts-append, query_texts-moves, question_moves, some_moves}
 use Rattle.udp_resolver.proofs.sender.Sender.send_open.Goals as goal
 
@@ -11,9 +12,11 @@ loop-at-preserved g c =
     record {
       prefix = inv.prefix ++ one;
       area = sent.area;
-      whole = question_moves _ _ _ _ c.index-names-at.result _ _ inv.prefix c.requires.each c.loop-at-test.true c.index-names-at.is c.next_asking-asking.ensures inv.whole;
+      whole = question_moves _ _ _ _ c.index-names-at.result _ _ inv.prefix c.requires.each c.loop-at-test.true c.index-names-at.is
+          c.next_asking-asking.ensures inv.whole;
       ident = sent.ident ∙ ap (λ k. last_ident k one) inv.ident ∙ sym (last_ident-append start inv.prefix one);
-      wrote = appends_by _ _ (query_texts start inv.prefix ++ query_texts c.loop-at.self.ident one) _ (query_texts-moves start c.loop-at.self.ident inv.prefix one inv.ident)
+      wrote = appends_by _ _ (query_texts start inv.prefix ++ query_texts c.loop-at.self.ident one) _
+          (query_texts-moves start c.loop-at.self.ident inv.prefix one inv.ident)
           (Appends-then _ _ _ (query_texts start inv.prefix) (query_texts c.loop-at.self.ident one) inv.wrote sent.writes.writes.whole);
       calm = sent.writes.writes.cause.same ∙ inv.calm;
     }
@@ -25,7 +28,8 @@ returns-in_err-send_unless-clause-writes g c =
     let one = unless_answered (record { asking = c.loop-at.asking; text = c.index-names-at.result }) (get_or c.args.answers.now at None) in
     let start = c.args.self.now.ident in
     let later = unanswered (questions (next_asking c.loop-at.asking) (drop (at + 1) c.args.names.now)) (drop (at + 1) c.args.answers.now) in
-    let whole = question_moves _ (next_asking c.loop-at.asking) _ _ c.index-names-at.result at _ inv.prefix c.requires.each c.loop-at-test.true c.index-names-at.is refl inv.whole in
+    let whole = question_moves _ (next_asking c.loop-at.asking) _ _ c.index-names-at.result at _ inv.prefix c.requires.each
+    c.loop-at-test.true c.index-names-at.is refl inv.whole in
     let rest = query_texts (last_ident start (inv.prefix ++ one)) later in
     let all = query_texts start (unanswered (questions c.args.asking c.args.names.now) c.args.answers.now) in
     let parts : all ≡ (query_texts start inv.prefix ++ query_texts c.loop-at.self.ident one) ++ rest =
@@ -34,6 +38,8 @@ returns-in_err-send_unless-clause-writes g c =
     record {
       writes = writes_broken c.from_residual.result c.from_residual.ensures.0 c.in_err-send_unless.field-0.0
           (sink_view g.K.Sink c.args.out.now) (sink_view g.K.Sink c.loop-at.out) (sink_view g.K.Sink c.send_unless.new.out)
-          (query_texts start inv.prefix) (query_texts c.loop-at.self.ident one) rest all (sym parts) inv.wrote inv.calm c.in_err-send_unless.ensures.writes.writes;
-      some = on_err _ (some_moves (query_texts start inv.prefix) (query_texts c.loop-at.self.ident one) rest all parts c.in_err-send_unless.ensures.writes.some);
+          (query_texts start inv.prefix) (query_texts c.loop-at.self.ident one) rest all (sym parts) inv.wrote inv.calm
+          c.in_err-send_unless.ensures.writes.writes;
+      some = on_err _ (some_moves (query_texts start inv.prefix) (query_texts c.loop-at.self.ident one) rest all parts
+          c.in_err-send_unless.ensures.writes.some);
     }

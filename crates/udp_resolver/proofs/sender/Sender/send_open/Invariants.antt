@@ -1,4 +1,5 @@
-use Rattle.udp_resolver.proofs.Prelude.{◌≡◌, ◌++◌, List, length, drop, Appends, LARGEST_DATAGRAM, last_ident, query_texts, Question, questions, unanswered}
+use Rattle.udp_resolver.proofs.Prelude.{◌≡◌, ◌++◌, List, length, drop, Appends, LARGEST_DATAGRAM, last_ident, query_texts, Question}
+use Rattle.udp_resolver.proofs.Prelude.{questions, unanswered}
 use Rattle.udp_resolver.proofs.sender.Sender.send_open.Given as goal
 
 abbrev pub invariant-loop-at : goal.invariant-loop-at

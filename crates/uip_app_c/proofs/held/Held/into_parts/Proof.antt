@@ -11,6 +11,7 @@ use Rattle.uip_app_c.proofs.held.Held.into_parts.Code as code
 
 pub into_parts_spec : {M : Type 1} → statement M
 into_parts_spec 𝓤 𝓛 𝓜 𝓡 wired =
-    gives_parts_well 𝓛 𝓜 𝓡 ended.kept.0 HeldRow DeviceRow (clauses 𝓛 𝓜.mem 𝓡.returns) (λ v. _) (λ v f. tt) held_opened (λ v. is_some v.device ≡ true) (λ v g. id⊢ 𝓤 _)
+    gives_parts_well 𝓛 𝓜 𝓡 ended.kept.0 HeldRow DeviceRow (clauses 𝓛 𝓜.mem 𝓡.returns) (λ v. _) (λ v f. tt) held_opened
+    (λ v. is_some v.device ≡ true) (λ v g. id⊢ 𝓤 _)
     (λ v is. ((some_of v.device is).0, ap (λ (d : Kept). holds v.alloc v.at d) (some_of v.device is).1))
     (λ v g is. fact_i 𝓤 _ (emp 𝓤) (some_of v.device is).1) #self _ _ (code.unfolded 𝓤 𝓛.H 𝓜 𝓡 wired)

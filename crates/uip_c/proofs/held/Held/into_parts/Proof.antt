@@ -1,5 +1,6 @@
 -- Proves `into_parts` by hand, since it opens a struct that owns memory and makes another: the parts take what the handle owns.
-use Rattle.uip_c.proofs.Prelude.{◌≡◌, refl, true, box_owns, ghosts, WebDevice, IsSoundWebDevice, LineRow, holds, Kept, OnLine, is_on_line, PartsRow, converts_well}
+use Rattle.uip_c.proofs.Prelude.{◌≡◌, refl, true, box_owns, ghosts, WebDevice, IsSoundWebDevice, LineRow, holds, Kept, OnLine, is_on_line}
+use Rattle.uip_c.proofs.Prelude.{PartsRow, converts_well}
 use base.Logic.{emp}
 use contract.Monad.{fact_i}
 use types.Kit.{fpick, rewrite, ‵, ◌$◌}

@@ -11,7 +11,8 @@ returns-clause-answers g c =
     record {
       input = c.take-taken.ensures.fed;
       sends = λ before fed.
-          on_line g.A.App (arrivals_after 0 before (map Byte (take taken.count c.args.bytes.now))) old.guard c.take-taken.new.guard old.node new (left_text_of old)
+          on_line g.A.App (arrivals_after 0 before (map Byte (take taken.count c.args.bytes.now))) old.guard c.take-taken.new.guard old.node
+          new (left_text_of old)
           (take taken.written.wrote c.take-taken.new.out) (text_to_come (datagram_in new.packet) taken.written.left) (none_left old c.requires.none)
           (c.take-taken.ensures.sends before fed);
     }

@@ -1,4 +1,5 @@
-use Rattle.uip_device.proofs.Prelude.{◌≡◌, ◌++◌, ◌∙◌, ◌∷◌, [], ap, false≢true, is_some, lt-ltb, refl, sym, take, datagram_in, Calls, Due, left_text_of, text_sent, text_to_come}
+use Rattle.uip_device.proofs.Prelude.{◌≡◌, ◌++◌, ◌∙◌, ◌∷◌, [], ap, false≢true, is_some, lt-ltb, refl, sym, take, datagram_in, Calls, Due}
+use Rattle.uip_device.proofs.Prelude.{left_text_of, text_sent, text_to_come}
 use Rattle.uip_device.proofs.AnswerLaws.{answers_silent, answers_slot, none_left, over_part}
 use Rattle.uip_device.proofs.SendLaws.{on_line, sends_taken, silent_text}
 use Rattle.uip_device.proofs.device.Device.periodic.Goals as goal

@@ -12,5 +12,6 @@ returns-clause-answers g c =
     let handed = take c.copy_sent.result c.copy_sent.new.out in
     over_part g.A.App call old part (record old { part = part; node = taken.new.node }) handed true refl c.give_up.ensures.kept c.give_up.ensures.spoils
     (answers_whole g.A.App call (record old { part = part }) old.guard taken.new.node handed c.give_up.ensures.free c.requires.none refl refl (λ before.
-    sends_taken g.A.App (Due c.args.slot) old.guard old.guard old.node taken.new.node taken.result (λ own replies. handed ≡ datagram_sent old.guard.rules.key own replies)
+    sends_taken g.A.App (Due c.args.slot) old.guard old.guard old.node taken.new.node taken.result
+    (λ own replies. handed ≡ datagram_sent old.guard.rules.key own replies)
     taken.ensures.takes refl (λ n h. refl) (λ own replies is. c.copy_sent.ensures.bytes old.guard.rules.key own replies is)))

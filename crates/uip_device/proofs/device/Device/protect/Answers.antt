@@ -1,6 +1,7 @@
 use Rattle.uip_device.proofs.Prelude.{◌≡◌, ℕ, Option, ap, arith, initial_node}
 use Rattle.std.specs.Prelude.{unwrap_or}
-use Rattle.uip_device.proofs.device.Device.protect.Goals.{then-node_ticks-ne0-via-then-node_ticks-ne0, then-node_ticks-ne0-via-else-node_ticks-ne0+then-node_counter-ne0}
+use Rattle.uip_device.proofs.device.Device.protect.Goals.{then-node_ticks-ne0-via-then-node_ticks-ne0}
+use Rattle.uip_device.proofs.device.Device.protect.Goals.{then-node_ticks-ne0-via-else-node_ticks-ne0+then-node_counter-ne0}
 use Rattle.uip_device.proofs.device.Device.protect.Goals as goal
 
 pub returns-then-node_ticks-ne0-clause-fresh : goal.returns-then-node_ticks-ne0-clause-fresh

@@ -1,4 +1,5 @@
-use Rattle.uip_device.proofs.Prelude.{◌<◌, List, ℕ, ◌++◌, None, Some, length, ap, sym, subst, ◌∙◌, get_or, get_or_append_left, get_or_default_zero, files_of, WebContent}
+use Rattle.uip_device.proofs.Prelude.{◌<◌, List, ℕ, ◌++◌, None, Some, length, ap, sym, subst, ◌∙◌, get_or, get_or_append_left}
+use Rattle.uip_device.proofs.Prelude.{get_or_default_zero, files_of, WebContent}
 use Rattle.uip_device.proofs.WebLaws.{hits_at}
 use Rattle.uip_device.proofs.device_web.DeviceWeb.hits.Goals as goal
 

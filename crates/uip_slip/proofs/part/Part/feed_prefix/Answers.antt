@@ -11,7 +11,8 @@ returns-then-count-bytes c =
         some = search rules;
         within = run.within;
         frames = λ before f.
-            fed_run before c.args.bytes.now c.join_plain-count.result (state_in c.args.area.now c.args.self.now) (state_in c.args.area.now c.reopen.new.self) (state_in c.join_plain-count.new.area c.join_plain-count.new.self)
+            fed_run before c.args.bytes.now c.join_plain-count.result (state_in c.args.area.now c.args.self.now)
+            (state_in c.args.area.now c.reopen.new.self) (state_in c.join_plain-count.new.area c.join_plain-count.new.self)
             (c.reopen.ensures c.args.area.now) run.plain run.waiting run.joined f;
         leaves = search rules;
         end = search rules;
@@ -29,9 +30,11 @@ returns c =
         some = omega (arith, mark.some);
         within = search rules;
         frames = λ before f.
-            let one = fed_run before c.args.bytes.now n (state_in c.args.area.now c.args.self.now) (state_in c.args.area.now c.reopen.new.self) (state_in c.join_plain-count.new.area c.join_plain-count.new.self)
+            let one = fed_run before c.args.bytes.now n (state_in c.args.area.now c.args.self.now)
+            (state_in c.args.area.now c.reopen.new.self) (state_in c.join_plain-count.new.area c.join_plain-count.new.self)
             (c.reopen.ensures c.args.area.now) run.plain run.waiting run.joined f in
-            fed_on before c.args.bytes.now n c.feed_mark-mark.result.count (state_in c.join_plain-count.new.area c.join_plain-count.new.self) (state_in c.feed_mark-mark.new.area c.feed_mark-mark.new.self) _
+            fed_on before c.args.bytes.now n c.feed_mark-mark.result.count
+            (state_in c.join_plain-count.new.area c.join_plain-count.new.self) (state_in c.feed_mark-mark.new.area c.feed_mark-mark.new.self) _
             (one.0, one.1 ∙ append-nil (frames before)) mark.frames;
         leaves = mark.leaves;
         end = ends_on c.args.bytes.now n c.feed_mark-mark.result.count c.feed_mark-mark.result.fed mark.some mark.within mark.end;

@@ -19,7 +19,8 @@ returns-clause-prefix c =
                 rw (w.first-is, w.self-is, w.area-is, take_first bytes c.requires.some, w.if-bytes.true) (one.0, one.1 ∙ append-nil (frames before))
             | else-bytes w ↦ rw (w.first-is, w.self-is, w.area-is, append-nil before) (f, refl)
           ] in
-          fed_on before bytes first c.feed_parts-parts.result.count (state_in c.if-bytes.area c.if-bytes.self) (state_in c.feed_parts-parts.new.area c.feed_parts-parts.new.self) _ so_far parts.frames;
+          fed_on before bytes first c.feed_parts-parts.result.count (state_in c.if-bytes.area c.if-bytes.self)
+          (state_in c.feed_parts-parts.new.area c.feed_parts-parts.new.self) _ so_far parts.frames;
       leaves = parts.leaves;
       end = ends_on bytes first c.feed_parts-parts.result.count c.feed_parts-parts.result.fed parts.some parts.within parts.end;
     }
