@@ -71,17 +71,17 @@ END
     (cd "$root" && find . | "$out/kernel/bin/busybox" cpio -o -H newc 2>/dev/null | gzip -1 >"$out/initrd.gz")
 }
 
-# boot MTU
+# boot MTU. The line is a connection of TCP: a UNIX socket has room for some 280 writes of one byte, and the ports of two boards do not get over a
+# socket that takes no more. qemu's nRF51 then sets SENT without its interrupt, and its FE310 drops the byte.
 boot() {
-    line=$out/line.$1
-    rm -f "$line"
+    port=$(python3 -c 'import socket; it = socket.create_server(("127.0.0.1", 0)); print(it.getsockname()[1])')
     timeout "${LIMIT:-300}" $x86 -accel tcg -m 256 -display none -no-reboot -nic none -kernel "$(ls "$out"/kernel/boot/vmlinuz-*)" -initrd "$out/initrd.gz" \
-        -append "console=ttyS0 panic=-1 quiet mtu=$1" -serial "file:$out/told.$1" -chardev "socket,id=line,path=$line,server=on,wait=off" \
-        -serial chardev:line -monitor none &
+        -append "console=ttyS0 panic=-1 quiet mtu=$1" -serial "file:$out/told.$1" \
+        -chardev "socket,id=line,host=127.0.0.1,port=$port,server=on,wait=off,nodelay=on" -serial chardev:line -monitor none &
     pc=$!
-    until [ -S "$line" ] || ! kill -0 $pc 2>/dev/null; do sleep 0.1; done
     # shellcheck disable=SC2086
-    $(make -s -C "$here" BOARD="$board" machine | tail -1) -nic none -display none -monitor none -serial "unix:$line" &
+    $(make -s -C "$here" BOARD="$board" machine | tail -1) -nic none -display none -monitor none \
+        -chardev "socket,id=line,host=127.0.0.1,port=$port,nodelay=on,reconnect=1" -serial chardev:line &
     firmware=$!
     wait $pc
     kill $firmware 2>/dev/null
