@@ -1,10 +1,10 @@
 // The demo: the buttons A and B, the matrix of LEDs and the temperature of the chip as values of the page (folder site). A link of the page shows
-// a picture on the matrix, and so do the buttons: A the one before, B the next.
+// a picture on the matrix, and so do the buttons: A the one before, B the next. A LED that is touched on the page is switched.
 #include "step.h"
 #include "text.h"
 
 #define REG(at) (*(volatile unsigned *)(unsigned long)(at))
-enum { A_IS_DOWN, A_COUNT, B_IS_DOWN, B_COUNT, PICTURE, TEMPERATURE };                  // the values of the pages
+enum { A_IS_DOWN, A_COUNT, B_IS_DOWN, B_COUNT, LEDS, TEMPERATURE };                     // the values of the pages
 enum { TIMER = 0x40009000, START = TIMER, DONE = TIMER + 0x140, SHORTS = TIMER + 0x200, INTERRUPT = TIMER + 0x304, BITS = TIMER + 0x508,
        DIVISOR = TIMER + 0x510, END = TIMER + 0x540, TIMER_LINE = 9 };
 enum { SENSOR = 0x4000c000, MEASURE = SENSOR, STOP = SENSOR + 4, MEASURED = SENSOR + 0x100, QUARTERS = SENSOR + 0x508 };
@@ -12,13 +12,14 @@ enum { PINS = 0x50000000, OUT = PINS + 0x504, IN = PINS + 0x510, FORM = PINS + 0
 enum { ROWS = 3, COLUMNS = 9, FIRST_ROW = 13, FIRST_COLUMN = 4, STEADY = 10 };
 static const unsigned char button_pins[2] = {17, 26};                                   // low while the button is down
 
-// Each picture is five rows of the five LEDs that one sees, the left one first. The page draws them too.
+// A picture is a number: its five digits to the base 32 are the rows, each with a bit for each LED, as one sees them.
+#define ROWS_OF(a, b, c, d, e) ((a) << 20 | (b) << 15 | (c) << 10 | (d) << 5 | (e))
 enum { PICTURES = 4 };
-static const struct { const char *file; unsigned char rows[5]; } pictures[PICTURES] = {
-    {"/off.html", {0, 0, 0, 0, 0}},
-    {"/heart.html", {012, 037, 037, 016, 004}},
-    {"/smile.html", {012, 012, 000, 021, 016}},
-    {"/duck.html", {014, 034, 017, 016, 000}},
+static const struct { const char *file; unsigned leds; } pictures[PICTURES] = {
+    {"/off.html", 0},
+    {"/heart.html", ROWS_OF(012, 037, 037, 016, 004)},
+    {"/smile.html", ROWS_OF(012, 012, 000, 021, 016)},
+    {"/duck.html", ROWS_OF(014, 034, 017, 016, 000)},
 };
 
 // The wires: LED 5 * row + column of what one sees is at row / 10 and column % 10 of the matrix.
@@ -28,13 +29,13 @@ static const unsigned char wires[25] = {
 
 static unsigned lit[ROWS];                                     // the pins of each row: the row is high, and the columns of its LEDs are low
 static volatile unsigned counts[2];                            // how often each button was pressed
-static volatile unsigned char is_down[2];
+static volatile unsigned char is_down[2] = {1, 1};             // so what is down at the start was not pressed
 
-static void show(unsigned picture) {
+static void show(unsigned leds) {
     unsigned all = ((1u << COLUMNS) - 1) << FIRST_COLUMN;
     for (unsigned row = 0; row < ROWS; row++) lit[row] = all | 1u << (FIRST_ROW + row);
     for (unsigned led = 0; led < 25; led++)
-        if (pictures[picture].rows[led / 5] >> (4 - led % 5) & 1) lit[wires[led] / 10] &= ~(1u << (FIRST_COLUMN - 1 + wires[led] % 10));
+        if (leds >> (24 - led) & 1) lit[wires[led] / 10] &= ~(1u << (FIRST_COLUMN - 1 + wires[led] % 10));
 }
 
 // Each 2 ms: the next row of the matrix, and a look at the buttons, which bounce.
@@ -83,27 +84,40 @@ static void set_number(size_t value, unsigned number) {
     uip_set_value(&device, value, text, decimal(text, number));
 }
 
-void work(void) {
-    static unsigned picture, shown = PICTURES, hits[PICTURES], seen[2];
-    static int is_started;
-    if (!is_started) start();
-    is_started = 1;
+// The picture of a link that was followed, or that a visitor has drawn; or the old one.
+static unsigned requested(unsigned leds, unsigned *picture) {
+    static unsigned hits[PICTURES], drawn;
+    unsigned char query[UIP_MAX_QUERY];
+    unsigned number;
     for (unsigned it = 0; it < PICTURES; it++) {
         size_t len = 0;
         while (pictures[it].file[len]) len++;
-        unsigned number = uip_hits(&device, pictures[it].file, len).number;
-        if (number != hits[it]) picture = it;
+        number = uip_hits(&device, pictures[it].file, len).number;
+        if (number != hits[it]) leds = pictures[*picture = it].leds;
         hits[it] = number;
     }
+    uip_query_text got = uip_query(&device, UIP_TEXT("/draw.html"), query, sizeof query);
+    if (got.hit != drawn && number_in(query, got.len, "leds", &number) && number < 1 << 25) leds = number;
+    drawn = got.hit;
+    return leds;
+}
+
+void work(void) {
+    static unsigned picture, leds, shown = 1, seen[2];
+    static int is_started;
+    if (!is_started) start();
+    is_started = 1;
+    leds = requested(leds, &picture);
     for (unsigned button = 0; button < 2; button++) {
         unsigned pressed = counts[button] - seen[button];
         seen[button] += pressed;
         picture = (picture + (button ? 1 : PICTURES - 1) * pressed) % PICTURES;
-        uip_set_value(&device, button ? B_IS_DOWN : A_IS_DOWN, is_down[button] ? "1" : "0", 1);
+        if (pressed) leds = pictures[picture].leds;
+        uip_set_value(&device, button ? B_IS_DOWN : A_IS_DOWN, counts[button] && is_down[button] ? "1" : "0", 1);
         set_number(button ? B_COUNT : A_COUNT, seen[button]);
     }
     look_at_temperature();
-    if (picture == shown) return;
-    show(shown = picture);
-    set_number(PICTURE, picture);
+    if (leds == shown) return;
+    show(shown = leds);
+    set_number(LEDS, leds);
 }

@@ -4,8 +4,8 @@
     make -C boards BOARD=microbit DEMO=1 run MODEL="-qtest unix:QTEST,server=on,wait=off -monitor unix:MONITOR,server=on,wait=off" \\
         TRY="python3 microbit/try_demo.py QTEST MONITOR"
 
-QTEST and MONITOR are names of sockets. The expected LEDs are those of the board's circuit: rows at P0.13 to P0.15 (high), columns at P0.04 to P0.12
-(low). qemu has no sensor of temperature, so that value stays empty.
+QTEST and MONITOR are names of sockets. What the firmware writes to its pins is decoded by the circuit of the micro:bit v1: its LEDs lie between
+the rows P0.13 to P0.15 (high) and the columns P0.04 to P0.12 (low). qemu has no sensor of temperature, so that value stays empty.
 """
 import json
 import os
@@ -19,15 +19,36 @@ sys.path.insert(0, os.path.join(os.path.dirname(os.path.abspath(__file__)), "../
 import fetch  # noqa: E402
 
 BUTTONS = {"a": 17, "b": 26}
-# The heart on the matrix, worked out by hand from the circuit: of each row the columns that are lit.
-HEART = {13: {8, 9, 10, 12}, 14: {4, 5, 6, 7, 8}, 15: {4, 7, 8, 9, 10, 11, 12}}
+PINS_OUT, PINS_DIRECTION = 0x50000504, 0x50000514
+# The schematic: for each row of the circuit and each of its columns the LED that one sees, by its column and row from the upper left.
+ROWS, COLUMNS = range(13, 16), range(4, 13)
+LEDS = {13: ((0, 0), (2, 0), (4, 0), (4, 3), (3, 3), (2, 3), (1, 3), (0, 3), (1, 2)),
+        14: ((4, 2), (0, 2), (2, 2), (1, 0), (3, 0), (3, 4), (1, 4), None, None),
+        15: ((2, 4), (4, 4), (0, 4), (0, 1), (1, 1), (2, 1), (3, 1), (4, 1), (3, 2))}
+OFF = ".....", ".....", ".....", ".....", "....."
+PICTURES = {
+    "/heart.html": (".#.#.", "#####", "#####", ".###.", "..#.."),
+    "/smile.html": (".#.#.", ".#.#.", ".....", "#...#", ".###."),
+    "/duck.html": (".##..", "###..", ".####", ".###.", "....."),
+    "/off.html": OFF,
+}
 
 
-def link(path):
-    it = socket.socket(socket.AF_UNIX)
-    it.connect(path)
-    it.settimeout(5)
-    return it
+def link(path, patience=20):
+    """A connection to a socket of qemu, which makes it a moment after its start."""
+    end = time.monotonic() + patience
+    while True:
+        it = socket.socket(socket.AF_UNIX)
+        try:
+            it.connect(path)
+        except OSError:
+            it.close()
+            if time.monotonic() > end:
+                raise
+            time.sleep(0.1)
+        else:
+            it.settimeout(5)
+            return it
 
 
 def set_pin(qtest, pin, level):
@@ -37,24 +58,35 @@ def set_pin(qtest, pin, level):
         sys.exit(f"qemu refused pin {pin}: {answer}")
 
 
-def output_pins(monitor):
-    """The pins that are high, as the firmware set them."""
-    monitor.sendall(b"x /1wx 0x50000504\n")
+def register(monitor, address):
+    """A register, as the firmware set it."""
+    monitor.sendall(f"x /1wx {address:#x}\n".encode())
     text = b""
-    while not (found := re.search(rb"50000504: 0x([0-9a-f]{8})", text)):
+    while not (found := re.search(rb"%08x: 0x([0-9a-f]{8})" % address, text)):
         text += monitor.recv(4096)
     return int(found[1], 16)
 
 
-def lit(monitor):
-    """The lit columns of each row, from many looks: the firmware shows one row at a time."""
-    rows = {}
-    for _ in range(100):
-        pins = output_pins(monitor)
-        for row in (13, 14, 15):
-            if pins >> row & 1:
-                rows[row] = {column for column in range(4, 13) if not pins >> column & 1}
-    return rows
+def seen(monitor):
+    """The picture that one sees, from many looks: the firmware shows one row of the circuit at a time."""
+    picture = [[" "] * 5 for _ in range(5)]
+    for _ in range(200):
+        pins = register(monitor, PINS_OUT)
+        high = [row for row in ROWS if pins >> row & 1]
+        if len(high) > 1:
+            return f"rows {high} at once"
+        for row in high:
+            for column, led in zip(COLUMNS, LEDS[row]):
+                if led:
+                    picture[led[1]][led[0]] = "." if pins >> column & 1 else "#"
+                elif not pins >> column & 1:
+                    return f"a LED at row {row} and column {column}, where none is"
+    return tuple("".join(row) for row in picture)
+
+
+def number_of(picture):
+    """As the page has it."""
+    return str(int("".join(picture).replace(".", "0").replace("#", "1"), 2))
 
 
 def state():
@@ -83,17 +115,31 @@ def main():
     after = state()
     good &= see(held["a"] == "1" and after["a"] == "0" and int(after["na"]) == int(before["na"]) + 1, f"button A was pressed once: {held} {after}")
     good &= see(after["b"] == "0" and after["nb"] == before["nb"] and after["t"] == "", "button B was not, and there is no temperature")
-    fetch.fetch("/heart.html")
+    outputs = register(monitor, PINS_DIRECTION)
+    good &= see(all(outputs >> pin & 1 for pin in (*ROWS, *COLUMNS)), f"rows and columns are outputs: {outputs:#010x}")
+    for name, picture in PICTURES.items():
+        fetch.fetch(name)
+        time.sleep(0.5)
+        shown = seen(monitor)
+        good &= see(shown == picture and state()["leds"] == number_of(picture), f"{name} is on the matrix: {shown}")
+    for column, row in ((0, 0), (3, 2), (4, 4)):
+        picture = tuple("".join("#" if (x, y) == (column, row) else "." for x in range(5)) for y in range(5))
+        fetch.fetch(f"/draw.html?leds={number_of(picture)}")
+        time.sleep(0.5)
+        shown = seen(monitor)
+        good &= see(shown == picture, f"a visitor switches the LED of column {column} and row {row}: {shown}")
+    fetch.fetch("/draw.html?leds=33554432")
+    fetch.fetch("/draw.html?leds=")
     time.sleep(0.5)
-    rows = lit(monitor)
-    good &= see(state()["p"] == "1" and rows == HEART, f"the heart is on the matrix: {rows}")
-    set_pin(qtest, BUTTONS["b"], 0)
-    time.sleep(0.5)
-    good &= see(state()["p"] == "2", "button B shows the next picture")
+    shown = seen(monitor)
+    good &= see(shown == picture, "what is no picture changes nothing")
     fetch.fetch("/off.html")
-    time.sleep(0.5)
-    rows = lit(monitor)
-    good &= see(len(rows) == 3 and not any(rows.values()), f"all LEDs are off: {rows}")
+    for button, name in (("b", "/heart.html"), ("b", "/smile.html"), ("a", "/heart.html"), ("a", "/off.html"), ("a", "/duck.html")):
+        set_pin(qtest, BUTTONS[button], 0)
+        time.sleep(0.5)
+        set_pin(qtest, BUTTONS[button], 1)
+        time.sleep(0.5)
+        good &= see(seen(monitor) == PICTURES[name], f"button {button} shows {name}")
     sys.exit(0 if good else 1)
 
 
