@@ -69,7 +69,7 @@ uint64_t __udivdi3(uint64_t a, uint64_t b) { return divide(a, b).quotient; }
 uint64_t __umoddi3(uint64_t a, uint64_t b) { return divide(a, b).remainder; }
 #endif
 
-#if __SIZEOF_POINTER__ == 4 && !defined __arm__    // shifts of 64-bit numbers, by 0 to 63
+#if __SIZEOF_POINTER__ == 4 && (!defined __arm__ || defined __clang__)    // shifts of 64-bit numbers, by 0 to 63; gcc has them in libgcc
 uint64_t __lshrdi3(uint64_t a, int by) {
     uint32_t high = (uint32_t)(a >> 32), low = (uint32_t)a;
     if (by >= 32) return high >> (by - 32);
@@ -120,6 +120,11 @@ uint64_t __aeabi_uidivmod(uint32_t a, uint32_t b) {
 }
 
 uint32_t __aeabi_uidiv(uint32_t a, uint32_t b) { return (uint32_t)__aeabi_uidivmod(a, b); }
+#endif
+
+#ifdef __clang__
+uint64_t __aeabi_llsr(uint64_t a, int by) { return __lshrdi3(a, by); }
+uint64_t __aeabi_llsl(uint64_t a, int by) { return __ashldi3(a, by); }
 #endif
 
 uint64_t __aeabi_lmul(uint64_t a, uint64_t b) {    // for a Cortex-M0+: products of 16-bit parts
