@@ -30,14 +30,14 @@ class Block:
         self.call = call[1] if call else ""
 
     def paragraphs(self):
-        """The paragraphs: each a text, or a list of items (term, text), or lines to be kept as they are."""
+        """The paragraphs: each a text, or a list of items (term, text), or lines to be kept as they are. A list may follow a text at once."""
         group = []
         for line in [*self.lines, ""]:
-            if line:
-                group.append(line)
-            elif group:
+            if group and (not line or is_item(line) != is_item(group[0])):
                 yield paragraph(group)
                 group = []
+            if line:
+                group.append(line)
 
     def summary(self):
         """The first sentence."""
@@ -45,8 +45,13 @@ class Block:
         return first.split(". ")[0].rstrip(".")
 
 
+def is_item(line):
+    """Whether a line is of a list: its term, or more of its text."""
+    return line.startswith("  ")
+
+
 def paragraph(group):
-    if not all(line.startswith("  ") for line in group):
+    if not is_item(group[0]):
         return group if any(re.search(r"\S {3,}\S", line) for line in group) else " ".join(line.strip() for line in group)
     indent = min(len(line) - len(line.lstrip()) for line in group)
     items = []
