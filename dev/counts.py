@@ -7,7 +7,7 @@ import re
 
 from repository import read, tracked
 
-MOST_IMPORTS = 9.2          # of 100 lines
+MOST_IMPORTS = 10.4         # of 100 lines. Breaking lines of over 160 columns, and imports of over 140, made 9.1 of them 10.3
 MOST_LONG_CLAUSES = 38
 LONG = 200                  # characters of a clause
 IMPORT = re.compile(r"(?:unfoldable )?(?:pub(?:\(\w+\))? )?(?:unfoldable )?use ")

@@ -9,6 +9,8 @@ import subprocess
 import sys
 import tempfile
 
+import counts
+
 HERE = os.path.dirname(os.path.abspath(__file__))
 KIT = "The kit is rattle-kit-13 with the letters 13b and 13y.\n"
 TABLE = KIT + "\n## How to add something\n\n| thing | places |\n|---|---|\n| a counter | `python3 dev.py add counter` |\n"
@@ -227,7 +229,7 @@ def shape(trial):
     trial.write("crates/low/specs/Low.antt", spec + "use A.{a}\n" * 60)
     trial.write("crates/low/src/low.rt", FILES["crates/low/src/low.rt"] + code.replace("d" * 95, "d" * 105) * 39)
     out = trial.run("docs")[1]
-    trial.see("lines are imports, more than 9.2 %" in out and "crates: 39 clauses have over 200 characters, and 38 may" in out
+    trial.see(f"lines are imports, more than {counts.MOST_IMPORTS:g} %" in out and "crates: 39 clauses have over 200 characters, and 38 may" in out
               and out.count("both, ") == 39, f"docs with a bad shape: {out}")
     trial.write("crates/low/specs/Low.antt", spec)
     trial.write("crates/low/src/low.rt", FILES["crates/low/src/low.rt"])
