@@ -15,6 +15,9 @@ MOST_IN_A_CHAIN = 8
 # A crate at the end of a longer chain, with the length allowed (docs/DECISIONS.md): ARP is below the device on Ethernet.
 LONGER_CHAINS = {"uip_c": 9, "uip_app_c": 9, "uip_both_c": 9}
 WIDTH = 100
+# The most lines of a page that must stay short; the most kB (1,024 bytes) of the texts of docs/ in all, and of them by hand.
+MOST_LINES = {"README.md": 120, "include/uip.h": 580}
+MOST_KB, MOST_KB_BY_HAND = 300, 170
 # Names in documents that no source has: words of the kit, of std and of the system.
 OUTSIDE = set("""
     rt rattle python3 valgrind qemu-system-aarch64 tshark dnsmasq telnet inetutils curl stty strace node chromium git
@@ -161,10 +164,28 @@ class Documents:
             elif name in LONGER_CHAINS and len(chain) < most:
                 self.fault("dev/documents.py", 1, f"the chain to {name} has {len(chain)} crates, and LONGER_CHAINS allows {most}")
 
+    def see_sizes(self):
+        for page, most in MOST_LINES.items():
+            lines = read(page).count("\n") if page in self.places else 0
+            if lines > most:
+                self.fault(page, lines, f"{lines} lines; at most {most} are allowed")
+        for size, most, what in zip(sizes(self.files), (MOST_KB, MOST_KB_BY_HAND), ("in all", "by hand"), strict=True):
+            if size > 1024 * most:
+                self.fault("docs", 0, f"{size / 1024:.1f} kB of text {what}; at most {most} are allowed")
+
     def see_all(self):
         for page in self.pages:
             self.see_page(page)
         self.see_crates()
+        self.see_sizes()
+
+
+def sizes(files):
+    """The bytes of the texts of docs/: in all, and without what `dev.py trusted write` makes."""
+    texts = {it: read(it) for it in files if re.fullmatch(r"docs/[^/]+\.(md|\d)", it)}
+    made = re.compile(r"<!-- (?:crates|text)[^\n]*-->\n.*?<!-- end -->", re.S)
+    by_hand = [made.sub("", text) for page, text in texts.items() if page != "docs/DEFINITIONS.md"]
+    return [sum(len(text.encode()) for text in some) for some in (texts.values(), by_hand)]
 
 
 def wrapped(text):
@@ -239,5 +260,6 @@ def docs(crates):
         failed |= subprocess.run([sys.executable, *script], cwd=TOP, check=False).returncode != 0
     see_kit()
     if not failed:
-        print("the documents agree with the sources")
+        kept = "{:.0f} kB, of them {:.0f} by hand".format(*(size / 1024 for size in sizes(documents.files)))
+        print(f"the documents agree with the sources; docs/ has texts of {kept}")
     return int(failed)

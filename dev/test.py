@@ -195,6 +195,29 @@ def documents(trial):
     os.remove(os.path.join(trial.room, "docs/files.md"))
 
 
+def long_pages(trial):
+    """README and the texts of docs/ are short; of docs/ a generated page, and a generated part of one, count in all and not by hand."""
+    words = "a word " * 8 + "\n"
+    kept = open(os.path.join(trial.room, "README.md"), encoding="utf8").read()
+    trial.write("README.md", kept + "\n" * 121)
+    trial.write("docs/long.md", words * (170 * 1024 // len(words) - 10))
+    trial.write("docs/DEFINITIONS.md", words * (120 * 1024 // len(words)))
+    out = trial.run("docs")[1]
+    trial.see("lines; at most 120 are allowed" in out and "of text" not in out, f"a long README: {out[:400]}")
+    trial.write("README.md", kept)
+    trial.write("docs/long.1", words * 20)
+    out = trial.run("docs")[1]
+    trial.see("kB of text by hand; at most 170" in out and "in all" not in out and "lines; at most" not in out, f"docs by hand: {out}")
+    trial.write("docs/long.1", "<!-- crates -->\n" + words * 20 + "<!-- end -->\n")
+    out = trial.run("docs")[1]
+    trial.see("of text" not in out, f"a generated part counts as one by hand: {out}")
+    trial.write("docs/DEFINITIONS.md", words * (131 * 1024 // len(words)))
+    out = trial.run("docs")[1]
+    trial.see("kB of text in all; at most 300" in out and "by hand" not in out, f"docs in all: {out[:400]}")
+    for page in ("long.md", "long.1", "DEFINITIONS.md"):
+        os.remove(os.path.join(trial.room, "docs", page))
+
+
 def gate(trial):
     gate_py = open(os.path.join(HERE, "gate.py"), encoding="utf8").read()
     trial.write("dev/gate.py", gate_py.replace("PROGRESS = 20 ", "PROGRESS = 0 "))
@@ -281,7 +304,7 @@ def further(trial):
 def main():
     with tempfile.TemporaryDirectory() as room:
         trial = Trial(room)
-        for part in (words, tags, calls, documents, gate, shape, folds, further):
+        for part in (words, tags, calls, documents, long_pages, gate, shape, folds, further):
             part(trial)
     print(f"dev.py: {trial.count} expectations, {trial.failed} failed")
     sys.exit(1 if trial.failed else 0)

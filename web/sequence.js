@@ -1,4 +1,4 @@
-// The sequence diagram: one row for each datagram, in the words of `uipd replay .. show` (docs/FORMATS.md, Reports). Each
+// The sequence diagram: one row for each datagram, in the words of `uipd replay .. show` (crates/link_replay/README.md). Each
 // retransmission is compared with the bytes that were sent before at its sequence numbers, of which each has one byte
 // (RFC 793 section 3.3). So the diagram is a test of any node.
 import { ACK, FIN, PSH, RST, SYN, read } from "./wire.js";

@@ -251,7 +251,7 @@ inBrowser("a node by uIP's own rules is found in the page", () =>
     await tab.picture(join(PICTURES, "other.png"));
   }));
 
-// As docs/FORMATS.md has the form of a report.
+// As crates/link_replay/README.md has the form of a report.
 const REPORT = "1 0 c0 S 0 0\n2 0 n0 SA 0 0\n3 0 c0 AP 1 9\n4 6 n0 SA 0 0 again\nticks 6 datagrams 4\n";
 
 inBrowser("a report of a replay is drawn", () => withBridge(startServe("--page"), async tab => {

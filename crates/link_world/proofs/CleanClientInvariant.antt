@@ -1,5 +1,5 @@
 -- What holds of one client and of the connection that serves it, as long as the client is clean.
--- [add: state] A case of each invariant, here and in some fifteen files of this folder; docs/LINK_THEOREM.md names them.
+-- [add: state] A case of each invariant, here and in some fifteen files of this folder; THEOREM.md names them.
 use Rattle.link_world.proofs.Prelude.{◌≡◌, ℕ, suc, ◌+◌, ◌<◌, ◌≤◌, Bool, true, false, List, [], ◌++◌, length, Option, Some, None, slice_get}
 use Rattle.link_world.proofs.Prelude.{refl, if◌then◌else◌, wrap, PlainSegment, has_syn, has_fin, has_rst, has_ack, Snapshot, AppSpec}
 use Rattle.link_world.proofs.Prelude.{IsPrefixOf, State, Closed, SynRcvd, Established, CloseWait, FinWait1, FinWait2, Closing, TimeWait}

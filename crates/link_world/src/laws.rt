@@ -1,5 +1,5 @@
 //! The guarantee of the link world: whatever a schedule loses, repeats or reorders, a clean client has received a prefix of its
-//! page, and all of it if it saw a normal close. Each law is the clause of a function without parameters; docs/LINK_THEOREM.md
+//! page, and all of it if it saw a normal close. Each law is the clause of a function without parameters; THEOREM.md
 //! describes the proof.
 
 ghost use Rattle.link_world.specs.Prelude.{CleanParts, HonestLink, BytesAreRead, SentToClients, PrefixAndWhole, SameBytes};
