@@ -42,7 +42,7 @@ stations_at m served w gives (move ∷ moves) s =
 
 -- Moves at these stations were answered so in turn. Each writes the frame of what is sent in entries of its own. The trace of all moves
 -- conforms, in the numbers of the node and in those of the wire, and each segment is read by its peer. If the output of the application is
--- a page, each cooperating peer has its whole page, over any link that does not lose too much: what the guard drops is lost.
+-- a page, that of each cooperating peer arrives, over any link that does not lose too much: what the guard drops is lost.
 pub record FramesConform {A : Type 0} (w : GuardedLink A) (m : AppSpec) (model : ℕ → OutputModel) (served : ℕ → Bool)
     (own : Addr) (stations : List (Station A)) (all : List AnsweredFrame) : Type 0 where
   pub moves : List (FrameTrace A)

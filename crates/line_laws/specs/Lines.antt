@@ -44,7 +44,7 @@ EveryLineConforms w =
     → (pace : ℕ) (items : List Item) → All IsItem items
     → LineConformsRead w model served own (station_events_of_line w own pace items) (output_by w m served numbers own pace items)
 
--- If the output of the application is a page, cooperating peers also arrive at the end of theirs over this medium, though it loses datagrams.
+-- If the output of the application is a page, that of each cooperating peer also arrives over this medium, though it loses datagrams.
 abbrev pub EveryLineArrives : {A : Type 0} → MediumSpec A → Type 0
 EveryLineArrives w =
     (m : AppSpec) (pages : Pages) → IsPaged m pages → HasBytes pages

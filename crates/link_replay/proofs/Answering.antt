@@ -13,7 +13,7 @@ use Rattle.link_replay.proofs.Prelude.{made_first, made_end, newdata_grows, with
 use Rattle.link_replay.proofs.Prelude.{waits_for_capture, left_of, silent_none, text_bound, uip_short, GoesOnBy, AnswersIn, AnswersPolled}
 use Rattle.link_replay.proofs.Prelude.{prefix_length, both_ways, ltb-zero, not-true, all_nil, all_cons, most_of, texts_for, pieces_for}
 use Rattle.std.proofs.lemmas.Bool.{eq-eqb}
-use Rattle.link_replay.proofs.TextCounts.{left_in, behind, counted, shorter, one_less}
+use Rattle.node_laws.proofs.TextCounts.{left_in, behind, counted, shorter, one_less}
 
 not_twenty : (n : ℕ) → n < 20 → (n == 20) ≡ false
 not_twenty n l = grind (arith, common_steps)

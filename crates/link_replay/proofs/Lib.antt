@@ -37,7 +37,6 @@ pub mod ReportTexts
 pub mod Reported
 pub mod Typed
 pub mod Undisturbed
-pub mod TextCounts
 pub mod Answering
 pub mod Web
 pub mod Worked

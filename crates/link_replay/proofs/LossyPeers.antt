@@ -16,13 +16,13 @@ module _ (site : SiteContent) (loaded : IsLoaded site) (m : AppSpec) (here : App
 
   -- at a port where the application acts as the web server
   peer_arrives : (a : Asker) (p : Sockets) → ActsAs m (web_spec files) p.own_port.0 here → WebPeerArrives files trace a p
-  peer_arrives a p acts decided incarnation asks enough =
+  peer_arrives a p acts decided incarnation asks =
       let syn = lossy_syn a p incarnation asks.lossy in
       let some : 0 < a.mss = (let l = mss_low syn.option in let e = syn.is in omega (arith, l, e)) in
       let low : a.mss ≤ 1460 = (let l = first_low syn.option in let e = syn.is in omega (arith, l, e)) in
       arrives_acting_in m (web_spec files) (pages_of files) here steady (keeps_page_laws site loaded) served own hits words events of a p acts
       (fine files a.request decided a.mss some low) (left files a.request decided a.mss some low) (texts_for a.mss (pieces_for files (wanted a.request))) 19
-      (answers_polled files a.request decided a.mss some low) incarnation asks enough
+      (answers_polled files a.request decided a.mss some low) incarnation asks
 
   pub web_peers_arrive : (ports : ℕ → Bool) → ((port : ℕ) → ports port ≡ true → ActsAs m (web_spec files) port here) → WebPeersArrive ports files trace
   web_peers_arrive ports acts a p at = peer_arrives a p (acts p.own_port.0 at)

@@ -104,8 +104,8 @@ pub use Rattle.std.proofs.Common.{nat_le, nat_lt, not, position, refl, replicate
 pub use Rattle.std.proofs.Common.{sym, take, tests, true, true≢false, zero, ℕ, ◌%◌, ◌&&◌, ◌*◌, ◌++◌, ◌+◌, ◌-◌, ◌/◌, ◌<◌, ◌==◌, ◌^◌, ◌||◌}
 pub use Rattle.std.proofs.Common.{◌∙◌, ◌∷◌, ◌≡◌, ◌≢◌, ◌≤◌, ◌⊎◌}
 pub use Rattle.std.proofs.Math.Bool.{and-false, not-not}
-pub use Rattle.std.proofs.Math.Nat.{lt_of_mul-lt-mul_right, mod-lt, suc-mul}
-pub use Rattle.std.proofs.lemmas.Bool.{and_from, and_parts, cases_lt, eqb-true, le-leb, le-ltb, leb-true, lt-leb, lt-ltb, ltb-true}
+pub use Rattle.std.proofs.Math.Nat.{mod-lt}
+pub use Rattle.std.proofs.lemmas.Bool.{and_from, and_parts, cases_lt, eqb-true, le-leb, leb-true, lt-leb, ltb-true}
 pub use Rattle.std.proofs.lemmas.Bool.{or_parts}
 pub use Rattle.std.proofs.lemmas.Grind.{common_steps, div_ceil_times}
 pub use Rattle.std.proofs.lemmas.List.{drop_all, get_or-append-add, get_or-drop, get_or-set_other, get_or-set_same, get_or_default}

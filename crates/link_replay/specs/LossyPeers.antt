@@ -1,5 +1,5 @@
 -- A cooperating peer of the web server, over a link that loses, repeats and reorders datagrams, whatever other peers do.
-use Rattle.std.specs.Prelude.{◌≡◌, ◌≢◌, ◌<◌, All, Bool, List, true, ℕ}
+use Rattle.std.specs.Prelude.{◌≡◌, ◌≢◌, All, Bool, List, true, ℕ}
 use Rattle.uip_wire.specs.declared.addr.Addr.{Addr}
 use Rattle.app_events.specs.Prelude.{IsAddr, IsU32}
 use Rattle.tcp_machine.specs.Prelude.{Sockets}
@@ -7,16 +7,16 @@ use Rattle.uip_node.specs.Prelude.{Event, initial_node}
 use Rattle.site_image.specs.Prelude.{File}
 use Rattle.file_tree.specs.Prelude.{SiteContent, IsLoaded, files_of}
 use Rattle.web_pages.specs.Prelude.{wanted, NotYet, pages_of, web_spec}
-use Rattle.node_laws.specs.Prelude.{Arrives, Asker, AsksOverLoss, bare_acks, fresh, TraceEntry, exchanges_with, trace_of, IsOfLine}
+use Rattle.node_laws.specs.Prelude.{Asker, AsksOverLoss, Progresses, TraceEntry, exchanges_with, trace_of, IsOfLine}
 use Rattle.link_replay.specs.Web.{pieces_for, texts_for}
 
--- A peer of the web server arrives at the end of its page, over a lossy link, in this trace. Its request is decided, and is received whole
--- before any slot is called twenty times. Then more fresh acknowledgements without text than its page has segments suffice.
+-- The page of a peer of the web server arrives, over a lossy link, in this trace: from the whole request on it has arrived or is on its way
+-- (`Progresses`), with at most as many acknowledgements without text as the page has segments. The request is decided, and is received
+-- whole before any slot is called twenty times.
 abbrev pub WebPeerArrives : List File → List TraceEntry → Asker → Sockets → Type 0
 WebPeerArrives files trace a p =
     wanted a.request ≢ NotYet → (incarnation : List TraceEntry) → AsksOverLoss a p 19 trace incarnation
-    → texts_for a.mss (pieces_for files (wanted a.request)) < bare_acks (fresh a (exchanges_with p incarnation))
-    → Arrives (pages_of files) a (exchanges_with p incarnation)
+    → Progresses (pages_of files) a (texts_for a.mss (pieces_for files (wanted a.request))) (exchanges_with p incarnation)
 
 -- Every peer of the web server that is at such a port arrives.
 abbrev pub WebPeersArrive : (ℕ → Bool) → List File → List TraceEntry → Type 0

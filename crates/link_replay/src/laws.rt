@@ -58,7 +58,8 @@ pub fn honest_web_peer()
     ensures { HonestWebPeer }
 {}
 
-/// The same over a link that loses, repeats and reorders datagrams, if what is outstanding is acknowledged before the last retransmission.
+/// The same over a link that loses, repeats and reorders datagrams, if what is outstanding is acknowledged before the last retransmission:
+/// from its whole request on the page has arrived or is on its way.
 pub fn lossy_web_peer()
     ensures { LossyWebPeer }
 {}

@@ -1,21 +1,24 @@
 -- A cooperating peer of a node has its page, whatever other peers do and the link loses, repeats or reorders: the run.
-use Rattle.node_laws.proofs.Prelude.{All, All-cons, All-head, All-nil, option_map_or, ◌≡◌, ℕ, zero, suc, ◌+◌, ◌<◌, ◌≤◌, ◌==◌, Bool, true}
+use Rattle.node_laws.proofs.Prelude.{All, All-cons, All-nil, option_map_or, ◌≡◌, ℕ, zero, suc, ◌+◌, ◌<◌, ◌≤◌, ◌==◌, Bool, true}
 use Rattle.node_laws.proofs.Prelude.{false, not, ◌&&◌, ◌||◌, ◌⊎◌, inl, inr, List, [], ◌∷◌, ◌++◌, length, set, drop, refl, sym, ap, ◌∙◌}
-use Rattle.node_laws.proofs.Prelude.{subst, arith, Option, Some, None, is_some, slice_get, eqb, ltb, length-append, if◌then◌else◌, eq-eqb}
+use Rattle.node_laws.proofs.Prelude.{append_assoc, subst, arith, Option, Some, None, is_some, slice_get, eqb, ltb, length-append}
+use Rattle.node_laws.proofs.Prelude.{if◌then◌else◌, eq-eqb}
 use Rattle.node_laws.proofs.Prelude.{All-tail, wrap, Addr, SYN, PlainSegment, has_syn, has_fin, has_rst, has_ack, AppState, AppSpec}
-use Rattle.node_laws.proofs.Prelude.{IsPrefixOf, Pages, SynRcvd, Now, Sockets, Connection, closed, is_live, same_sockets, rows_from, row_of}
+use Rattle.node_laws.proofs.Prelude.{IsPrefixOf, Pages, SynRcvd, Sockets, Connection, closed, is_live, same_sockets, rows_from, row_of}
 use Rattle.node_laws.proofs.Prelude.{is_plain_syn, occupies_sequence_space, segment_of, bare_ack, fin_of, is_acked, reset_for_no_connection}
-use Rattle.node_laws.proofs.Prelude.{reset_of, snd_una, syn_ack, text_segment, Outcome, leaves, Step, asked, accepted, first_mss}
-use Rattle.node_laws.proofs.Prelude.{on_segment, on_tick, Event, Periodic, called_by, AbstractNode, NodeStep, snapshot, initial_node, step}
+use Rattle.node_laws.proofs.Prelude.{reset_of, snd_una, syn_ack, text_segment, Outcome, Step, asked, accepted, first_mss}
+use Rattle.node_laws.proofs.Prelude.{on_segment, on_tick, Event, Periodic, called_by, AbstractNode, NodeStep, snapshot, step}
 use Rattle.node_laws.proofs.Prelude.{serving, IsEvent, and_true, both_ways, choose, eqb-eq, ltb-zero, only_some, wrap_wrap, append_nothing}
 use Rattle.node_laws.proofs.Prelude.{get_set_same, is_served, served, free, on_segment_fits, on_tick_fits, node_snapshot, Asker, Arrives}
-use Rattle.node_laws.proofs.Prelude.{HasAcknowledged, IsWithoutReset, Moves, asked_moves, segment_moves, tick_moves, ReceivesStale}
+use Rattle.node_laws.proofs.Prelude.{HasAcknowledged, IsWithoutFin, IsWithoutReset, Progresses, is_time_wait, rcv_nxt, serves, Moves}
+use Rattle.node_laws.proofs.Prelude.{asked_moves, segment_moves, tick_moves, ReceivesStale}
 use Rattle.node_laws.proofs.Prelude.{acknowledges_new, awaits_ack, expected_next, fresh, in_handshake, is_stale, retransmission_limit}
 use Rattle.node_laws.proofs.Prelude.{retransmissions, sent_at, sent_next, with_fresh, text_received, bare_acks, receives_all, SendsSyn}
 use Rattle.node_laws.proofs.Prelude.{SendsNext, calls_of, HasItsPage, Exchange, TraceEntry, exchange, exchanges_onto, exchanges_with}
 use Rattle.node_laws.proofs.GoodNodes.{Good, good_on}
 use Rattle.node_laws.proofs.HonestConnections.{conn_at, Counts, AtSyn, Stage, Snapshots, both_no, stage_quiet, answered, called}
-use Rattle.node_laws.proofs.HonestConnections.{stage_serves, stage_stays, runs_out, keeps_in_time, discards, stage_at, syn_out, syn_stays}
+use Rattle.node_laws.proofs.HonestConnections.{stage_serves, stage_stays, awaits_more, ends_now, expects, has_sent, few_out, keeps_in_time}
+use Rattle.node_laws.proofs.HonestConnections.{discards, stage_at, syn_out, syn_stays}
 use Rattle.node_laws.proofs.HonestConnections.Stage.{at_syn}
 use Rattle.node_laws.proofs.HonestConnections.Next.{goes_on_so, ends_so}
 use Rattle.node_laws.proofs.HonestConnections.Discards.{with_ack, silently}
@@ -27,7 +30,7 @@ use Rattle.node_laws.proofs.Replying.{answer_no_syn, reset_ends, tick_reset_ends
 use Rattle.node_laws.proofs.Slots.{Acted, acts}
 use Rattle.node_laws.proofs.Slots.Acts.{is_called, is_met, is_apart, makes_room}
 use Rattle.node_laws.proofs.StepTable.{nil_of}
-use Rattle.node_laws.proofs.Steps.{Changes, IsStep, LineStep, OfNode, changed, changed_good, event_first, trace_over}
+use Rattle.node_laws.proofs.Steps.{Changes, IsStep, LineStep, OfNode, changed, changed_good, event_first, node_over, trace_over}
 use Rattle.node_laws.proofs.Waiting.{timed_syn}
 
 -- where one lives the table has a row
@@ -172,6 +175,19 @@ acked_before m pages a received all kept o h first some by = elim by [
       ≡ Some h.ends.segment) first h.ends.output))) k
 ]
 
+-- ---- the connection of the peer
+
+-- A slot has the connection with the peer. What it has received and sent is what these exchanges show, and at most a segment is outstanding.
+pub record HasConnection (a : Asker) (p : Sockets) (before : List Exchange) (n : AbstractNode) : Type 0 where
+  pub slot : ℕ
+  pub connection : Connection
+  pub there : slice_get n.connections slot ≡ Some connection
+  pub serves : serves p connection ≡ true
+  pub rcv_nxt : rcv_nxt connection ≡ expected_next a before
+  pub snd_nxt : wrap (snd_una connection + connection.len) ≡ sent_next a before
+  pub len : connection.len < 65536
+  pub early : is_time_wait connection.state ≡ false
+
 -- ---- the page, seen in all exchanges
 
 -- what was sent among the fresh exchanges was sent among all
@@ -219,7 +235,7 @@ module _ (m : AppSpec) (pages : Pages) (here : AppState → Bool) (serves_port :
   At polls incarnation c = Stage m pages here p lawful a room fine left texts patience answering polls incarnation c
 
   -- the connection with the peer is in a slot, and this number of calls is still allowed
-  record Living (n : AbstractNode) (incarnation kept : List Exchange) (rest : List TraceEntry) : Type 0 where
+  pub record Living (n : AbstractNode) (incarnation kept : List Exchange) (rest : List TraceEntry) : Type 0 where
     i : ℕ
     c : Connection
     there : slice_get n.connections i ≡ Some c
@@ -229,9 +245,10 @@ module _ (m : AppSpec) (pages : Pages) (here : AppState → Bool) (serves_port :
     stage : At polls kept c
     same : has_of a.iss incarnation ≡ has_of a.iss kept
     clean : All IsWithoutReset incarnation
+    unfinished : All IsWithoutFin incarnation
     confirmed : Confirmed incarnation c
 
-  data Representing (n : AbstractNode) (incarnation : List Exchange) (rest : List TraceEntry) : Type 0 where
+  pub data Representing (n : AbstractNode) (incarnation : List Exchange) (rest : List TraceEntry) : Type 0 where
     incarnations : (kept : List Exchange) → fresh a incarnation ≡ kept → Living n incarnation kept rest → Representing n incarnation rest
     over : Arrives pages a incarnation → Representing n incarnation rest
 
@@ -244,6 +261,7 @@ module _ (m : AppSpec) (pages : Pages) (here : AppState → Bool) (serves_port :
     is_syn : c.state ≡ SynRcvd
     same : has_of a.iss incarnation ≡ has_of a.iss kept
     clean : All IsWithoutReset incarnation
+    unfinished : All IsWithoutFin incarnation
     confirmed : Confirmed incarnation c
 
   data Opening (n : AbstractNode) (incarnation : List Exchange) : Type 0 where
@@ -264,6 +282,7 @@ module _ (m : AppSpec) (pages : Pages) (here : AppState → Bool) (serves_port :
       stage = v.stage;
       same = v.same;
       clean = v.clean;
+      unfinished = v.unfinished;
       confirmed = v.confirmed;
     }
     | arrived reported ↦ over reported
@@ -305,6 +324,10 @@ module _ (m : AppSpec) (pages : Pages) (here : AppState → Bool) (serves_port :
     one_more : (z : Exchange) → IsWithoutReset z → All IsWithoutReset incarnation → All IsWithoutReset (z ∷ incarnation)
     one_more z h all = All-cons IsWithoutReset z incarnation h all
 
+    no_fin_more : (z : Exchange) (kept : List Exchange) → ends_now (z ∷ kept) ≡ false → All IsWithoutFin incarnation → All IsWithoutFin (z ∷ incarnation)
+    no_fin_more z kept e all = All-cons IsWithoutFin z incarnation
+        (λ s o. (sym (ap (λ (k : Option PlainSegment). option_map_or (λ s. has_fin s.flags) k false) o) ∙ e)) all
+
     more_has : (z : Exchange) (kept : List Exchange) → has_of a.iss incarnation ≡ has_of a.iss kept → has_of a.iss (z ∷ incarnation) ≡ has_of a.iss (z ∷ kept)
     more_has z kept e = has_on a.iss z incarnation ∙ ap (λ got. option_map_or (λ s. Rattle.node_laws.specs.Receivers.takes_next a.iss got s)
         z.output got) e ∙ sym (has_on a.iss z kept)
@@ -342,7 +365,7 @@ module _ (m : AppSpec) (pages : Pages) (here : AppState → Bool) (serves_port :
           subst After (sym g.exchanged) (elim h.next [
             | ends_so reported first live some ↦ over (in_all pages a sent incarnation kept v.same reported first
                 (acked_before m pages a None incarnation kept o reported first some confirmed) (clean live))
-            | goes_on_so stage ↦ incarnations (sent ∷ kept) now_kept record {
+            | goes_on_so goes stage ↦ incarnations (sent ∷ kept) now_kept record {
               i = v.i;
               c = o.connection;
               there = stepped v.i v.c o.connection v.there g.table;
@@ -355,6 +378,7 @@ module _ (m : AppSpec) (pages : Pages) (here : AppState → Bool) (serves_port :
               stage = stage;
               same = more_has sent kept v.same;
               clean = clean (live_stage h.now (sent ∷ kept) o.connection stage);
+              unfinished = no_fin_more sent kept goes v.unfinished;
               confirmed = confirmed;
             }
           ])
@@ -411,7 +435,7 @@ module _ (m : AppSpec) (pages : Pages) (here : AppState → Bool) (serves_port :
           (snapshots v.i v.c (on_segment m v.c n.numbers s) v.there (on_segment_fits m lawful.steady v.c n.numbers s
           (good.fit.conns v.i v.c v.there) good.fit.numbers)) v.stage in
           subst After (sym g.exchanged) (elim k [
-            | goes_on_so stage ↦ incarnations (sent ∷ kept) now_kept record {
+            | goes_on_so goes stage ↦ incarnations (sent ∷ kept) now_kept record {
               i = v.i;
               c = o.connection;
               there = stepped v.i v.c o.connection v.there g.table;
@@ -421,6 +445,7 @@ module _ (m : AppSpec) (pages : Pages) (here : AppState → Bool) (serves_port :
               stage = stage;
               same = more_has sent kept v.same;
               clean = clean (live_stage v.polls (sent ∷ kept) o.connection stage);
+              unfinished = no_fin_more sent kept goes v.unfinished;
               confirmed = confirmed;
             }
             | ends_so reported first live some ↦ over (in_all pages a sent incarnation kept v.same reported first
@@ -447,6 +472,8 @@ module _ (m : AppSpec) (pages : Pages) (here : AppState → Bool) (serves_port :
               received = λ t z. only_some (λ (u : PlainSegment). has_rst u.flags ≡ false) s t z unreset;
               output = λ t z. subst (λ (u : PlainSegment). has_rst u.flags ≡ false) (sym (bare t z)) refl;
             } v.clean;
+            unfinished = All-cons IsWithoutFin sent incarnation (λ t z. subst (λ (u : PlainSegment). has_fin u.flags ≡ false) (sym (bare t z)) refl)
+                v.unfinished;
             confirmed = still_confirmed sent incarnation v.c v.confirmed;
           }
         where
@@ -492,6 +519,7 @@ module _ (m : AppSpec) (pages : Pages) (here : AppState → Bool) (serves_port :
             stage = stage_quiet m pages here p lawful a room fine left texts patience answering v.polls kept v.c v.stage;
             same = more_has quiet kept v.same;
             clean = one_more quiet record { received = λ s z. absurd (cc); output = λ s z. absurd (cc) } v.clean;
+            unfinished = no_fin_more quiet kept refl v.unfinished;
             confirmed = still_confirmed quiet incarnation v.c v.confirmed;
           })
 
@@ -549,7 +577,7 @@ module _ (m : AppSpec) (pages : Pages) (here : AppState → Bool) (serves_port :
           subst AfterOpening (sym g.exchanged) (elim h.next [
             | ends_so reported first live some ↦ arrived (in_all pages a sent incarnation kept v.same reported first
                 (acked_before m pages a None incarnation kept o reported first some confirmed) (clean live))
-            | goes_on_so stage ↦ opened (sent ∷ kept) now_kept record {
+            | goes_on_so goes stage ↦ opened (sent ∷ kept) now_kept record {
               i = v.i;
               c = o.connection;
               there = stepped v.i v.c o.connection v.there g.table;
@@ -557,6 +585,7 @@ module _ (m : AppSpec) (pages : Pages) (here : AppState → Bool) (serves_port :
               is_syn = still;
               same = more_has sent kept v.same;
               clean = clean (live_stage h.now (sent ∷ kept) o.connection stage);
+              unfinished = no_fin_more sent kept goes v.unfinished;
               confirmed = confirmed;
             }
           ])
@@ -578,6 +607,8 @@ module _ (m : AppSpec) (pages : Pages) (here : AppState → Bool) (serves_port :
               received = λ t z. only_some (λ (u : PlainSegment). has_rst u.flags ≡ false) s t z unreset;
               output = λ t z. subst (λ (u : PlainSegment). has_rst u.flags ≡ false) (sym (bare t z)) refl;
             } v.clean;
+            unfinished = All-cons IsWithoutFin sent incarnation (λ t z. subst (λ (u : PlainSegment). has_fin u.flags ≡ false) (sym (bare t z)) refl)
+                v.unfinished;
             confirmed = still_confirmed sent incarnation v.c v.confirmed;
           }
         where
@@ -619,6 +650,7 @@ module _ (m : AppSpec) (pages : Pages) (here : AppState → Bool) (serves_port :
             stage = stage_quiet m pages here p lawful a room fine left texts patience answering 0 kept v.c v.stage;
             same = more_has quiet kept v.same;
             clean = one_more quiet record { received = λ s z. absurd (cc); output = λ s z. absurd (cc) } v.clean;
+            unfinished = no_fin_more quiet kept refl v.unfinished;
             confirmed = still_confirmed quiet incarnation v.c v.confirmed;
           })
 
@@ -719,6 +751,8 @@ module _ (m : AppSpec) (pages : Pages) (here : AppState → Bool) (serves_port :
               received = λ t z. only_some (λ (u : PlainSegment). has_rst u.flags ≡ false) s t z (plain_unreset s plain);
               output = λ t z. only_some (λ (u : PlainSegment). has_rst u.flags ≡ false) (syn_ack (accepted iss p s)) t z refl;
             } (All-nil IsWithoutReset);
+            unfinished = All-cons IsWithoutFin first [] (λ t z. only_some (λ (u : PlainSegment). has_fin u.flags ≡ false)
+                (syn_ack (accepted iss p s)) t z refl) (All-nil IsWithoutFin);
             confirmed = inl (ap (λ (z : Connection). z.acked) f);
           })
           | free none ↦ absurd (let z : closed ≡ accepted iss p s = sym (Rattle.uip_node.proofs.Connections.serving_free s_node.connections
@@ -745,8 +779,27 @@ module _ (m : AppSpec) (pages : Pages) (here : AppState → Bool) (serves_port :
 
   -- ---- the run
 
-  abbrev Reaches : List Exchange → Type 0
-  Reaches incarnation = texts < bare_acks (fresh a incarnation) → Arrives pages a incarnation
+  -- the node that is reached
+  abbrev Reaches : AbstractNode → List Exchange → Type 0
+  Reaches n incarnation = Representing n incarnation []
+
+  -- nothing follows while it asks, or its whole request is received
+  abbrev Asked : List TraceEntry → List Exchange → Type 0
+  Asked later asking = (later ≡ []) ⊎ (text_received (fresh a asking) ≡ a.request)
+
+  -- no part of the request follows the whole
+  still_whole : (x y : Exchange) (older : List Exchange) → text_received (fresh a (y ∷ older)) ≡ a.request
+      → Goes a x (fresh a (y ∷ older)) → text_received (fresh a (x ∷ y ∷ older)) ≡ a.request
+  still_whole x y older w k =
+      let before : List Exchange = fresh a (y ∷ older) in
+      elim k [
+        | waits_for none q ↦ ap (λ t. text_received t) (keeps_quiet a x before none)
+            ∙ ap (λ z. text_received before ++ option_map_or (λ s. s.text) z []) none ∙ append_nothing (text_received before) ∙ w
+        | brings_next s ↦ ap (λ t. text_received t) (keeps_fresh a x before s)
+            ∙ ap (λ z. text_received before ++ option_map_or (λ s. s.text) z []) s.received ∙ nothing_after (text_received before)
+            s.segment.text a.request w s.part
+        | brings_stale s ↦ ap (λ t. text_received t) (drops_stale a x before s) ∙ w
+      ]
 
   whole_represents : (n : AbstractNode) (so_far : List Exchange) (some others : List TraceEntry) → text_received (fresh a so_far)
       ≡ a.request → Representing n so_far some → Representing n so_far others
@@ -761,6 +814,7 @@ module _ (m : AppSpec) (pages : Pages) (here : AppState → Bool) (serves_port :
       stage = v.stage;
       same = v.same;
       clean = v.clean;
+      unfinished = v.unfinished;
       confirmed = v.confirmed;
     }
     | over reported ↦ over reported
@@ -784,51 +838,45 @@ module _ (m : AppSpec) (pages : Pages) (here : AppState → Bool) (serves_port :
         stage = v.stage;
         same = v.same;
         clean = v.clean;
+        unfinished = v.unfinished;
         confirmed = v.confirmed;
       }
       | over reported ↦ over reported
     ]
 
-    still_whole : (x y : Exchange) (older : List Exchange) → text_received (fresh a (y ∷ older)) ≡ a.request
-        → Goes a x (fresh a (y ∷ older)) → text_received (fresh a (x ∷ y ∷ older)) ≡ a.request
-    still_whole x y older w k =
-        let before : List Exchange = fresh a (y ∷ older) in
-        elim k [
-          | waits_for none q ↦ ap (λ t. text_received t) (keeps_quiet a x before none)
-              ∙ ap (λ z. text_received before ++ option_map_or (λ s. s.text) z []) none ∙ append_nothing (text_received before) ∙ w
-          | brings_next s ↦ ap (λ t. text_received t) (keeps_fresh a x before s)
-              ∙ ap (λ z. text_received before ++ option_map_or (λ s. s.text) z []) s.received ∙ nothing_after (text_received before)
-              s.segment.text a.request w s.part
-          | brings_stale s ↦ ap (λ t. text_received t) (drops_stale a x before s) ∙ w
-        ]
+    -- nothing happens any more
+    rests_over : (es : List LineStep) (n : AbstractNode) (so_far : List Exchange) → trace_over m serves_port es n ≡ [] → Representing n so_far []
+        → Reaches (node_over m serves_port es n) so_far
+    rests_over [] n so_far none s = s
+    rests_over (Changes change ∷ es) n so_far none s = rests_over es (changed change n) so_far none (represents_still change n so_far [] s)
+    rests_over (OfNode e ∷ es) n so_far none s = absurd (cc)
 
     -- after the whole request
     run_later : (es : List LineStep) (n : AbstractNode) (y : Exchange) (older : List Exchange) → OfLine es → Good n
         → GoesOn a (exchanges_onto p (trace_over m serves_port es n) (y ∷ older)) → text_received (fresh a (y ∷ older)) ≡ a.request →
-        Representing n (y ∷ older) [] → Reaches (exchanges_onto p (trace_over m serves_port es n) (y ∷ older))
-    run_later [] n y older l g h w s few = elim s [
-      | incarnations kept e v ↦ absurd (runs_out m pages here p lawful a room fine left texts patience answering v.polls kept v.c
-          (ap (λ k. text_received k) (sym e) ∙ w) (subst (λ k. texts < bare_acks k) e few) v.stage)
-      | over reported ↦ reported
-    ]
-    run_later (Changes change ∷ es) n y older l g h w s few = run_later es (changed change n) y older
-        (All-tail (IsStep own) (Changes change) es l) (changed_good own change es n l g) h w (represents_still change n (y ∷ older) [] s) few
-    run_later (OfNode e ∷ es) n y older l g h w s few =
+        Representing n (y ∷ older) [] → Reaches (node_over m serves_port es n) (exchanges_onto p (trace_over m serves_port es n) (y ∷ older))
+    run_later [] n y older l g h w s = s
+    run_later (Changes change ∷ es) n y older l g h w s = run_later es (changed change n) y older
+        (All-tail (IsStep own) (Changes change) es l) (changed_good own change es n l g) h w (represents_still change n (y ∷ older) [] s)
+    run_later (OfNode e ∷ es) n y older l g h w s =
         let x : Exchange = exchange p e (step m serves_port n e).sent in
         let here = goes_before a p (trace_over m serves_port es (step m serves_port n e).node) x (y ∷ older) h in
         let turn : TraceEntry = record { event = e; sent = (step m serves_port n e).sent } in
         run_later es (step m serves_port n e).node x (y ∷ older) (All-tail (IsStep own) (OfNode e) es l)
         (good_on m lawful.steady serves_port n e (event_first own e es l) g) h (still_whole x y older w here.0)
-        (represents_on n e g y older [] here.0 (whole_represents n (y ∷ older) [] (turn ∷ []) w s)) few
+        (represents_on n e g y older [] here.0 (whole_represents n (y ∷ older) [] (turn ∷ []) w s))
 
     -- while it asks
     run_asking : (asking later : List TraceEntry) (es : List LineStep) (n : AbstractNode) (y : Exchange) (older : List Exchange)
         → trace_over m serves_port es n ≡ asking ++ later → OfLine es → Good n → GoesOn a (exchanges_onto p (asking ++ later) (y ∷ older)) →
-        text_received (fresh a (exchanges_onto p asking (y ∷ older))) ≡ a.request → Representing n (y ∷ older) asking
-        → Reaches (exchanges_onto p (asking ++ later) (y ∷ older))
-    run_asking [] later es n y older q l g h w s =
-        subst (λ ts. Reaches (exchanges_onto p ts (y ∷ older))) q
-        (run_later es n y older l g (subst (λ ts. GoesOn a (exchanges_onto p ts (y ∷ older))) (sym q) h) w s)
+        Asked later (exchanges_onto p asking (y ∷ older)) → Representing n (y ∷ older) asking
+        → Reaches (node_over m serves_port es n) (exchanges_onto p (asking ++ later) (y ∷ older))
+    run_asking [] later es n y older q l g h w s = elim w [
+      | inl none ↦ subst (λ ts. Reaches (node_over m serves_port es n) (exchanges_onto p ts (y ∷ older))) (sym none)
+          (rests_over es n (y ∷ older) (q ∙ none) s)
+      | inr whole ↦ subst (λ ts. Reaches (node_over m serves_port es n) (exchanges_onto p ts (y ∷ older))) q
+          (run_later es n y older l g (subst (λ ts. GoesOn a (exchanges_onto p ts (y ∷ older))) (sym q) h) whole s)
+    ]
     run_asking (t ∷ asking) later [] n y older q l g h w s = absurd (cc)
     run_asking (t ∷ asking) later (Changes change ∷ es) n y older q l g h w s = run_asking (t ∷ asking) later es (changed change n) y older
         q (All-tail (IsStep own) (Changes change) es l) (changed_good own change es n l g) h w (represents_still change n (y ∷ older) (t ∷ asking) s)
@@ -840,10 +888,10 @@ module _ (m : AppSpec) (pages : Pages) (here : AppState → Bool) (serves_port :
         let same : exchange p t.event t.sent ≡ x = ap (λ z. exchange p z.event z.sent) (sym head) in
         let goes = subst (λ z. GoesOn a (exchanges_onto p (asking ++ later) (z ∷ y ∷ older))) same h in
         let here = goes_before a p (asking ++ later) x (y ∷ older) goes in
-        subst (λ z. Reaches (exchanges_onto p (asking ++ later) (z ∷ y ∷ older))) (sym same)
+        subst (λ z. Reaches (node_over m serves_port (OfNode e ∷ es) n) (exchanges_onto p (asking ++ later) (z ∷ y ∷ older))) (sym same)
         (run_asking asking later es (step m serves_port n e).node x (y ∷ older) tail (All-tail (IsStep own) (OfNode e) es l)
         (good_on m lawful.steady serves_port n e (event_first own e es l) g) goes
-        (subst (λ z. text_received (fresh a (exchanges_onto p asking (z ∷ y ∷ older))) ≡ a.request) same w)
+        (subst (λ z. Asked later (exchanges_onto p asking (z ∷ y ∷ older))) same w)
         (represents_on n e g y older asking here.0 (subst (λ z. Representing n (y ∷ older) (z ∷ asking)) (sym head) s)))
 
     -- the numbers of the application are changed while it opens
@@ -857,6 +905,7 @@ module _ (m : AppSpec) (pages : Pages) (here : AppState → Bool) (serves_port :
         is_syn = v.is_syn;
         same = v.same;
         clean = v.clean;
+        unfinished = v.unfinished;
         confirmed = v.confirmed;
       }
       | arrived reported ↦ arrived reported
@@ -885,9 +934,9 @@ module _ (m : AppSpec) (pages : Pages) (here : AppState → Bool) (serves_port :
         → trace_over m serves_port es n ≡ opening ++ (asking ++ later) → OfLine es → Good n
         → GoesOn a (exchanges_onto p (opening ++ (asking ++ later)) (y ∷ older)) →
         in_handshake (fresh a (exchanges_onto p opening (y ∷ older))) ≡ true
-        → text_received (fresh a (exchanges_onto p (opening ++ asking) (y ∷ older))) ≡ a.request
+        → Asked later (exchanges_onto p (opening ++ asking) (y ∷ older))
         → ((slot : ℕ) → calls_of slot asking ≤ patience) → Opening n (y ∷ older) →
-        Reaches (exchanges_onto p (opening ++ (asking ++ later)) (y ∷ older))
+        Reaches (node_over m serves_port es n) (exchanges_onto p (opening ++ (asking ++ later)) (y ∷ older))
     run_opening [] asking later es n y older q l g h limit w prompt s = run_asking asking later es n y older q l g h w
         (asking_from n (y ∷ older) asking prompt s)
     run_opening (t ∷ opening) asking later [] n y older q l g h limit w prompt s = absurd (cc)
@@ -903,10 +952,10 @@ module _ (m : AppSpec) (pages : Pages) (here : AppState → Bool) (serves_port :
         let goes = subst (λ z. GoesOn a (exchanges_onto p (opening ++ (asking ++ later)) (z ∷ y ∷ older))) same h in
         let here = goes_before a p (opening ++ (asking ++ later)) x (y ∷ older) goes in
         let limit_now = subst (λ z. in_handshake (fresh a (exchanges_onto p opening (z ∷ y ∷ older))) ≡ true) same limit in
-        subst (λ z. Reaches (exchanges_onto p (opening ++ (asking ++ later)) (z ∷ y ∷ older))) (sym same)
+        subst (λ z. Reaches (node_over m serves_port (OfNode e ∷ es) n) (exchanges_onto p (opening ++ (asking ++ later)) (z ∷ y ∷ older))) (sym same)
         (run_opening opening asking later es (step m serves_port n e).node x (y ∷ older) tail (All-tail (IsStep own) (OfNode e) es l)
         (good_on m lawful.steady serves_port n e (event_first own e es l) g) goes limit_now
-        (subst (λ z. text_received (fresh a (exchanges_onto p (opening ++ asking) (z ∷ y ∷ older))) ≡ a.request) same w) prompt
+        (subst (λ z. Asked later (exchanges_onto p (opening ++ asking) (z ∷ y ∷ older))) same w) prompt
         (opening_on n e g y older [] here.0 (limit_here opening x (y ∷ older) limit_now) s))
 
     -- from the opening
@@ -914,8 +963,8 @@ module _ (m : AppSpec) (pages : Pages) (here : AppState → Bool) (serves_port :
         trace_over m serves_port es (step m serves_port n e).node ≡ opening ++ (asking ++ later) →
         (let x : Exchange = exchange p e (step m serves_port n e).sent in
         GoesOn a (exchanges_onto p (opening ++ (asking ++ later)) (x ∷ [])) → in_handshake (fresh a (exchanges_onto p opening (x ∷ [])))
-        ≡ true → text_received (fresh a (exchanges_onto p (opening ++ asking) (x ∷ []))) ≡ a.request → ((slot : ℕ) → calls_of slot asking ≤ patience) →
-        Reaches (exchanges_onto p (opening ++ (asking ++ later)) (x ∷ [])))
+        ≡ true → Asked later (exchanges_onto p (opening ++ asking) (x ∷ [])) → ((slot : ℕ) → calls_of slot asking ≤ patience) →
+        Reaches (node_over m serves_port (OfNode e ∷ es) n) (exchanges_onto p (opening ++ (asking ++ later)) (x ∷ [])))
     from_opening e es n opening asking later l g tail h limit w prompt =
         let x : Exchange = exchange p e (step m serves_port n e).sent in
         let is : IsEvent e = event_first own e es l in
@@ -928,8 +977,8 @@ module _ (m : AppSpec) (pages : Pages) (here : AppState → Bool) (serves_port :
         → OfLine (OfNode e ∷ es) → Good n → trace_over m serves_port (OfNode e ∷ es) n ≡ incarnation
         → incarnation ≡ t ∷ (opening ++ (asking ++ later)) → GoesOn a (exchanges_with p incarnation) →
         in_handshake (fresh a (exchanges_with p (t ∷ opening))) ≡ true
-        → text_received (fresh a (exchanges_with p (t ∷ (opening ++ asking)))) ≡ a.request → ((slot : ℕ) → calls_of slot asking ≤ patience)
-        → Reaches (exchanges_with p incarnation)
+        → Asked later (exchanges_with p (t ∷ (opening ++ asking))) → ((slot : ℕ) → calls_of slot asking ≤ patience)
+        → Reaches (node_over m serves_port (OfNode e ∷ es) n) (exchanges_with p incarnation)
     first_turn t opening asking later incarnation e es n l g q j h limit w prompt =
         let turn : TraceEntry = record { event = e; sent = (step m serves_port n e).sent } in
         let both : turn ∷ trace_over m serves_port es (step m serves_port n e).node ≡ t ∷ (opening ++ (asking ++ later)) = q ∙ j in
@@ -939,16 +988,17 @@ module _ (m : AppSpec) (pages : Pages) (here : AppState → Bool) (serves_port :
         let same : exchange p t.event t.sent ≡ x = ap (λ z. exchange p z.event z.sent) (sym head) in
         let goes : GoesOn a (exchanges_onto p (opening ++ (asking ++ later)) (x ∷ [])) = subst
         (λ z. GoesOn a (exchanges_onto p (opening ++ (asking ++ later)) (z ∷ []))) same (subst (λ ts. GoesOn a (exchanges_with p ts)) j h) in
-        subst (λ ts. Reaches (exchanges_with p ts)) (sym j)
-        (subst (λ z. Reaches (exchanges_onto p (opening ++ (asking ++ later)) (z ∷ []))) (sym same)
+        let end : AbstractNode = node_over m serves_port (OfNode e ∷ es) n in
+        subst (λ ts. Reaches end (exchanges_with p ts)) (sym j)
+        (subst (λ z. Reaches end (exchanges_onto p (opening ++ (asking ++ later)) (z ∷ []))) (sym same)
         (from_opening e es n opening asking later l g tail goes (subst (λ z. in_handshake (fresh a (exchanges_onto p opening (z ∷ []))) ≡ true) same limit)
-        (subst (λ z. text_received (fresh a (exchanges_onto p (opening ++ asking) (z ∷ []))) ≡ a.request) same w) prompt))
+        (subst (λ z. Asked later (exchanges_onto p (opening ++ asking) (z ∷ []))) same w) prompt))
 
     -- the turns from the opening on
     from_start : (opening asking later incarnation : List TraceEntry) (es : List LineStep) (n : AbstractNode) → OfLine es → Good n
         → trace_over m serves_port es n ≡ incarnation → incarnation ≡ opening ++ (asking ++ later) → GoesOn a (exchanges_with p incarnation) →
-        in_handshake (fresh a (exchanges_with p opening)) ≡ true → text_received (fresh a (exchanges_with p (opening ++ asking)))
-        ≡ a.request → ((slot : ℕ) → calls_of slot asking ≤ patience) → Reaches (exchanges_with p incarnation)
+        in_handshake (fresh a (exchanges_with p opening)) ≡ true → Asked later (exchanges_with p (opening ++ asking))
+        → ((slot : ℕ) → calls_of slot asking ≤ patience) → Reaches (node_over m serves_port es n) (exchanges_with p incarnation)
     from_start opening asking later incarnation [] n l g q j h limit w prompt = absurd (subst (λ ts. GoesOn a (exchanges_with p ts)) (sym q) h)
     from_start opening asking later incarnation (Changes change ∷ es) n l g q j h limit w prompt = from_start opening asking later
         incarnation es (changed change n) (All-tail (IsStep own) (Changes change) es l) (changed_good own change es n l g) q j h limit w prompt
@@ -963,14 +1013,19 @@ module _ (m : AppSpec) (pages : Pages) (here : AppState → Bool) (serves_port :
         let goes : GoesOn a (exchanges_onto p rest (x ∷ [])) = subst (λ ts. GoesOn a (exchanges_with p ts)) (sym q) h in
         let opening_text : text_received (x ∷ []) ≡ [] = (let o = goes_before a p rest x [] goes in
         ap (λ z. option_map_or (λ s. s.text) z []) o.received ∙ o.text) in
-        subst (λ ts. Reaches (exchanges_with p ts)) q (from_opening e es n [] [] rest l g refl goes refl (opening_text ∙ w) (λ slot. omega arith))
+        subst (λ ts. Reaches (node_over m serves_port (OfNode e ∷ es) n) (exchanges_with p ts)) q
+        (from_opening e es n [] [] rest l g refl goes refl
+        (elim w [
+          | inl none ↦ absurd (let z : record { event = e; sent = (step m serves_port n e).sent } ∷ rest ≡ [] = q ∙ j ∙ none in cc)
+          | inr whole ↦ inr (opening_text ∙ whole)
+        ]) (λ slot. omega arith))
 
     -- the turns before
     pub from_before : (before opening asking later incarnation : List TraceEntry) (es : List LineStep) (n : AbstractNode) → OfLine es
         → Good n → trace_over m serves_port es n ≡ before ++ incarnation → incarnation ≡ opening ++ (asking ++ later)
         → GoesOn a (exchanges_with p incarnation) →
-        in_handshake (fresh a (exchanges_with p opening)) ≡ true → text_received (fresh a (exchanges_with p (opening ++ asking)))
-        ≡ a.request → ((slot : ℕ) → calls_of slot asking ≤ patience) → Reaches (exchanges_with p incarnation)
+        in_handshake (fresh a (exchanges_with p opening)) ≡ true → Asked later (exchanges_with p (opening ++ asking))
+        → ((slot : ℕ) → calls_of slot asking ≤ patience) → Reaches (node_over m serves_port es n) (exchanges_with p incarnation)
     from_before [] opening asking later incarnation es n l g q j h limit w prompt = from_start opening asking later incarnation es n l g q j h limit w prompt
     from_before (t ∷ before) opening asking later incarnation [] n l g q j h limit w prompt = absurd (cc)
     from_before (t ∷ before) opening asking later incarnation (Changes change ∷ es) n l g q j h limit w prompt = from_before (t ∷ before)
@@ -980,3 +1035,73 @@ module _ (m : AppSpec) (pages : Pages) (here : AppState → Bool) (serves_port :
         let tail : trace_over m serves_port es (step m serves_port n e).node ≡ before ++ incarnation = cc in
         from_before before opening asking later incarnation es (step m serves_port n e).node (All-tail (IsStep own) (OfNode e) es l)
         (good_on m lawful.steady serves_port n e (event_first own e es l) g) tail j h limit w prompt
+
+  -- ---- what holds of the node that is reached
+
+  -- the request stays whole
+  whole_later : (turns : List TraceEntry) (y : Exchange) (older : List Exchange) → GoesOn a (exchanges_onto p turns (y ∷ older))
+      → text_received (fresh a (y ∷ older)) ≡ a.request → text_received (fresh a (exchanges_onto p turns (y ∷ older))) ≡ a.request
+  whole_later [] y older h w = w
+  whole_later (t ∷ turns) y older h w =
+      let x : Exchange = exchange p t.event t.sent in
+      whole_later turns x (y ∷ older) h (still_whole x y older w (goes_before a p turns x (y ∷ older) h).0)
+
+  whole_from : (front later : List TraceEntry) (y : Exchange) (older : List Exchange) → GoesOn a (exchanges_onto p (front ++ later) (y ∷ older))
+      → text_received (fresh a (exchanges_onto p front (y ∷ older))) ≡ a.request
+      → text_received (fresh a (exchanges_onto p (front ++ later) (y ∷ older))) ≡ a.request
+  whole_from [] later y older h w = whole_later later y older h w
+  whole_from (t ∷ front) later y older h w = whole_from front later (exchange p t.event t.sent) (y ∷ older) h w
+
+  whole_at_end : (front later : List TraceEntry) → GoesOn a (exchanges_with p (front ++ later))
+      → text_received (fresh a (exchanges_with p front)) ≡ a.request → text_received (fresh a (exchanges_with p (front ++ later))) ≡ a.request
+  whole_at_end (t ∷ front) later h w = whole_from front later (exchange p t.event t.sent) [] h w
+  whole_at_end [] [] h w = absurd h
+  whole_at_end [] (t ∷ later) h w =
+      let x : Exchange = exchange p t.event t.sent in
+      let opening_text : text_received (x ∷ []) ≡ [] = (let o = goes_before a p later x [] h in
+      ap (λ z. option_map_or (λ s. s.text) z []) o.received ∙ o.text) in
+      whole_later later x [] h (opening_text ∙ w)
+
+  -- after the whole request the page has arrived, or is on its way
+  pub progresses : (n : AbstractNode) (incarnation : List Exchange) → text_received (fresh a incarnation) ≡ a.request
+      → Representing n incarnation [] → Progresses pages a texts incarnation
+  progresses n so_far whole s = elim s [
+    | incarnations kept e v ↦ inr (let more = awaits_more m pages here p lawful a room fine left texts patience answering v.polls kept v.c
+        (ap (λ k. text_received k) (sym e) ∙ whole) v.stage in
+        record {
+          awaits = ap (λ k. awaits_ack k) e ∙ more.0;
+          few = subst (λ k. bare_acks k ≤ texts) (sym e) more.1;
+          unfinished = v.unfinished;
+          unreset = v.clean;
+        })
+    | over reported ↦ inl reported
+  ]
+
+  -- the page has arrived, or the connection of the peer is as these exchanges show
+  pub stands : (n : AbstractNode) (incarnation : List Exchange) → a.mss < 65536 → Representing n incarnation []
+      → Arrives pages a incarnation ⊎ HasConnection a p (fresh a incarnation) n
+  stands n so_far low s = elim s [
+    | incarnations kept e v ↦ inr record {
+      slot = v.i;
+      connection = v.c;
+      there = v.there;
+      serves = stage_serves m pages here p lawful a room fine left texts patience answering v.polls kept v.c v.stage;
+      rcv_nxt = expects m pages here p lawful a room fine left texts patience answering v.polls kept v.c v.stage ∙ ap (λ k. expected_next a k) (sym e);
+      snd_nxt = has_sent m pages here p lawful a room fine left texts patience answering v.polls kept v.c v.stage ∙ ap (λ k. sent_next a k) (sym e);
+      len = (let l = few_out m pages here p lawful a room fine left texts patience answering v.polls kept v.c v.stage in omega (arith, l, low));
+      early = stage_stays m pages here p lawful a room fine left texts patience answering v.polls kept v.c v.stage;
+    }
+    | over reported ↦ inl reported
+  ]
+
+  pub from_whole : (own : Addr) (before opening asking later incarnation : List TraceEntry) (es : List LineStep) (n : AbstractNode)
+      → All (IsStep own) es → Good n → trace_over m serves_port es n ≡ before ++ incarnation → incarnation ≡ opening ++ (asking ++ later)
+      → GoesOn a (exchanges_with p incarnation) → in_handshake (fresh a (exchanges_with p opening)) ≡ true
+      → text_received (fresh a (exchanges_with p (opening ++ asking))) ≡ a.request → ((slot : ℕ) → calls_of slot asking ≤ patience)
+      → Progresses pages a texts (exchanges_with p incarnation)
+  from_whole own before opening asking later incarnation es n l g q j h limit w prompt =
+      let same : (opening ++ asking) ++ later ≡ incarnation = append_assoc opening asking later ∙ sym j in
+      progresses (node_over m serves_port es n) (exchanges_with p incarnation)
+      (subst (λ ts. text_received (fresh a (exchanges_with p ts)) ≡ a.request) same
+      (whole_at_end (opening ++ asking) later (subst (λ ts. GoesOn a (exchanges_with p ts)) (sym same) h) w))
+      (from_before own before opening asking later incarnation es n l g q j h limit (inr w) prompt)

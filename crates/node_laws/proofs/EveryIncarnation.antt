@@ -12,7 +12,7 @@ use Rattle.node_laws.proofs.Prelude.{OpensServed}
 use Rattle.node_laws.proofs.Steps.{LineStep, OfNode, Changes, IsStep, changed, trace_over}
 use Rattle.node_laws.proofs.Wire.{line_wire, wire_event}
 use Rattle.node_laws.proofs.Replying.{answer_no_syn, rst_silent, rst_ends, reset_ends, tick_reset_ends}
-use Rattle.node_laws.proofs.Lines.{OfMedium, Comes, comes, met, left_of}
+use Rattle.node_laws.proofs.Lines.{OfMedium, Comes, comes, left_of}
 use Rattle.node_laws.proofs.Lines.OfMedium.{passes_by, evicted, unanswered, refused, born, delivers_text, ticks}
 use Rattle.node_laws.proofs.IncarnationStep.{Good, Onward, goes_on, begins_by}
 use Rattle.node_laws.proofs.Receiving.{keeps_account, keeps_text}

@@ -45,6 +45,11 @@ three false b c e f g = absurd (cc)
 prefix_stays : (xs ys : List ℕ) (n : ℕ) → IsPrefixOf xs ys → n ≤ length xs → take n xs ≡ take n ys
 prefix_stays xs ys n h l = sym (take-append-le n xs h.rest l) ∙ ap (take n) h.joined
 
+-- a FIN was sent in the newest of these exchanges
+abbrev pub ends_now : List Exchange → Bool
+ends_now [] = false
+ends_now (x ∷ older) = option_map_or (λ s. has_fin s.flags) x.output false
+
 module _ (m : AppSpec) where
   -- a segment at its number, and no RST, takes the row of the state
   pub taken_in : (c : Connection) (numbers : List ℕ) (s : PlainSegment) → has_rst s.flags ≡ false → s.seq ≡ rcv_nxt c →
@@ -102,6 +107,7 @@ module _ (m : AppSpec) (pages : Pages) (here : AppState → Bool) (p : Sockets) 
   -- text is outstanding, whose acknowledgement leaves one text less
   pub record Awaits (polls : ℕ) (part : AppState) (len most : ℕ) : Type 0 where
     pub some : 0 < len
+    pub short : len ≤ a.mss
     pub next : (numbers : List ℕ) → (fine polls (m.acked numbers part len).part ≡ true) × (left (m.acked numbers part len).part < most)
 
   -- the request is not whole
@@ -122,7 +128,7 @@ module _ (m : AppSpec) (pages : Pages) (here : AppState → Bool) (p : Sockets) 
 
   -- what the next exchange leaves
   pub data Next (polls : ℕ) (incarnation : List Exchange) (c : Connection) : Type 0 where
-    goes_on_so : Stage polls incarnation c → Next polls incarnation c
+    goes_on_so : ends_now incarnation ≡ false → Stage polls incarnation c → Next polls incarnation c
     ends_so : (h : HasItsPage pages a incarnation) → h.ends.place ≡ 0 → is_live c.state ≡ true → 0 < c.acked → Next polls incarnation c
 
   -- ---- nothing passes
@@ -294,18 +300,18 @@ module _ (m : AppSpec) (pages : Pages) (here : AppState → Bool) (p : Sockets) 
       let some : 0 < len = (let l = may.0 in omega (arith, l, room)) in
       let within : q.acked + len ≤ length (page q) = (let l = may.1 in omega (arith, l)) in
       let t : PlainSegment = text_segment m (conn_at Established taken iss acked len 0 q) in
-      goes_on_so (reported taken iss acked len 0 most q k refl (sends_text received older q taken iss acked most len k h within)
-      record { some = some; next = g } h.bound
+      goes_on_so refl (reported taken iss acked len 0 most q k refl (sends_text received older q taken iss acked most len k h within)
+      record { some = some; short = omega arith; next = g } h.bound
       (timed_first received t older (text_placed taken iss acked len 0 q h.at_port some within)))
   by_want polls received older fresh numbers taken iss acked age most q Nothing k h snapshots may g rested =
       let d : Connection = conn_at Established taken iss acked 0 age q in
       let P : Outcome → Type 0 = λ o. Next polls (met received (segment_of m o.connection o.step) ∷ older) o.connection in
       let r : Rests polls q most = record { good = g.0; few = g.1; more = g.2 } in
       choose P fresh (leaves d numbers Step.Ack) (leaves d numbers Step.Drop)
-      (λ f. goes_on_so (waits taken iss acked age most q k refl
+      (λ f. goes_on_so refl (waits taken iss acked age most q k refl
       (outputs_none received (segment_of m d Step.Ack) older q taken acked most h (has_on a.iss (met received (segment_of m d Step.Ack))
       older ∙ nothing_more a.iss (has_of a.iss older) (bare_ack d) refl)) refl r h.bound))
-      (λ f. goes_on_so (waits taken iss acked age most q k refl (outputs_none received None older q taken acked most h
+      (λ f. goes_on_so refl (waits taken iss acked age most q k refl (outputs_none received None older q taken acked most h
       (has_on a.iss (met received None) older)) rested r h.bound))
 
   -- as many texts are left, or more
@@ -604,12 +610,12 @@ module _ (m : AppSpec) (pages : Pages) (here : AppState → Bool) (p : Sockets) 
       → Counts iss → AtSyn older → Timed 5 older age → beat_at 5 (age + 1) ≡ b →
       let c : Connection = conn_at SynRcvd 0 iss 0 1 age part in let r : Outcome = asked m at (by_beat m b c numbers) in
       ((u : PlainSegment) → segment_of m r.connection r.step ≡ Some u → has_rst u.flags ≡ false)
-      → Stage polls (met None (segment_of m r.connection r.step) ∷ older) r.connection
-  syn_beat polls at Beat.Wait iss age part numbers older k syn y q h = at_syn iss (age + 1) part k refl (syn_quiet older syn)
-      (timed_waits 5 older age (inl refl) y q)
-  syn_beat polls at Beat.Again iss age part numbers older k syn y q h = at_syn iss (age + 1) part k refl
+      → Next polls (met None (segment_of m r.connection r.step) ∷ older) r.connection
+  syn_beat polls at Beat.Wait iss age part numbers older k syn y q h = goes_on_so refl (at_syn iss (age + 1) part k refl (syn_quiet older syn)
+      (timed_waits 5 older age (inl refl) y q))
+  syn_beat polls at Beat.Again iss age part numbers older k syn y q h = goes_on_so refl (at_syn iss (age + 1) part k refl
       (syn_again older (conn_at SynRcvd 0 iss 0 1 (age + 1) part) syn) (timed_again 5 (syn_ack (conn_at SynRcvd 0 iss 0 1 (age + 1) part))
-      older age (inl refl) refl y)
+      older age (inl refl) refl y))
   syn_beat polls at Beat.GiveUp iss age part numbers older k syn y q h = absurd (let c : Connection = conn_at SynRcvd 0 iss 0 1 age part in
       let z = h (reset_of (closes c)) refl in cc)
 
@@ -618,13 +624,14 @@ module _ (m : AppSpec) (pages : Pages) (here : AppState → Bool) (p : Sockets) 
       → Awaits polls part len most → bare_acks older + most ≤ texts + 1 → Timed 8 older age → beat_at 8 (age + 1) ≡ b →
       let c : Connection = conn_at Established taken iss acked len age part in let r : Outcome = asked m at (by_beat m b c numbers) in
       ((u : PlainSegment) → segment_of m r.connection r.step ≡ Some u → has_rst u.flags ≡ false)
-      → Stage polls (met None (segment_of m r.connection r.step) ∷ older) r.connection
-  text_beat polls at Beat.Wait taken iss acked len age most part numbers older k snapshots t w bound y q h = reported taken iss acked len
-      (age + 1) most part k refl (session_kept_quiet older part taken acked len t) w bound (timed_waits 8 older age (inr refl) y q)
-  text_beat polls at Beat.Again taken iss acked len age most part numbers older k snapshots t w bound y q h = reported taken iss acked len
-      (age + 1) most part k refl (text_again older taken iss acked len (age + 1) part k snapshots w.some t) w bound
+      → Next polls (met None (segment_of m r.connection r.step) ∷ older) r.connection
+  text_beat polls at Beat.Wait taken iss acked len age most part numbers older k snapshots t w bound y q h = goes_on_so refl (reported taken
+      iss acked len (age + 1) most part k refl (session_kept_quiet older part taken acked len t) w bound (timed_waits 8 older age (inr refl)
+      y q))
+  text_beat polls at Beat.Again taken iss acked len age most part numbers older k snapshots t w bound y q h = goes_on_so refl (reported taken
+      iss acked len (age + 1) most part k refl (text_again older taken iss acked len (age + 1) part k snapshots w.some t) w bound
       (timed_again 8 (text_segment m (conn_at Established taken iss acked len (age + 1) part)) older age (inr refl)
-      (text_placed taken iss acked len (age + 1) part t.at_port w.some t.fits) y)
+      (text_placed taken iss acked len (age + 1) part t.at_port w.some t.fits) y))
   text_beat polls at Beat.GiveUp taken iss acked len age most part numbers older k snapshots t w bound y q h = absurd
       (let c : Connection = conn_at Established taken iss acked len age part in let z = h (reset_of (closes c)) refl in cc)
 
@@ -686,7 +693,7 @@ module _ (m : AppSpec) (pages : Pages) (here : AppState → Bool) (p : Sockets) 
           now = polls;
           least = omega arith;
           most = l;
-          next = goes_on_so (syn_beat polls at (beat_at (limit_of SynRcvd) (age + 1)) iss age part numbers older k syn y refl now);
+          next = syn_beat polls at (beat_at (limit_of SynRcvd) (age + 1)) iss age part numbers older k syn y refl now;
         })
     | reported taken iss acked len age most part k e t w b y ↦
         (let d : Connection = conn_at Established taken iss acked len age part in
@@ -705,8 +712,8 @@ module _ (m : AppSpec) (pages : Pages) (here : AppState → Bool) (p : Sockets) 
           now = polls;
           least = omega arith;
           most = l;
-          next = goes_on_so (text_beat polls at beat taken iss acked len age most part numbers older k
-              (subst (λ (z : Connection). All IsSnapshot z.part.snapshots) e captures) t w b y refl still);
+          next = text_beat polls at beat taken iss acked len age most part numbers older k
+              (subst (λ (z : Connection). All IsSnapshot z.part.snapshots) e captures) t w b y refl still;
         }))
     | waits taken iss acked age most part k e t n r b ↦
         (let left_some : polls < patience = room_left (λ s. (let z : Established ≡ SynRcvd = sym (ap (λ (v : Connection). v.state) e) ∙ s in
@@ -840,6 +847,40 @@ module _ (m : AppSpec) (pages : Pages) (here : AppState → Bool) (p : Sockets) 
       let same : has_ack s.flags && (s.ack == sent_next a older) ≡ false = ap (λ b. has_ack s.flags && (b && (s.ack == sent_next a older))) (sym w) ∙ old in
       ack_test (has_ack s.flags) (ltb 0 c.len) (s.ack == wrap (snd_una c + c.len)) (ap (λ n. has_ack s.flags && (s.ack == n)) e ∙ same)
 
+  -- what the connection has received and sent is what these exchanges show
+  pub expects : (polls : ℕ) (older : List Exchange) (c : Connection) → Stage polls older c → rcv_nxt c ≡ expected_next a older
+  expects polls older c stage = elim stage [
+    | at_syn iss age part k e syn y ↦ ap rcv_nxt e ∙ ap (λ (t : List ℕ). wrap (a.irs + 1 + length t)) (sym syn.received)
+    | reported taken iss acked len age most part k e t w b y ↦ ap rcv_nxt e ∙ ap (λ n. wrap (a.irs + 1 + n)) t.is_taken
+    | waits taken iss acked age most part k e t n r b ↦ ap rcv_nxt e ∙ ap (λ n. wrap (a.irs + 1 + n)) t.is_taken
+  ]
+
+  sent_is : (taken iss acked len age : ℕ) (part : AppState) (older : List Exchange) → Counts iss → Interactive older part taken acked len
+      → wrap (iss + acked + len) ≡ sent_next a older
+  sent_is taken iss acked len age part older k t =
+      ap wrap (let z : iss + acked + len ≡ iss + (acked + len) = omega arith in z) ∙ k (acked + len)
+      ∙ ap wrap (let z = has_length older part taken acked len t in let i = t.is_acked in let q : a.iss + (acked + len)
+      ≡ a.iss + 1 + length (has_of a.iss older) = omega (arith, z, i) in q)
+
+  pub has_sent : (polls : ℕ) (older : List Exchange) (c : Connection) → Stage polls older c → wrap (snd_una c + c.len) ≡ sent_next a older
+  has_sent polls older c stage = elim stage [
+    | at_syn iss age part k e syn y ↦ ap (λ (z : Connection). wrap (snd_una z + z.len)) e
+        ∙ wrap_wrap (iss + 0) 1 ∙ ap wrap (let z : iss + 0 + 1 ≡ iss + 1 = omega arith in z) ∙ k 1
+        ∙ ap wrap (let z = ap length syn.has in let q : a.iss + 1 ≡ a.iss + 1 + length (has_of a.iss older) = omega (arith, z) in q)
+    | reported taken iss acked len age most part k e t w b y ↦ ap (λ (z : Connection). wrap (snd_una z + z.len)) e
+        ∙ wrap_wrap (iss + acked) len ∙ sent_is taken iss acked len age part older k t
+    | waits taken iss acked age most part k e t n r b ↦ ap (λ (z : Connection). wrap (snd_una z + z.len)) e
+        ∙ wrap_wrap (iss + acked) 0 ∙ sent_is taken iss acked 0 age part older k t
+  ]
+
+  -- no more is outstanding than a segment
+  pub few_out : (polls : ℕ) (older : List Exchange) (c : Connection) → Stage polls older c → c.len ≤ a.mss
+  few_out polls older c stage = elim stage [
+    | at_syn iss age part k e syn y ↦ (let z = ap (λ (v : Connection). v.len) e in omega (arith, z, room))
+    | reported taken iss acked len age most part k e t w b y ↦ (let z = ap (λ (v : Connection). v.len) e in let l = w.short in omega (arith, z, l))
+    | waits taken iss acked age most part k e t n r b ↦ (let z = ap (λ (v : Connection). v.len) e in omega (arith, z))
+  ]
+
   pub discards : (polls : ℕ) (numbers : List ℕ) (s : PlainSegment) (older : List Exchange) (c : Connection) → has_rst s.flags ≡ false
       → is_stale a older s ≡ true → (occupies_sequence_space s ≡ false → a.mss ≤ s.window) → Stage polls older c → Discards c numbers (on_segment m c numbers s)
   discards polls numbers s older c r stale window stage = both_ways (occupies_sequence_space s)
@@ -851,13 +892,6 @@ module _ (m : AppSpec) (pages : Pages) (here : AppState → Bool) (p : Sockets) 
       (acknowledges_new a older s)) (sym occ) ∙ stale in
       unplaced_row c numbers s r occ ∙ old_row polls numbers s older c n occ (window occ) stage))
     where
-      expects : (polls : ℕ) (older : List Exchange) (c : Connection) → Stage polls older c → rcv_nxt c ≡ expected_next a older
-      expects polls older c stage = elim stage [
-        | at_syn iss age part k e syn y ↦ ap rcv_nxt e ∙ ap (λ (t : List ℕ). wrap (a.irs + 1 + length t)) (sym syn.received)
-        | reported taken iss acked len age most part k e t w b y ↦ ap rcv_nxt e ∙ ap (λ n. wrap (a.irs + 1 + n)) t.is_taken
-        | waits taken iss acked age most part k e t n r b ↦ ap rcv_nxt e ∙ ap (λ n. wrap (a.irs + 1 + n)) t.is_taken
-      ]
-
       old_row : (polls : ℕ) (numbers : List ℕ) (s : PlainSegment) (older : List Exchange) (c : Connection)
           → not (acknowledges_new a older s) ≡ true → occupies_sequence_space s ≡ false → a.mss ≤ s.window → Stage polls older c →
           by_state m c.state (is_acked c s) c numbers s ≡ leaves c numbers Step.Drop
@@ -865,20 +899,16 @@ module _ (m : AppSpec) (pages : Pages) (here : AppState → Bool) (p : Sockets) 
           let parts = both_no (ltb 0 (length s.text)) (has_syn s.flags || has_fin s.flags) occ in
           let none : s.text ≡ [] = nil_of s.text (ltb-zero (length s.text) parts.0) in
           let fin : has_fin s.flags ≡ false = (both_no (has_syn s.flags) (has_fin s.flags) parts.1).1 in
+          let sent = has_sent polls older c stage in
           elim stage [
             | at_syn iss age part k e syn y ↦
                 (let d : Connection = conn_at SynRcvd 0 iss 0 1 age part in
-                let at : wrap (snd_una d + 1) ≡ sent_next a older =
-                wrap_wrap (iss + 0) 1 ∙ ap wrap (let z : iss + 0 + 1 ≡ iss + 1 = omega arith in z) ∙ k 1
-                ∙ ap wrap (let z = ap length syn.has in let q : a.iss + 1 ≡ a.iss + 1 + length (has_of a.iss older) = omega (arith, z) in q) in
+                let at : wrap (snd_una d + 1) ≡ sent_next a older = subst (λ (z : Connection). wrap (snd_una z + z.len) ≡ sent_next a older) e sent in
                 subst (λ (z : Connection). by_state m z.state (is_acked z s) z numbers s ≡ leaves z numbers Step.Drop) (sym e)
                 (ap (λ b. by_state m SynRcvd b d numbers s) (not_new d s older y.awaits at n)))
             | reported taken iss acked len age most part k e t w' b y ↦
                 (let d : Connection = conn_at Established taken iss acked len age part in
-                let at : wrap (snd_una d + len) ≡ sent_next a older =
-                wrap_wrap (iss + acked) len ∙ ap wrap (let z : iss + acked + len ≡ iss + (acked + len) = omega arith in z) ∙ k (acked + len)
-                ∙ ap wrap (let z = has_length older part taken acked len t in let i = t.is_acked in let q : a.iss + (acked + len)
-                ≡ a.iss + 1 + length (has_of a.iss older) = omega (arith, z, i) in q) in
+                let at : wrap (snd_una d + len) ≡ sent_next a older = subst (λ (z : Connection). wrap (snd_una z + z.len) ≡ sent_next a older) e sent in
                 subst (λ (z : Connection). by_state m z.state (is_acked z s) z numbers s ≡ leaves z numbers Step.Drop) (sym e)
                 (ap (λ b. by_state m Established b d numbers s) (not_new d s older y.awaits at n) ∙ still_row numbers taken iss acked len
                 age part s fin none w))
@@ -904,23 +934,13 @@ module _ (m : AppSpec) (pages : Pages) (here : AppState → Bool) (p : Sockets) 
     | waits taken iss acked age most part k e t n r b ↦ ap (λ z. is_time_wait z.state) e
   ]
 
-  -- ---- where it ends
+  -- ---- where it continues
 
-  -- with more acknowledgements without text than texts, after the whole request, the page was sent
-  pub runs_out : (polls : ℕ) (incarnation : List Exchange) (c : Connection) → text_received incarnation ≡ a.request
-      → texts < bare_acks incarnation → Stage polls incarnation c → ⊥
-  runs_out polls incarnation c whole l h = elim h [
-    | at_syn iss age part k e t y ↦ (let z = t.none in omega (arith, z, l))
-    | reported taken iss acked len age most part k e t w b y ↦ (let z = (w.next []).1 in omega (arith, z, l, b))
-    | waits taken iss acked age most part k e t n r b ↦ r.more (t.input ∙ whole)
+  -- after the whole request the SYN or text awaits an acknowledgement, and no more than this number were received
+  pub awaits_more : (polls : ℕ) (incarnation : List Exchange) (c : Connection) → text_received incarnation ≡ a.request
+      → Stage polls incarnation c → (awaits_ack incarnation ≡ true) × (bare_acks incarnation ≤ texts)
+  awaits_more polls incarnation c whole h = elim h [
+    | at_syn iss age part k e t y ↦ (y.awaits, let z = t.none in omega (arith, z))
+    | reported taken iss acked len age most part k e t w b y ↦ (y.awaits, let z = (w.next []).1 in omega (arith, z, b))
+    | waits taken iss acked age most part k e t n r b ↦ absurd (r.more (t.input ∙ whole))
   ]
-
-  -- the page stays sent
-  pub stays_reported : (x : Exchange) (incarnation : List Exchange) → HasItsPage pages a incarnation → HasItsPage pages a (x ∷ incarnation)
-  stays_reported x incarnation h = record {
-    snapshots = h.snapshots;
-    in_range = h.in_range;
-    whole = h.whole;
-    ends = record { place = suc h.ends.place; segment = h.ends.segment; output = h.ends.output; fin = h.ends.fin; seq = h.ends.seq };
-    complete = h.complete;
-  }

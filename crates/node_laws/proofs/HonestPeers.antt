@@ -1,11 +1,13 @@
 -- A cooperating peer of a node has its page, whatever other peers do: with no loss, and with loss.
-use Rattle.node_laws.proofs.Prelude.{All, map, Bool, ◌≡◌, ℕ, ◌+◌, ◌<◌, ◌≤◌, ◌⊎◌, inl, inr, List, [], ◌∷◌, ◌++◌, refl, sym, ap, ◌∙◌, subst}
-use Rattle.node_laws.proofs.Prelude.{arith, Option, Some, None, first_mss, AnswersPolled, AppSpec, AppState, Event, IsOfLine, trace_of}
-use Rattle.node_laws.proofs.Prelude.{Arrives, AsksOverLoss, IsSteady, steady_of, IsPaged, IsU32, Pages, Addr, Sockets, AbstractNode}
-use Rattle.node_laws.proofs.Prelude.{initial_node, Asker, ArrivesIn, ArrivesUnderLoss, IsLossy, IsOverLoss, fresh, with_fresh}
-use Rattle.node_laws.proofs.Prelude.{text_received, bare_acks, SendsSyn, SendsNext, IsWaitedFor, IsHonest, HasItsPage, HonestPeer, Exchange}
+use Rattle.node_laws.proofs.Prelude.{All, map, Bool, true, ◌≡◌, ℕ, ◌<◌, ◌≤◌, ◌⊎◌, inl, inr, List, [], ◌∷◌, ◌++◌, refl, sym, ap, ◌∙◌, subst}
+use Rattle.node_laws.proofs.Prelude.{arith, Option, first_mss, AnswersPolled, AppSpec, AppState, Event, IsOfLine, trace_of}
+use Rattle.node_laws.proofs.Prelude.{Arrives, AsksOverLoss, Progresses, IsSteady, steady_of, IsPaged, IsU32, Pages, Addr, Sockets}
+use Rattle.node_laws.proofs.Prelude.{AbstractNode}
+use Rattle.node_laws.proofs.Prelude.{initial_node, Asker, ArrivesIn, ArrivesUnderLoss, IsLossy, IsOverLoss, fresh, in_handshake, with_fresh}
+use Rattle.node_laws.proofs.Prelude.{calls_of, first_low}
+use Rattle.node_laws.proofs.Prelude.{text_received, bare_acks, IsHonest, HonestPeer, Exchange}
 use Rattle.node_laws.proofs.Prelude.{TraceEntry, exchange, exchanges_onto, exchanges_with}
-use Rattle.node_laws.proofs.Arriving.{Goes, GoesOn, from_before, goes_before, keeps_fresh, keeps_quiet}
+use Rattle.node_laws.proofs.Arriving.{Goes, GoesOn, HasConnection, from_before, from_whole, goes_before, keeps_fresh, keeps_quiet, stands}
 use Rattle.node_laws.proofs.Arriving.Goes.{brings_next, brings_stale, waits_for}
 use Rattle.node_laws.proofs.Arriving.InTime.{kept_on, tries_left}
 use Rattle.node_laws.specs.LossyPeers.IsOverLoss.{receives_next, receives_nothing, receives_stale}
@@ -13,7 +15,7 @@ use Rattle.node_laws.proofs.Beating.{mss_some}
 use Rattle.node_laws.proofs.GoodNodes.{good_start}
 use Rattle.node_laws.proofs.HonestSessions.{honest_before}
 use Rattle.node_laws.proofs.Paging.{ActsAs, Paging, acts_as_itself, answering_as, anywhere, paging_as}
-use Rattle.node_laws.proofs.Steps.{IsStep, LineStep, OfNode, all_happen, trace_over, turns_happen}
+use Rattle.node_laws.proofs.Steps.{IsStep, LineStep, OfNode, all_happen, node_over, trace_over, turns_happen}
 
 -- the longest text is that of the peer's SYN
 pub record OfSyn (a : Asker) : Type 0 where
@@ -57,17 +59,22 @@ first_fresh a p later (y ∷ older) h = all_fresh a (y ∷ older) (honest_before
 paging_of : (m : AppSpec) (pages : Pages) → IsPaged m pages → (port : ℕ) → Paging m pages port anywhere
 paging_of m pages lawful port = paging_as m m port anywhere (acts_as_itself m port) pages lawful (steady_of m pages lawful)
 
+-- after more acknowledgements than that it has arrived
+past_all : (pages : Pages) (a : Asker) (texts : ℕ) (xs : List Exchange) → Progresses pages a texts xs → texts < bare_acks (fresh a xs) → Arrives pages a xs
+past_all pages a texts xs h few = elim h [ inl there ↦ there | inr way ↦ absurd (let l = way.few in omega (arith, l, few)) ]
+
 pub honest_peer : HonestPeer
 honest_peer m pages lawful ports own addr numbers words events of a p fine left texts patience answering incarnation asks few =
     let first : fresh a (exchanges_with p asks.asking) ≡ exchanges_with p asks.asking =
     first_fresh a p asks.later (exchanges_with p asks.asking) (subst (λ k. IsHonest a k) (ap (λ t. exchanges_with p t) asks.joined
     ∙ in_two p asks.asking asks.later []) asks.honest) in
     let node : AbstractNode = initial_node own numbers in
-    (from_before m pages anywhere ports p (paging_of m pages lawful p.own_port.0) a (room_of a p incarnation asks.honest) fine left texts patience
+    (past_all pages a texts (exchanges_with p incarnation)
+    (from_whole m pages anywhere ports p (paging_of m pages lawful p.own_port.0) a (room_of a p incarnation asks.honest) fine left texts patience
     (answering_as m m p.own_port.0 anywhere (acts_as_itself m p.own_port.0) a.request a.mss fine left texts patience answering) own
     asks.before [] asks.asking asks.later incarnation (map OfNode events) node (all_happen own events of)
     (good_start own numbers words) (turns_happen m ports events node ∙ asks.split) asks.joined (goes_honest a (exchanges_with p incarnation)
-    asks.honest) refl (ap (λ k. text_received k) first ∙ asks.whole) asks.prompt
+    asks.honest) refl (ap (λ k. text_received k) first ∙ asks.whole) asks.prompt)
     (subst (λ k. texts < bare_acks k) (sym (all_fresh a (exchanges_with p incarnation) asks.honest)) few)).page
 
 -- ---- with loss
@@ -97,32 +104,67 @@ pub arrives_acting : (m n : AppSpec) (pages : Pages) (here : AppState → Bool) 
     → (a : Asker) (p : Sockets) → ActsAs m n p.own_port.0 here → (fine : ℕ → AppState → Bool) (left : AppState → ℕ) (texts patience : ℕ)
     → AnswersPolled n a.request a.mss fine left texts patience
     → (incarnation : List TraceEntry) → AsksOverLoss a p patience (trace_over m served steps (initial_node own numbers)) incarnation
-    → texts < bare_acks (fresh a (exchanges_with p incarnation)) → Arrives pages a (exchanges_with p incarnation)
-arrives_acting m n pages here steady lawful served own numbers words steps of a p acts fine left texts patience answering incarnation asks few =
+    → Progresses pages a texts (exchanges_with p incarnation)
+arrives_acting m n pages here steady lawful served own numbers words steps of a p acts fine left texts patience answering incarnation asks =
     let goes : GoesOn a (exchanges_with p incarnation) = goes_lossy a (exchanges_with p incarnation) asks.lossy in
     let room : 0 < a.mss = (let o = of_lossy_syn a p incarnation goes in let l = mss_some o.option in let e = o.is in omega (arith, l, e)) in
-    from_before m pages here served p (paging_as m n p.own_port.0 here acts pages lawful steady) a room fine left texts patience
+    from_whole m pages here served p (paging_as m n p.own_port.0 here acts pages lawful steady) a room fine left texts patience
     (answering_as m n p.own_port.0 here acts a.request a.mss fine left texts patience answering)
     own asks.before asks.opening asks.asking asks.later incarnation steps (initial_node own numbers) of (good_start own numbers words)
-    asks.split asks.joined goes asks.handshake asks.whole asks.prompt few
+    asks.split asks.joined goes asks.handshake asks.whole asks.prompt
+
+-- ---- while it asks
+
+-- The same of an incarnation up to any point. If its request is not whole, nothing follows the part in which it asks.
+pub record AsksSoFar (a : Asker) (p : Sockets) (patience : ℕ) (trace incarnation : List TraceEntry) : Type 0 where
+  pub before : List TraceEntry
+  pub opening : List TraceEntry
+  pub asking : List TraceEntry
+  pub later : List TraceEntry
+  pub split : trace ≡ before ++ incarnation
+  pub joined : incarnation ≡ opening ++ (asking ++ later)
+  pub lossy : IsLossy a (exchanges_with p incarnation)
+  pub handshake : in_handshake (fresh a (exchanges_with p opening)) ≡ true
+  pub so_far : (later ≡ []) ⊎ (text_received (fresh a (exchanges_with p (opening ++ asking))) ≡ a.request)
+  pub prompt : (slot : ℕ) → calls_of slot asking ≤ patience
+
+-- then the page has arrived, or the node has the connection of the peer
+pub connection_stands : (m n : AppSpec) (pages : Pages) (here : AppState → Bool) → IsSteady m → IsPaged n pages
+    → (served : ℕ → Bool) (own : Addr) (numbers : List ℕ) → All IsU32 numbers → (steps : List LineStep) → All (IsStep own) steps
+    → (a : Asker) (p : Sockets) → ActsAs m n p.own_port.0 here → (fine : ℕ → AppState → Bool) (left : AppState → ℕ) (texts patience : ℕ)
+    → AnswersPolled n a.request a.mss fine left texts patience
+    → (incarnation : List TraceEntry) → AsksSoFar a p patience (trace_over m served steps (initial_node own numbers)) incarnation
+    → Arrives pages a (exchanges_with p incarnation)
+    ⊎ HasConnection a p (fresh a (exchanges_with p incarnation)) (node_over m served steps (initial_node own numbers))
+connection_stands m n pages here steady lawful served own numbers words steps of a p acts fine left texts patience answering incarnation asks =
+    let goes : GoesOn a (exchanges_with p incarnation) = goes_lossy a (exchanges_with p incarnation) asks.lossy in
+    let syn = of_lossy_syn a p incarnation goes in
+    let room : 0 < a.mss = (let l = mss_some syn.option in let e = syn.is in omega (arith, l, e)) in
+    let low : a.mss < 65536 = (let l = first_low syn.option in let e = syn.is in omega (arith, l, e)) in
+    let paging = paging_as m n p.own_port.0 here acts pages lawful steady in
+    let answers = answering_as m n p.own_port.0 here acts a.request a.mss fine left texts patience answering in
+    stands m pages here served p paging a room fine left texts patience answers
+    (node_over m served steps (initial_node own numbers)) (exchanges_with p incarnation) low
+    (from_before m pages here served p paging a room fine left texts patience answers own asks.before asks.opening asks.asking asks.later
+    incarnation steps (initial_node own numbers) of (good_start own numbers words) asks.split asks.joined goes asks.handshake asks.so_far asks.prompt)
 
 pub arrives_acting_in : (m n : AppSpec) (pages : Pages) (here : AppState → Bool) → IsSteady m → IsPaged n pages
     → (served : ℕ → Bool) (own : Addr) (numbers : List ℕ) → All IsU32 numbers → (events : List Event) → All (IsOfLine own) events
     → (a : Asker) (p : Sockets) → ActsAs m n p.own_port.0 here → (fine : ℕ → AppState → Bool) (left : AppState → ℕ) (texts patience : ℕ)
     → AnswersPolled n a.request a.mss fine left texts patience
     → (incarnation : List TraceEntry) → AsksOverLoss a p patience (trace_of m served events (initial_node own numbers)) incarnation
-    → texts < bare_acks (fresh a (exchanges_with p incarnation)) → Arrives pages a (exchanges_with p incarnation)
-arrives_acting_in m n pages here steady lawful served own numbers words events of a p acts fine left texts patience answering incarnation asks few =
+    → Progresses pages a texts (exchanges_with p incarnation)
+arrives_acting_in m n pages here steady lawful served own numbers words events of a p acts fine left texts patience answering incarnation asks =
     arrives_acting m n pages here steady lawful served own numbers words (map OfNode events) (all_happen own events of) a p acts fine left
     texts patience answering incarnation
-    (subst (λ trace. AsksOverLoss a p patience trace incarnation) (sym (turns_happen m served events (initial_node own numbers))) asks) few
+    (subst (λ trace. AsksOverLoss a p patience trace incarnation) (sym (turns_happen m served events (initial_node own numbers))) asks)
 
 pub arrives_over_steps : (m : AppSpec) (pages : Pages) → IsPaged m pages → (served : ℕ → Bool) (own : Addr) (numbers : List ℕ)
     → All IsU32 numbers → (steps : List LineStep) → All (IsStep own) steps
     → ArrivesIn m pages (trace_over m served steps (initial_node own numbers))
-arrives_over_steps m pages lawful served own numbers words steps of a p fine left texts patience answering incarnation asks few =
+arrives_over_steps m pages lawful served own numbers words steps of a p fine left texts patience answering incarnation asks =
     arrives_acting m m pages anywhere (steady_of m pages lawful) lawful served own numbers words steps of a p
-    (acts_as_itself m p.own_port.0) fine left texts patience answering incarnation asks few
+    (acts_as_itself m p.own_port.0) fine left texts patience answering incarnation asks
 
 pub arrives_under_loss : ArrivesUnderLoss
 arrives_under_loss m pages lawful ports own addr numbers words events of =

@@ -26,6 +26,7 @@ pub mod HonestConnections
 pub mod Arriving
 pub mod HonestPeers
 pub mod Beating
+pub mod TextCounts
 pub mod Timers
 pub mod WindowSteps
 pub mod Windows

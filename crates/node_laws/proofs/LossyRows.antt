@@ -1,8 +1,8 @@
 -- A peer on a link that loses and repeats, computed from the definitions alone: a lost SYN-ACK, and a lost text.
-use Rattle.node_laws.proofs.Prelude.{◌≡◌, ◌+◌, ℕ, false, List, [], ◌∷◌, map, is_some, length, refl, arith, Some, None, PlainSegment}
-use Rattle.node_laws.proofs.Prelude.{has_rst, SYN, PSH, ACK, hello, idles, peer_closes, stays_established, in_established, fin_acked}
+use Rattle.node_laws.proofs.Prelude.{◌≡◌, ◌+◌, ℕ, true, List, [], ◌∷◌, length, drop, refl, arith, Some, None, PlainSegment}
+use Rattle.node_laws.proofs.Prelude.{SYN, ACK, hello, idles, peer_closes, stays_established, in_established, fin_acked}
 use Rattle.node_laws.proofs.Prelude.{fin_waits, on_segment, rests_on, ticks_established, Periodic, happened, opens_in, for_no_connection}
-use Rattle.node_laws.proofs.Prelude.{only_some, Asker, IsLossy, fresh, retransmissions, text_received, bare_acks, receives_all, Exchange}
+use Rattle.node_laws.proofs.Prelude.{Asker, IsLossy, fresh, text_received, awaits_ack, bare_acks, receives_all, Exchange}
 use Rattle.node_laws.specs.LossyPeers.IsOverLoss.{receives_next, receives_nothing, receives_stale}
 use Rattle.node_laws.proofs.Rows.{says, session_over, reported}
 
@@ -40,6 +40,18 @@ asked = refl
 acknowledged : bare_acks (fresh asker lossy) ≡ 2
 unfolding idles peer_closes stays_established in_established fin_acked fin_waits on_segment rests_on ticks_established happened opens_in for_no_connection
 acknowledged = refl
+
+-- Before the last exchange the page is on its way: the text awaits an acknowledgement, after one without text.
+abbrev waiting : List Exchange
+waiting = drop 1 lossy
+
+awaited : awaits_ack (fresh asker waiting) ≡ true
+unfolding idles peer_closes stays_established in_established fin_acked fin_waits on_segment rests_on ticks_established happened opens_in for_no_connection
+awaited = refl
+
+one_before : bare_acks (fresh asker waiting) ≡ 1
+unfolding idles peer_closes stays_established in_established fin_acked fin_waits on_segment rests_on ticks_established happened opens_in for_no_connection
+one_before = refl
 
 -- the receiver has the page
 has_page : receives_all 0 lossy ≡ hello

@@ -1,6 +1,6 @@
 -- What the run of a cooperating peer needs of an application: in some states, those of its port, the output is a page, and a request is
 -- answered.
-use Rattle.node_laws.proofs.Prelude.{All, ◌≡◌, ℕ, suc, ◌<◌, ◌≤◌, ◌+◌, Bool, true, ◌⊎◌, inl, inr, List, [], ◌∷◌, ◌++◌, length, min, refl}
+use Rattle.node_laws.proofs.Prelude.{All, ◌≡◌, ℕ, suc, ◌<◌, ◌≤◌, ◌+◌, Bool, true, inl, inr, List, [], ◌∷◌, ◌++◌, length, min, refl}
 use Rattle.node_laws.proofs.Prelude.{sym, ap, ◌∙◌, subst, AppState, After, AppSpec, Snapshot, IsPrefixOf, Pages, IsPaged, IsU32, IsNow}
 use Rattle.node_laws.proofs.Prelude.{IsSnapshot, MayWant, Now, Want, Nothing, Send, Close, Abort, delivers_text, append_nothing, arith}
 use Rattle.node_laws.proofs.Prelude.{AnswersPolled, GoesOnBy, IsSteady}

@@ -11,7 +11,8 @@ pub use Rattle.app_events.specs.declared.want.Want.TheVariants.{Abort, Close, No
 pub use Rattle.icmp_echo.specs.Prelude.{echo_fate}
 pub use Rattle.icmp_echo.specs.declared.fate.IcmpFate.{IcmpFate}
 pub use Rattle.node_laws.specs.Prelude.{AcceptsPrefix, Account, AccountHolds, Acknowledges, Arrives, ArrivesIn, ArrivesUnderLoss, Asker}
-pub use Rattle.node_laws.specs.Prelude.{AsksOverLoss, HasAcknowledged, IsLossy, IsOverLoss, ReceivesStale, acknowledges_new, expected_next}
+pub use Rattle.node_laws.specs.Prelude.{AsksOverLoss, HasAcknowledged, IsLossy, IsOnItsWay, IsOverLoss, IsWithoutFin, Progresses}
+pub use Rattle.node_laws.specs.Prelude.{ReceivesStale, acknowledges_new, expected_next}
 pub use Rattle.node_laws.specs.Prelude.{fresh, in_handshake, is_stale, retransmission_limit, retransmissions, sent_next, with_fresh, Begins}
 pub use Rattle.node_laws.specs.Prelude.{CarriesByte, EndsAfter, EveryTraceConforms, EveryTraceOfPagesConforms, Exchange, FitsNewest}
 pub use Rattle.node_laws.specs.Prelude.{FitsWindows, FollowsModelAt, FollowsPagesAt, Free, HasItsPage, HasOutputModel, HonestPeer}
@@ -85,6 +86,7 @@ pub use Rattle.uip_node.proofs.Acknowledged.{Moves, asked_moves, segment_moves, 
 pub use Rattle.uip_node.proofs.Peers.{asked_keeps, on_segment_keeps, on_tick_closed, on_tick_keeps}
 pub use Rattle.uip_node.proofs.SocketPairs.{is_same, same_is, same_self, serves_dead, serves_not, serves_yes}
 pub use Rattle.uip_node.proofs.SoundSegments.{IsSoundSegment, Lens, LensWithin, accepted_lens, asked_lens, asked_within, closed_lens}
+pub use Rattle.uip_node.proofs.SoundSegments.{first_low}
 pub use Rattle.uip_node.proofs.SoundSegments.{on_segment_lens, on_segment_within, on_tick_lens, on_tick_within, sent_sound}
 pub use Rattle.uip_node.proofs.Steadiness.{steady_of}
 pub use Rattle.uip_node.proofs.Stepped.{stepped_fits, stepped_reports}

@@ -24,6 +24,12 @@ module _ (m : AppSpec) (served : ℕ → Bool) where
       record { event = event; sent = (step m served n event).sent } ∷ trace_over steps (step m served n event).node
   trace_over (Changes change ∷ steps) n = trace_over steps (changed change n)
 
+  -- the node after them
+  abbrev pub node_over : List LineStep → AbstractNode → AbstractNode
+  node_over [] n = n
+  node_over (OfNode event ∷ steps) n = node_over steps (step m served n event).node
+  node_over (Changes change ∷ steps) n = node_over steps (changed change n)
+
   -- where nothing is changed
   pub turns_happen : (events : List Event) (n : AbstractNode) → trace_over (map OfNode events) n ≡ trace_of m served events n
   turns_happen [] n = refl

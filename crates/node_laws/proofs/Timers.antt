@@ -14,12 +14,12 @@ use Rattle.node_laws.proofs.Prelude.{free, FitConn, on_segment_fits, on_tick_fit
 use Rattle.node_laws.proofs.Prelude.{tick_moves, on_segment_keeps, asked_keeps, on_tick_keeps, same_is, serves_dead, serves_yes}
 use Rattle.node_laws.proofs.Prelude.{stepped_reports, IsDue, StepReports, OutReports, due, alike_trans, alike_sym, alike_refl}
 use Rattle.node_laws.proofs.Prelude.{segment_reports, tick_reports, IsWithoutReset, sequence_length, Exchange, TraceEntry, sent_at}
-use Rattle.node_laws.proofs.Prelude.{exchange, received_from, exchanges_onto, trace_of, calls_of, IsOutstanding, IsRetried, IsRetriedIn}
-use Rattle.node_laws.proofs.Prelude.{RetransmitsOrResets, RetriesIn, sent_again, given_up, IsOfLine}
+use Rattle.node_laws.proofs.Prelude.{exchange, received_from, exchanges_onto, calls_of, IsOutstanding, IsRetried, IsRetriedIn}
+use Rattle.node_laws.proofs.Prelude.{RetransmitsOrResets, RetriesIn, sent_again, given_up}
 use Rattle.node_laws.proofs.Arriving.{calls_one}
 use Rattle.node_laws.proofs.Beating.{Young, asked_young, segment_young, tick_young, due_size, asked_lives, segment_lives, tick_lives}
 use Rattle.node_laws.proofs.Beating.{mss_some, no_wait, ticks_are, due_again, next_beat, SafeAt}
-use Rattle.node_laws.proofs.GoodNodes.{AnyLength, Good, SafeConn, first_is, good_on, good_start, low_text}
+use Rattle.node_laws.proofs.GoodNodes.{AnyLength, Good, SafeConn, good_on, good_start, low_text}
 use Rattle.node_laws.proofs.Lines.{comes, quiet, met}
 use Rattle.node_laws.proofs.Steps.{Changes, IsStep, LineStep, OfNode, all_happen, changed, changed_good, cut, event_first, trace_over}
 use Rattle.node_laws.proofs.Steps.{turns_happen}

@@ -1,8 +1,8 @@
 -- The age of what awaits an acknowledgement, by the retransmissions that the exchanges show.
-use Rattle.node_laws.proofs.Prelude.{option_map_or, ◌≡◌, ℕ, zero, suc, ◌+◌, ◌<◌, ◌≤◌, Bool, true, false, if◌then◌else◌, ◌&&◌, ◌⊎◌, inl, inr}
-use Rattle.node_laws.proofs.Prelude.{List, [], ◌∷◌, refl, sym, ap, ◌∙◌, subst, arith, Option, Some, None, is_some, take, eqb, eq-eqb}
+use Rattle.node_laws.proofs.Prelude.{◌≡◌, ℕ, zero, suc, ◌+◌, ◌<◌, ◌≤◌, true, if◌then◌else◌, ◌&&◌, ◌⊎◌, inl, inr}
+use Rattle.node_laws.proofs.Prelude.{List, [], ◌∷◌, refl, sym, ap, ◌∙◌, subst, arith, Option, Some, None, take, eqb}
 use Rattle.node_laws.proofs.Prelude.{cases_lt, list_any, PlainSegment, ages, beat_at, give_up_age, Beat, occupies_sequence_space, choose}
-use Rattle.node_laws.proofs.Prelude.{eqb-eq, both_ways, Exchange, awaits_ack, in_handshake, retransmissions, retransmission_limit}
+use Rattle.node_laws.proofs.Prelude.{eqb-eq, Exchange, awaits_ack, in_handshake, retransmissions, retransmission_limit}
 use Rattle.node_laws.proofs.Lines.{quiet, met}
 
 -- Something awaits an acknowledgement. Before the last retransmission its age is below that of the next one.

@@ -1,17 +1,18 @@
 -- A cooperating peer over a link that loses, repeats and reorders datagrams (RFC 793, section 1.5, "Reliability"). It sends a request, and
--- acknowledges each segment of the node before the node gives up. Copies and old segments of it may arrive between. Its whole page and a FIN
--- arrive after a stated number of new acknowledgements, and the connection is not reset before.
+-- acknowledges each segment of the node before the node gives up. Copies and old segments of it may arrive between. Once its request is
+-- whole, its page and a FIN have arrived, or a segment awaits one of a bounded number of acknowledgements.
 use Rattle.std.specs.Option.{option_map_or}
-use Rattle.std.specs.Prelude.{◌≡◌, ◌+◌, ◌<◌, ◌≤◌, ◌==◌, ◌&&◌, [], All, Bool, false, List, not, true, ℕ}
+use Rattle.std.specs.Prelude.{◌≡◌, ◌+◌, ◌<◌, ◌≤◌, ◌==◌, ◌&&◌, ◌⊎◌, [], All, Bool, false, List, not, true, ℕ}
 use Rattle.std.specs.Prelude.{◌∷◌, ◌++◌, length, drop, Some, None, is_some, if◌then◌else◌}
 use Rattle.uip_wire.specs.Prelude.{wrap}
 use Rattle.uip_wire.specs.declared.addr.Addr.{Addr}
-use Rattle.tcp_segment.specs.Prelude.{PlainSegment, has_rst, has_ack}
+use Rattle.tcp_segment.specs.Prelude.{PlainSegment, has_fin, has_rst, has_ack}
 use Rattle.app_events.specs.Prelude.{AppState, AppSpec, Pages, IsPaged, IsAddr, IsU32}
 use Rattle.tcp_machine.specs.Prelude.{Sockets, occupies_sequence_space}
 use Rattle.uip_node.specs.Prelude.{Event, initial_node, AnswersPolled}
 use Rattle.node_laws.specs.Asked.{IsWithoutReset}
-use Rattle.node_laws.specs.HonestPeers.{Asker, SendsSyn, SendsNext, HasItsPage, text_received, receives_all, awaits_ack, bare_acks, calls_of}
+use Rattle.node_laws.specs.HonestPeers.{Asker, SendsSyn, SendsNext, HasItsPage, text_received, receives_all, awaits_ack, bare_acks}
+use Rattle.node_laws.specs.HonestPeers.{calls_of}
 use Rattle.node_laws.specs.Traces.{Exchange, TraceEntry, exchanges_with, received_at}
 use Rattle.node_laws.specs.Turns.{trace_of}
 use Rattle.node_laws.specs.Wire.{IsOfLine}
@@ -112,13 +113,31 @@ pub record Arrives (pages : Pages) (a : Asker) (incarnation : List Exchange) : T
   pub acknowledged : HasAcknowledged (drop page.ends.place incarnation) page.ends.segment.seq
   pub unreset : All IsWithoutReset (drop page.ends.place incarnation)
 
--- Every cooperating peer of this trace arrives at the end of its page, over a link that loses, repeats and reorders datagrams. The
--- application answers its request in this number of texts. Then more fresh acknowledgements without text suffice.
+-- no FIN was sent in this exchange
+abbrev pub IsWithoutFin : Exchange → Type 0
+IsWithoutFin x = (s : PlainSegment) → x.output ≡ Some s → has_fin s.flags ≡ false
+
+-- The page is on its way: a SYN or text awaits an acknowledgement, after at most this many new acknowledgements without text. No FIN was
+-- sent, and no RST was received or sent.
+pub record IsOnItsWay (a : Asker) (texts : ℕ) (incarnation : List Exchange) : Type 0 where
+  pub awaits : awaits_ack (fresh a incarnation) ≡ true
+  pub few : bare_acks (fresh a incarnation) ≤ texts
+  pub unfinished : All IsWithoutFin incarnation
+  pub unreset : All IsWithoutReset incarnation
+
+-- Progress: the page has arrived, or it is on its way. In the second case the next segment of the peer acknowledges what awaits it
+-- (`SendsNext`), which counts one up. So the page arrives at the latest with the acknowledgement after this many.
+abbrev pub Progresses : Pages → Asker → ℕ → List Exchange → Type 0
+Progresses pages a texts incarnation = Arrives pages a incarnation ⊎ IsOnItsWay a texts incarnation
+
+-- Every cooperating peer of this trace progresses, over a link that loses, repeats and reorders datagrams, from its whole request on. The
+-- application answers its request in at most this number of texts.
 abbrev pub ArrivesIn : AppSpec → Pages → List TraceEntry → Type 0
 ArrivesIn m pages trace =
     (a : Asker) (p : Sockets) (fine : ℕ → AppState → Bool) (left : AppState → ℕ) (texts patience : ℕ)
-    → AnswersPolled m a.request a.mss fine left texts patience → (incarnation : List TraceEntry) → AsksOverLoss a p patience trace incarnation
-    → texts < bare_acks (fresh a (exchanges_with p incarnation)) → Arrives pages a (exchanges_with p incarnation)
+    → AnswersPolled m a.request a.mss fine left texts patience
+    → (incarnation : List TraceEntry) → AsksOverLoss a p patience trace incarnation
+    → Progresses pages a texts (exchanges_with p incarnation)
 
 -- Arrival under loss, in every trace of a node, for every application whose output is a page. Other peers have no influence.
 abbrev pub ArrivesUnderLoss : Type 0

@@ -2,7 +2,8 @@
 pub use Rattle.node_laws.specs.Asked.{IsEchoed, IsSolicited, IsWithoutReset, ContinuesUnreset, NothingUnsolicited, OpensServed}
 pub use Rattle.node_laws.specs.HonestPeers.{Asker, AsksHonestly, HasItsPage, HonestPeer, IsHonest, IsWaitedFor, SendsNext, SendsSyn}
 pub use Rattle.node_laws.specs.HonestPeers.{awaits_ack, bare_acks, calls_of, in_turn, is_bare_ack, receives_all, text_received}
-pub use Rattle.node_laws.specs.LossyPeers.{Arrives, ArrivesIn, ArrivesUnderLoss, AsksOverLoss, HasAcknowledged, IsLossy, IsOverLoss, ReceivesStale, acknowledges_new, expected_next}
+pub use Rattle.node_laws.specs.LossyPeers.{Arrives, ArrivesIn, ArrivesUnderLoss, AsksOverLoss, HasAcknowledged, IsLossy, IsOnItsWay}
+pub use Rattle.node_laws.specs.LossyPeers.{IsOverLoss, IsWithoutFin, Progresses, ReceivesStale, acknowledges_new, expected_next}
 pub use Rattle.node_laws.specs.LossyPeers.{fresh, in_handshake, is_stale, retransmission_limit, retransmissions, sent_next, with_fresh}
 pub use Rattle.node_laws.specs.Promise.{Account, AccountHolds, Acknowledges, Begins, IncarnationConforms, IsSelection}
 pub use Rattle.node_laws.specs.Promise.{IsAcknowledged, IsAtOffset, IsExtendedBy, IsPrefixOfPage, NumbersGiveOffsets}

@@ -31,7 +31,7 @@ pub fn honest_peer()
 {}
 
 /// The same over a link that loses, repeats and reorders datagrams, if what is outstanding is acknowledged before the last retransmission.
-/// The connection is not reset before.
+/// At each moment from its whole request on, the page has arrived, or one of a bounded number of acknowledgements is awaited.
 pub fn arrives_under_loss()
     ensures { ArrivesUnderLoss }
 {}

@@ -29,7 +29,7 @@ use Rattle.uip_device.specs.Answering.{text_is_next, texts_by}
 use Rattle.uip_node.proofs.SoundSegments.{first_low}
 use Rattle.node_laws.proofs.Beating.{mss_some}
 use Rattle.node_laws.proofs.HonestPeers.{lossy_syn}
-use Rattle.uip_device.proofs.TextCounts.{left_in, behind, counted, shorter, one_less}
+use Rattle.node_laws.proofs.TextCounts.{left_in, behind, counted, shorter, one_less}
 use Rattle.device_values.specs.Lemmas.Laws.{words_short}
 use Rattle.device_values.specs.Prelude.{words}
 use Rattle.device_values.specs.declared.word.Word.{Word}
@@ -483,9 +483,9 @@ value_pages_answer files request decided follows mss some low =
     )
 
 pub web_calls_arrive : WebCallsArrive
-web_calls_arrive files served gives numbers rules own all lefts conforms a p decided follows incarnation asks few =
+web_calls_arrive files served gives numbers rules own all lefts conforms a p decided follows incarnation asks =
     let syn = lossy_syn a p incarnation asks.lossy in
     let some : 0 < a.mss = (let l = mss_some syn.option in let e = syn.is in omega (arith, l, e)) in
     let low : a.mss ≤ 1460 = (let l = first_low syn.option in let e = syn.is in omega (arith, l, e)) in
     let answers = value_pages_answer files a.request decided follows a.mss some low in
-    conforms.arrives a p answers.0 answers.1.0 (texts_by words a.mss (answer_pieces words files (wanted a.request))) 19 answers.1.1 incarnation asks few
+    conforms.arrives a p answers.0 answers.1.0 (texts_by words a.mss (answer_pieces words files (wanted a.request))) 19 answers.1.1 incarnation asks

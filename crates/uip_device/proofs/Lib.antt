@@ -4,7 +4,6 @@ pub mod CallLaws
 pub mod FrameLaws
 pub mod HandLaws
 pub mod KeepLaws
-pub mod TextCounts
 pub mod Answering
 pub mod NumberLaws
 pub mod PartLaws

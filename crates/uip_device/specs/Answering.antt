@@ -11,7 +11,7 @@ use Rattle.uip_node.specs.Prelude.{AnswersPolled}
 use Rattle.web_pages.specs.Prelude.{reply_pieces_by, ScriptPiece, Plain, Made, Wanted, wanted, Name, NotYet}
 use Rattle.uip_wire.specs.declared.addr.Addr.{Addr}
 use Rattle.tcp_machine.specs.Prelude.{Sockets}
-use Rattle.node_laws.specs.Prelude.{Arrives, Asker, AsksOverLoss, TraceEntry, bare_acks, exchanges_with, fresh}
+use Rattle.node_laws.specs.Prelude.{Asker, AsksOverLoss, Progresses, TraceEntry, exchanges_with}
 use Rattle.guarded_node.specs.declared.guard.Rules.{Rules}
 use Rattle.uip_device.specs.Devices.{Answered}
 use Rattle.uip_device.specs.Moves.{Writing}
@@ -66,8 +66,9 @@ ValuePagesAnswer =
     → (fine : ℕ → AppState → Bool) × ((left : AppState → ℕ)
     × AnswersPolled (value_spec files) request mss fine left (texts_by words mss (answer_pieces words files (wanted request))) 19)
 
--- The calls of a device that serves a site, one of whose results is `conforms`, bring a peer its page over a lossy link. Its request is
--- decided, and is received whole before any slot is called twenty times. Text follows each value of its page.
+-- The calls of a device that serves a site, one of whose results is `conforms`, bring a peer its page over a lossy link: from its whole
+-- request on it has arrived or is on its way (`Progresses`). The request is decided, and is received whole before any slot is called twenty
+-- times. Text follows each value of its page.
 abbrev pub WebCallsArrive : Type 0
 WebCallsArrive =
     (files : List File) (served : ℕ → Bool) (gives : Writing) (numbers : List ℕ) (rules : Rules) (own : Addr)
@@ -75,5 +76,4 @@ WebCallsArrive =
     → (conforms : CallsConform (value_spec files) (value_pages files) served gives numbers rules own all lefts) → (a : Asker) (p : Sockets)
     → wanted a.request ≢ NotYet → text_follows_values (answer_pieces words files (wanted a.request)) ≡ true → (incarnation : List TraceEntry)
     → AsksOverLoss a p 19 (flat_map (λ it. it.turns) conforms.moves) incarnation
-    → texts_by words a.mss (answer_pieces words files (wanted a.request)) < bare_acks (fresh a (exchanges_with p incarnation))
-    → Arrives (value_pages files) a (exchanges_with p incarnation)
+    → Progresses (value_pages files) a (texts_by words a.mss (answer_pieces words files (wanted a.request))) (exchanges_with p incarnation)

@@ -52,7 +52,7 @@ module _ (m : AppSpec) (served : ℕ → Bool) (gives : Writing) (rules : Rules)
 
 -- These are results of moves in order (`all`) and the output pending after each (`lefts`). Each move returns what is sent in a trace of
 -- its own, of the events that the guarded node takes. The concatenated traces conform, and the node's own parser, at the address of the
--- peer, gives back each segment. Each cooperating peer has its whole page, over any link that does not lose too much.
+-- peer, gives back each segment. The page of each cooperating peer arrives, over any link that does not lose too much.
 pub record CallsConform (m : AppSpec) (pages : Pages) (served : ℕ → Bool) (gives : Writing) (numbers : List ℕ) (rules : Rules) (own : Addr)
     (all : List Answered) (lefts : List (List ℕ)) : Type 0 where
   pub moves : List MoveTrace
