@@ -11,7 +11,7 @@ use Rattle.node_laws.proofs.Prelude.{on_segment, on_tick, Event, Periodic, calle
 use Rattle.node_laws.proofs.Prelude.{serving, IsEvent, and_true, both_ways, choose, eqb-eq, ltb-zero, only_some, wrap_wrap, append_nothing}
 use Rattle.node_laws.proofs.Prelude.{get_set_same, is_served, served, free, on_segment_fits, on_tick_fits, node_snapshot, Asker, Arrives}
 use Rattle.node_laws.proofs.Prelude.{HasAcknowledged, IsWithoutFin, IsWithoutReset, Progresses, is_time_wait, rcv_nxt, serves, Moves}
-use Rattle.node_laws.proofs.Prelude.{asked_moves, segment_moves, tick_moves, ReceivesStale}
+use Rattle.node_laws.proofs.Prelude.{asked_moves, segment_moves, tick_moves, ReceivesStale, All-head, IsU32, IsOfLine, map, received_from}
 use Rattle.node_laws.proofs.Prelude.{acknowledges_new, awaits_ack, expected_next, fresh, in_handshake, is_stale, retransmission_limit}
 use Rattle.node_laws.proofs.Prelude.{retransmissions, sent_at, sent_next, with_fresh, text_received, bare_acks, receives_all, SendsSyn}
 use Rattle.node_laws.proofs.Prelude.{SendsNext, calls_of, HasItsPage, Exchange, TraceEntry, exchange, exchanges_onto, exchanges_with}
@@ -30,7 +30,9 @@ use Rattle.node_laws.proofs.Replying.{answer_no_syn, reset_ends, tick_reset_ends
 use Rattle.node_laws.proofs.Slots.{Acted, acts}
 use Rattle.node_laws.proofs.Slots.Acts.{is_called, is_met, is_apart, makes_room}
 use Rattle.node_laws.proofs.StepTable.{nil_of}
-use Rattle.node_laws.proofs.Steps.{Changes, IsStep, LineStep, OfNode, changed, changed_good, event_first, node_over, trace_over}
+use Rattle.node_laws.proofs.Steps.{Changes, Drops, IsStep, LineStep, OfNode, OnNode, Sets, WireStep, changed, node_on_wire}
+use Rattle.node_laws.proofs.Steps.{trace_on_wire, unguarded}
+use Rattle.node_laws.proofs.Wire.{line_wire, wire_event}
 use Rattle.node_laws.proofs.Waiting.{timed_syn}
 
 -- where one lives the table has a row
@@ -188,6 +190,29 @@ pub record HasConnection (a : Asker) (p : Sockets) (before : List Exchange) (n :
   pub len : connection.len < 65536
   pub early : is_time_wait connection.state ≡ false
 
+-- what a guard may drop for this peer: no next segment of it
+abbrev pub IsLosable : Asker → Sockets → Event → AbstractNode → Type 0
+IsLosable a p e n = (before : List Exchange) (x : Exchange) → HasConnection a p before n → x.received ≡ received_from p e → SendsNext a x before → ⊥
+
+-- The events of the node are of a line, changes leave numbers of 32 bits such, and what is dropped may be lost.
+abbrev pub AreGuarded : AppSpec → (ℕ → Bool) → Addr → Asker → Sockets → List WireStep → AbstractNode → Type 0
+AreGuarded m ports own a p [] n = Unit {0}
+AreGuarded m ports own a p (OnNode e ∷ es) n = IsOfLine own e × AreGuarded m ports own a p es (step m ports n e).node
+AreGuarded m ports own a p (Sets change ∷ es) n =
+    ((numbers : List ℕ) → All IsU32 numbers → All IsU32 (change numbers)) × AreGuarded m ports own a p es (changed change n)
+AreGuarded m ports own a p (Drops e ∷ es) n = IsLosable a p e n × AreGuarded m ports own a p es n
+
+-- with no guard
+pub none_dropped : (m : AppSpec) (ports : ℕ → Bool) (own : Addr) (a : Asker) (p : Sockets) (steps : List LineStep) (n : AbstractNode)
+    → All (IsStep own) steps → AreGuarded m ports own a p (map unguarded steps) n
+none_dropped m ports own a p [] n of = tt
+none_dropped m ports own a p (OfNode e ∷ steps) n of =
+    (All-head (IsStep own) (OfNode e) steps of, none_dropped m ports own a p steps (step m ports n e).node (All-tail (IsStep own) (OfNode e) steps of))
+none_dropped m ports own a p (Changes change ∷ steps) n of = (
+  All-head (IsStep own) (Changes change) steps of,
+  none_dropped m ports own a p steps (changed change n) (All-tail (IsStep own) (Changes change) steps of),
+)
+
 -- ---- the page, seen in all exchanges
 
 -- what was sent among the fresh exchanges was sent among all
@@ -229,8 +254,8 @@ stays_sent pages a x incarnation h = record {
 }
 
 module _ (m : AppSpec) (pages : Pages) (here : AppState → Bool) (serves_port : ℕ → Bool) (p : Sockets)
-    (lawful : Paging m pages p.own_port.0 here) (a : Asker) (room : 0 < a.mss) (fine : ℕ → AppState → Bool) (left : AppState → ℕ)
-    (texts patience : ℕ) (answering : Answering m p.own_port.0 here a.request a.mss fine left texts patience) where
+    (lawful : Paging m pages p.own_port.0 here) (a : Asker) (room : 0 < a.mss) (low : a.mss < 65536) (fine : ℕ → AppState → Bool)
+    (left : AppState → ℕ) (texts patience : ℕ) (answering : Answering m p.own_port.0 here a.request a.mss fine left texts patience) where
   abbrev At : ℕ → List Exchange → Connection → Type 0
   At polls incarnation c = Stage m pages here p lawful a room fine left texts patience answering polls incarnation c
 
@@ -286,6 +311,156 @@ module _ (m : AppSpec) (pages : Pages) (here : AppState → Bool) (serves_port :
       confirmed = v.confirmed;
     }
     | arrived reported ↦ over reported
+  ]
+
+  -- the connection of the peer in this slot
+  connection_of : (n : AbstractNode) (i : ℕ) (c : Connection) (polls : ℕ) (kept : List Exchange) → slice_get n.connections i ≡ Some c
+      → At polls kept c → HasConnection a p kept n
+  connection_of n i c polls kept there stage = record {
+    slot = i;
+    connection = c;
+    there = there;
+    serves = stage_serves m pages here p lawful a room fine left texts patience answering polls kept c stage;
+    rcv_nxt = expects m pages here p lawful a room fine left texts patience answering polls kept c stage;
+    snd_nxt = has_sent m pages here p lawful a room fine left texts patience answering polls kept c stage;
+    len = (let l = few_out m pages here p lawful a room fine left texts patience answering polls kept c stage in omega (arith, l, low));
+    early = stage_stays m pages here p lawful a room fine left texts patience answering polls kept c stage;
+  }
+
+  -- ---- the connection stays as it is
+
+  adds_none : (c : Connection) (incarnation : List Exchange) (output : Option PlainSegment)
+      → ((t : PlainSegment) → output ≡ Some t → t ≡ bare_ack c)
+      → option_map_or (λ s. Rattle.node_laws.specs.Receivers.takes_next a.iss (has_of a.iss incarnation) s) output
+      (has_of a.iss incarnation) ≡ has_of a.iss incarnation
+  adds_none c incarnation None b = refl
+  adds_none c incarnation (Some t) b = nothing_more a.iss (has_of a.iss incarnation) t (ap (λ (u : PlainSegment). u.text) (b t refl))
+
+  -- at most a bare ACK is sent in answer to a segment without RST
+  unreset_by : (c : Connection) (s : PlainSegment) (output : Option PlainSegment) → has_rst s.flags ≡ false
+      → ((t : PlainSegment) → output ≡ Some t → t ≡ bare_ack c) → IsWithoutReset (met (Some s) output)
+  unreset_by c s output unreset bare = record {
+    received = λ t z. only_some (λ (u : PlainSegment). has_rst u.flags ≡ false) s t z unreset;
+    output = λ t z. subst (λ (u : PlainSegment). has_rst u.flags ≡ false) (sym (bare t z)) refl;
+  }
+
+  no_fin_by : (c : Connection) (s : PlainSegment) (output : Option PlainSegment) → ((t : PlainSegment) → output ≡ Some t → t ≡ bare_ack c)
+      → IsWithoutFin (met (Some s) output)
+  no_fin_by c s output bare t z = subst (λ (u : PlainSegment). has_fin u.flags ≡ false) (sym (bare t z)) refl
+
+  quiet_unreset : IsWithoutReset quiet
+  quiet_unreset = record { received = λ s z. absurd (cc); output = λ s z. absurd (cc) }
+
+  quiet_no_fin : IsWithoutFin quiet
+  quiet_no_fin s z = absurd (cc)
+
+  -- from one node to another in which the connection is the same
+  module _ (n d : AbstractNode) (y : Exchange) (older kept : List Exchange) (is_kept : fresh a (y ∷ older) ≡ kept) where
+    -- nothing passes
+    passes : (t : TraceEntry) (rest : List TraceEntry) (v : Living n (y ∷ older) kept (t ∷ rest)) → slice_get d.connections v.i ≡ Some v.c
+        → Representing d (quiet ∷ y ∷ older) rest
+    passes t rest v there =
+        let more : calls_of v.i rest ≤ calls_of v.i (t ∷ rest) = calls_more v.i t rest in
+        incarnations (quiet ∷ kept) (ap (λ k. with_fresh a quiet k) is_kept) record {
+          i = v.i;
+          c = v.c;
+          there = there;
+          polls = v.polls;
+          few = v.few;
+          can_wait = elim v.can_wait [ inl w ↦ inl (append_nothing (text_received kept) ∙ w) | inr w ↦ inr (omega (arith, w, more)) ];
+          stage = stage_quiet m pages here p lawful a room fine left texts patience answering v.polls kept v.c v.stage;
+          same = has_on a.iss quiet (y ∷ older) ∙ v.same ∙ sym (has_on a.iss quiet kept);
+          clean = All-cons IsWithoutReset quiet (y ∷ older) quiet_unreset v.clean;
+          unfinished = All-cons IsWithoutFin quiet (y ∷ older) quiet_no_fin v.unfinished;
+          confirmed = still_confirmed quiet (y ∷ older) v.c v.confirmed;
+        }
+
+    -- a stale segment is received
+    discarded : (t : TraceEntry) (rest : List TraceEntry) (v : Living n (y ∷ older) kept (t ∷ rest)) → slice_get d.connections v.i ≡ Some v.c
+        → (s : PlainSegment) (output : Option PlainSegment) → has_rst s.flags ≡ false
+        → ((u : PlainSegment) → output ≡ Some u → u ≡ bare_ack v.c) → is_stale a kept s ≡ true
+        → Representing d (met (Some s) output ∷ y ∷ older) rest
+    discarded t rest v there s output unreset bare stale =
+        let sent : Exchange = met (Some s) output in
+        let more : calls_of v.i rest ≤ calls_of v.i (t ∷ rest) = calls_more v.i t rest in
+        incarnations kept (ap (λ k. with_fresh a sent k) is_kept ∙ ap (λ b. if b then kept else sent ∷ kept) stale) record {
+          i = v.i;
+          c = v.c;
+          there = there;
+          polls = v.polls;
+          few = v.few;
+          can_wait = elim v.can_wait [ inl w ↦ inl w | inr w ↦ inr (omega (arith, w, more)) ];
+          stage = v.stage;
+          same = has_on a.iss sent (y ∷ older) ∙ adds_none v.c (y ∷ older) output bare ∙ v.same;
+          clean = All-cons IsWithoutReset sent (y ∷ older) (unreset_by v.c s output unreset bare) v.clean;
+          unfinished = All-cons IsWithoutFin sent (y ∷ older) (no_fin_by v.c s output bare) v.unfinished;
+          confirmed = still_confirmed sent (y ∷ older) v.c v.confirmed;
+        }
+
+    -- the same while the SYN-ACK awaits its acknowledgement
+    open_passes : (v : Opened n (y ∷ older) kept) → slice_get d.connections v.i ≡ Some v.c → Opening d (quiet ∷ y ∷ older)
+    open_passes v there = opened (quiet ∷ kept) (ap (λ k. with_fresh a quiet k) is_kept) record {
+      i = v.i;
+      c = v.c;
+      there = there;
+      is_syn = v.is_syn;
+      stage = stage_quiet m pages here p lawful a room fine left texts patience answering 0 kept v.c v.stage;
+      same = has_on a.iss quiet (y ∷ older) ∙ v.same ∙ sym (has_on a.iss quiet kept);
+      clean = All-cons IsWithoutReset quiet (y ∷ older) quiet_unreset v.clean;
+      unfinished = All-cons IsWithoutFin quiet (y ∷ older) quiet_no_fin v.unfinished;
+      confirmed = still_confirmed quiet (y ∷ older) v.c v.confirmed;
+    }
+
+    open_discarded : (v : Opened n (y ∷ older) kept) → slice_get d.connections v.i ≡ Some v.c → (s : PlainSegment) (output : Option PlainSegment)
+        → has_rst s.flags ≡ false → ((u : PlainSegment) → output ≡ Some u → u ≡ bare_ack v.c) → is_stale a kept s ≡ true
+        → Opening d (met (Some s) output ∷ y ∷ older)
+    open_discarded v there s output unreset bare stale =
+        let sent : Exchange = met (Some s) output in
+        opened kept (ap (λ k. with_fresh a sent k) is_kept ∙ ap (λ b. if b then kept else sent ∷ kept) stale) record {
+          i = v.i;
+          c = v.c;
+          there = there;
+          is_syn = v.is_syn;
+          stage = v.stage;
+          same = has_on a.iss sent (y ∷ older) ∙ adds_none v.c (y ∷ older) output bare ∙ v.same;
+          clean = All-cons IsWithoutReset sent (y ∷ older) (unreset_by v.c s output unreset bare) v.clean;
+          unfinished = All-cons IsWithoutFin sent (y ∷ older) (no_fin_by v.c s output bare) v.unfinished;
+          confirmed = still_confirmed sent (y ∷ older) v.c v.confirmed;
+        }
+
+  -- ---- a guard drops the event
+
+  abbrev lost : Event → Exchange
+  lost e = exchange p e None
+
+  -- what comes is nothing, or stale
+  lost_as : (P : Exchange → Type 0) (e : Event) (kept : List Exchange) → Goes a (lost e) kept → (SendsNext a (lost e) kept → ⊥) → P quiet
+      → ((s : PlainSegment) → has_rst s.flags ≡ false → is_stale a kept s ≡ true → P (met (Some s) None)) → P (lost e)
+  lost_as P e kept goes far none some = elim goes [
+    | waits_for is q ↦ subst P (sym (ap (λ (r : Option PlainSegment). met r None) is)) none
+    | brings_next k ↦ absurd (far k)
+    | brings_stale k ↦ subst P (sym (ap (λ (r : Option PlainSegment). met r None) k.received)) (some k.segment k.rst k.stale)
+  ]
+
+  represents_lost : (e : Event) (n : AbstractNode) (y : Exchange) (older : List Exchange) (t : TraceEntry) (rest : List TraceEntry)
+      → IsLosable a p e n → Goes a (lost e) (fresh a (y ∷ older)) → Representing n (y ∷ older) (t ∷ rest)
+      → Representing n (lost e ∷ y ∷ older) rest
+  represents_lost e n y older t rest losable goes s = elim s [
+    | incarnations kept k v ↦ lost_as (λ z. Representing n (z ∷ y ∷ older) rest) e kept (subst (λ f. Goes a (lost e) f) k goes)
+        (losable kept (lost e) (connection_of n v.i v.c v.polls kept v.there v.stage) refl)
+        (passes n n y older kept k t rest v v.there)
+        (λ u unreset stale. discarded n n y older kept k t rest v v.there u None unreset (λ w z. absurd (cc)) stale)
+    | over reported ↦ over (stays_sent pages a (lost e) (y ∷ older) reported)
+  ]
+
+  opening_lost : (e : Event) (n : AbstractNode) (y : Exchange) (older : List Exchange)
+      → IsLosable a p e n → Goes a (lost e) (fresh a (y ∷ older)) → Opening n (y ∷ older) → Opening n (lost e ∷ y ∷ older)
+  opening_lost e n y older losable goes s = elim s [
+    | opened kept k v ↦ lost_as (λ z. Opening n (z ∷ y ∷ older)) e kept (subst (λ f. Goes a (lost e) f) k goes)
+        (losable kept (lost e) (connection_of n v.i v.c 0 kept v.there v.stage) refl)
+        (open_passes n n y older kept k v v.there)
+        (λ u unreset stale. open_discarded n n y older kept k v v.there u None unreset (λ w z. absurd (cc)) stale)
+    | arrived reported ↦ arrived (stays_sent pages a (lost e) (y ∷ older) reported)
   ]
 
   module _ (n : AbstractNode) (event : Event) (good : Good n) (y : Exchange) (older : List Exchange) (rest : List TraceEntry) where
@@ -453,36 +628,6 @@ module _ (m : AppSpec) (pages : Pages) (here : AppState → Bool) (serves_port :
           ])
 
       -- a stale one comes: the connection stays, and at most a bare ACK is sent
-      stays : (v : Living n incarnation kept (turn ∷ rest)) (s : PlainSegment) (output : Option PlainSegment) → has_rst s.flags ≡ false
-          → ((t : PlainSegment) → output ≡ Some t → t ≡ bare_ack v.c) → is_stale a kept s ≡ true → slice_get r.node.connections v.i
-          ≡ Some v.c → Representing r.node (met (Some s) output ∷ incarnation) rest
-      stays v s output unreset bare stale there =
-          let sent : Exchange = met (Some s) output in
-          let more : calls_of v.i rest ≤ calls_of v.i (turn ∷ rest) = calls_more v.i turn rest in
-          incarnations kept (ap (λ k. with_fresh a sent k) is_kept ∙ ap (λ b. if b then kept else sent ∷ kept) stale) record {
-            i = v.i;
-            c = v.c;
-            there = there;
-            polls = v.polls;
-            few = v.few;
-            can_wait = elim v.can_wait [ inl w ↦ inl w | inr w ↦ inr (omega (arith, w, more)) ];
-            stage = v.stage;
-            same = has_on a.iss sent incarnation ∙ adds_none output bare ∙ v.same;
-            clean = one_more sent record {
-              received = λ t z. only_some (λ (u : PlainSegment). has_rst u.flags ≡ false) s t z unreset;
-              output = λ t z. subst (λ (u : PlainSegment). has_rst u.flags ≡ false) (sym (bare t z)) refl;
-            } v.clean;
-            unfinished = All-cons IsWithoutFin sent incarnation (λ t z. subst (λ (u : PlainSegment). has_fin u.flags ≡ false) (sym (bare t z)) refl)
-                v.unfinished;
-            confirmed = still_confirmed sent incarnation v.c v.confirmed;
-          }
-        where
-          adds_none : (output : Option PlainSegment) → ((t : PlainSegment) → output ≡ Some t → t ≡ bare_ack v.c)
-              → option_map_or (λ s. Rattle.node_laws.specs.Receivers.takes_next a.iss (has_of a.iss incarnation) s) output
-              (has_of a.iss incarnation) ≡ has_of a.iss incarnation
-          adds_none None b = refl
-          adds_none (Some t) b = nothing_more a.iss (has_of a.iss incarnation) t (ap (λ (u : PlainSegment). u.text) (b t refl))
-
       at_stale : (v : Living n incarnation kept (turn ∷ rest)) (s : PlainSegment) → Acted m serves_port n p v.i v.c event r (Some s)
           (asked m (snapshot n event v.i) (on_segment m v.c n.numbers s)) → ReceivesStale a x kept → Representing r.node (x ∷ incarnation) rest
       at_stale v s g h =
@@ -497,31 +642,18 @@ module _ (m : AppSpec) (pages : Pages) (here : AppState → Bool) (serves_port :
           → Representing r.node (met (Some s) (segment_of m (asked m at o).connection (asked m at o).step) ∷ incarnation) rest in
           let done : P (on_segment m v.c n.numbers s) = elim (discards m pages here p lawful a room fine left texts patience answering
           v.polls n.numbers s kept v.c unreset stale window v.stage) [
-            | with_ack e ↦ subst P (sym e) (λ table. stays v s (Some (bare_ack v.c)) unreset
-                (λ t z. (let w : bare_ack v.c ≡ t = only_some (λ (u : PlainSegment). bare_ack v.c ≡ u) (bare_ack v.c) t z refl in sym w))
-                stale (stepped v.i v.c v.c v.there table))
-            | silently e ↦ subst P (sym e) (λ table. stays v s None unreset (λ t z. absurd (cc)) stale (stepped v.i v.c v.c v.there table))
+            | with_ack e ↦ subst P (sym e) (λ table. discarded n r.node y older kept is_kept turn rest v (stepped v.i v.c v.c v.there table) s
+                (Some (bare_ack v.c)) unreset
+                (λ t z. (let w : bare_ack v.c ≡ t = only_some (λ (u : PlainSegment). bare_ack v.c ≡ u) (bare_ack v.c) t z refl in sym w)) stale)
+            | silently e ↦ subst P (sym e) (λ table. discarded n r.node y older kept is_kept turn rest v (stepped v.i v.c v.c v.there table) s
+                None unreset (λ t z. absurd (cc)) stale)
           ] in
           subst After (sym g.exchanged) (done g.table)
 
       -- the event is another's
       at_other : (v : Living n incarnation kept (turn ∷ rest)) → slice_get r.node.connections v.i ≡ Some v.c → x ≡ quiet
           → Representing r.node (x ∷ incarnation) rest
-      at_other v there e =
-          let more : calls_of v.i rest ≤ calls_of v.i (turn ∷ rest) = calls_more v.i turn rest in
-          subst After (sym e) (incarnations (quiet ∷ kept) (ap (λ k. with_fresh a quiet k) is_kept) record {
-            i = v.i;
-            c = v.c;
-            there = there;
-            polls = v.polls;
-            few = v.few;
-            can_wait = elim v.can_wait [ inl w ↦ inl (append_nothing (text_received kept) ∙ w) | inr w ↦ inr (omega (arith, w, more)) ];
-            stage = stage_quiet m pages here p lawful a room fine left texts patience answering v.polls kept v.c v.stage;
-            same = more_has quiet kept v.same;
-            clean = one_more quiet record { received = λ s z. absurd (cc); output = λ s z. absurd (cc) } v.clean;
-            unfinished = no_fin_more quiet kept refl v.unfinished;
-            confirmed = still_confirmed quiet incarnation v.c v.confirmed;
-          })
+      at_other v there e = subst After (sym e) (passes n r.node y older kept is_kept turn rest v there)
 
       at_living : (v : Living n incarnation kept (turn ∷ rest)) → Goes a x kept → Representing r.node (x ∷ incarnation) rest
       at_living v h =
@@ -591,33 +723,6 @@ module _ (m : AppSpec) (pages : Pages) (here : AppState → Bool) (serves_port :
           ])
 
       -- a stale one comes
-      open_still : (v : Opened n incarnation kept) (s : PlainSegment) (output : Option PlainSegment) → has_rst s.flags ≡ false
-          → ((t : PlainSegment) → output ≡ Some t → t ≡ bare_ack v.c) → is_stale a kept s ≡ true → slice_get r.node.connections v.i
-          ≡ Some v.c → Opening r.node (met (Some s) output ∷ incarnation)
-      open_still v s output unreset bare stale there =
-          let sent : Exchange = met (Some s) output in
-          opened kept (ap (λ k. with_fresh a sent k) is_kept ∙ ap (λ b. if b then kept else sent ∷ kept) stale) record {
-            i = v.i;
-            c = v.c;
-            there = there;
-            is_syn = v.is_syn;
-            stage = v.stage;
-            same = has_on a.iss sent incarnation ∙ adds_none output bare ∙ v.same;
-            clean = one_more sent record {
-              received = λ t z. only_some (λ (u : PlainSegment). has_rst u.flags ≡ false) s t z unreset;
-              output = λ t z. subst (λ (u : PlainSegment). has_rst u.flags ≡ false) (sym (bare t z)) refl;
-            } v.clean;
-            unfinished = All-cons IsWithoutFin sent incarnation (λ t z. subst (λ (u : PlainSegment). has_fin u.flags ≡ false) (sym (bare t z)) refl)
-                v.unfinished;
-            confirmed = still_confirmed sent incarnation v.c v.confirmed;
-          }
-        where
-          adds_none : (output : Option PlainSegment) → ((t : PlainSegment) → output ≡ Some t → t ≡ bare_ack v.c)
-              → option_map_or (λ s. Rattle.node_laws.specs.Receivers.takes_next a.iss (has_of a.iss incarnation) s) output
-              (has_of a.iss incarnation) ≡ has_of a.iss incarnation
-          adds_none None b = refl
-          adds_none (Some t) b = nothing_more a.iss (has_of a.iss incarnation) t (ap (λ (u : PlainSegment). u.text) (b t refl))
-
       open_stale : (v : Opened n incarnation kept) (s : PlainSegment) → Acted m serves_port n p v.i v.c event r (Some s)
           (asked m (snapshot n event v.i) (on_segment m v.c n.numbers s)) → ReceivesStale a x kept → Opening r.node (x ∷ incarnation)
       open_stale v s g h =
@@ -632,27 +737,17 @@ module _ (m : AppSpec) (pages : Pages) (here : AppState → Bool) (serves_port :
           → Opening r.node (met (Some s) (segment_of m (asked m at o).connection (asked m at o).step) ∷ incarnation) in
           let done : P (on_segment m v.c n.numbers s) = elim (discards m pages here p lawful a room fine left texts patience answering 0
           n.numbers s kept v.c unreset stale window v.stage) [
-            | with_ack e ↦ subst P (sym e) (λ table. open_still v s (Some (bare_ack v.c)) unreset
-                (λ t z. (let w : bare_ack v.c ≡ t = only_some (λ (u : PlainSegment). bare_ack v.c ≡ u) (bare_ack v.c) t z refl in sym w))
-                stale (stepped v.i v.c v.c v.there table))
-            | silently e ↦ subst P (sym e) (λ table. open_still v s None unreset (λ t z. absurd (cc)) stale (stepped v.i v.c v.c v.there table))
+            | with_ack e ↦ subst P (sym e) (λ table. open_discarded n r.node y older kept is_kept v (stepped v.i v.c v.c v.there table) s
+                (Some (bare_ack v.c)) unreset
+                (λ t z. (let w : bare_ack v.c ≡ t = only_some (λ (u : PlainSegment). bare_ack v.c ≡ u) (bare_ack v.c) t z refl in sym w)) stale)
+            | silently e ↦ subst P (sym e) (λ table. open_discarded n r.node y older kept is_kept v (stepped v.i v.c v.c v.there table) s
+                None unreset (λ t z. absurd (cc)) stale)
           ] in
           subst AfterOpening (sym g.exchanged) (done g.table)
 
       -- the event is another's
       open_other : (v : Opened n incarnation kept) → slice_get r.node.connections v.i ≡ Some v.c → x ≡ quiet → Opening r.node (x ∷ incarnation)
-      open_other v there e =
-          subst AfterOpening (sym e) (opened (quiet ∷ kept) (ap (λ k. with_fresh a quiet k) is_kept) record {
-            i = v.i;
-            c = v.c;
-            there = there;
-            is_syn = v.is_syn;
-            stage = stage_quiet m pages here p lawful a room fine left texts patience answering 0 kept v.c v.stage;
-            same = more_has quiet kept v.same;
-            clean = one_more quiet record { received = λ s z. absurd (cc); output = λ s z. absurd (cc) } v.clean;
-            unfinished = no_fin_more quiet kept refl v.unfinished;
-            confirmed = still_confirmed quiet incarnation v.c v.confirmed;
-          })
+      open_other v there e = subst AfterOpening (sym e) (open_passes n r.node y older kept is_kept v there)
 
       open_on_kept : (v : Opened n incarnation kept) → Goes a x kept → (SendsNext a x kept → ⊥) → Opening r.node (x ∷ incarnation)
       open_on_kept v h far =
@@ -821,8 +916,18 @@ module _ (m : AppSpec) (pages : Pages) (here : AppState → Bool) (serves_port :
   ]
 
   module _ (own : Addr) where
-    abbrev OfLine : List LineStep → Type 0
-    OfLine es = All (IsStep own) es
+    abbrev OfLine : List WireStep → AbstractNode → Type 0
+    OfLine es n = AreGuarded m serves_port own a p es n
+
+    is_event : (e : Event) → IsOfLine own e → IsEvent e
+    is_event e of = wire_event e (line_wire own e of)
+
+    good_with : (change : List ℕ → List ℕ) (n : AbstractNode) → ((numbers : List ℕ) → All IsU32 numbers → All IsU32 (change numbers))
+        → Good n → Good (changed change n)
+    good_with change n of g = record {
+      single = g.single;
+      fit = record { size = g.fit.size; conns = g.fit.conns; numbers = of n.numbers g.fit.numbers };
+    }
 
     -- the numbers of the application are changed
     represents_still : (change : List ℕ → List ℕ) (n : AbstractNode) (so_far : List Exchange) (rest : List TraceEntry)
@@ -845,54 +950,71 @@ module _ (m : AppSpec) (pages : Pages) (here : AppState → Bool) (serves_port :
     ]
 
     -- nothing happens any more
-    rests_over : (es : List LineStep) (n : AbstractNode) (so_far : List Exchange) → trace_over m serves_port es n ≡ [] → Representing n so_far []
-        → Reaches (node_over m serves_port es n) so_far
+    rests_over : (es : List WireStep) (n : AbstractNode) (so_far : List Exchange) → trace_on_wire m serves_port es n ≡ [] → Representing n so_far []
+        → Reaches (node_on_wire m serves_port es n) so_far
     rests_over [] n so_far none s = s
-    rests_over (Changes change ∷ es) n so_far none s = rests_over es (changed change n) so_far none (represents_still change n so_far [] s)
-    rests_over (OfNode e ∷ es) n so_far none s = absurd (cc)
+    rests_over (Sets change ∷ es) n so_far none s = rests_over es (changed change n) so_far none (represents_still change n so_far [] s)
+    rests_over (OnNode e ∷ es) n so_far none s = absurd (cc)
+    rests_over (Drops e ∷ es) n so_far none s = absurd (cc)
 
     -- after the whole request
-    run_later : (es : List LineStep) (n : AbstractNode) (y : Exchange) (older : List Exchange) → OfLine es → Good n
-        → GoesOn a (exchanges_onto p (trace_over m serves_port es n) (y ∷ older)) → text_received (fresh a (y ∷ older)) ≡ a.request →
-        Representing n (y ∷ older) [] → Reaches (node_over m serves_port es n) (exchanges_onto p (trace_over m serves_port es n) (y ∷ older))
+    run_later : (es : List WireStep) (n : AbstractNode) (y : Exchange) (older : List Exchange) → OfLine es n → Good n
+        → GoesOn a (exchanges_onto p (trace_on_wire m serves_port es n) (y ∷ older)) → text_received (fresh a (y ∷ older)) ≡ a.request →
+        Representing n (y ∷ older) [] → Reaches (node_on_wire m serves_port es n) (exchanges_onto p (trace_on_wire m serves_port es n) (y ∷ older))
     run_later [] n y older l g h w s = s
-    run_later (Changes change ∷ es) n y older l g h w s = run_later es (changed change n) y older
-        (All-tail (IsStep own) (Changes change) es l) (changed_good own change es n l g) h w (represents_still change n (y ∷ older) [] s)
-    run_later (OfNode e ∷ es) n y older l g h w s =
+    run_later (Sets change ∷ es) n y older l g h w s = run_later es (changed change n) y older
+        l.1 (good_with change n l.0 g) h w (represents_still change n (y ∷ older) [] s)
+    run_later (OnNode e ∷ es) n y older l g h w s =
         let x : Exchange = exchange p e (step m serves_port n e).sent in
-        let here = goes_before a p (trace_over m serves_port es (step m serves_port n e).node) x (y ∷ older) h in
+        let here = goes_before a p (trace_on_wire m serves_port es (step m serves_port n e).node) x (y ∷ older) h in
         let turn : TraceEntry = record { event = e; sent = (step m serves_port n e).sent } in
-        run_later es (step m serves_port n e).node x (y ∷ older) (All-tail (IsStep own) (OfNode e) es l)
-        (good_on m lawful.steady serves_port n e (event_first own e es l) g) h (still_whole x y older w here.0)
+        run_later es (step m serves_port n e).node x (y ∷ older) l.1
+        (good_on m lawful.steady serves_port n e (is_event e l.0) g) h (still_whole x y older w here.0)
         (represents_on n e g y older [] here.0 (whole_represents n (y ∷ older) [] (turn ∷ []) w s))
+    run_later (Drops e ∷ es) n y older l g h w s =
+        let here = goes_before a p (trace_on_wire m serves_port es n) (lost e) (y ∷ older) h in
+        let turn : TraceEntry = record { event = e; sent = None } in
+        run_later es n (lost e) (y ∷ older) l.1 g h (still_whole (lost e) y older w here.0)
+        (represents_lost e n y older turn [] l.0 here.0 (whole_represents n (y ∷ older) [] (turn ∷ []) w s))
 
     -- while it asks
-    run_asking : (asking later : List TraceEntry) (es : List LineStep) (n : AbstractNode) (y : Exchange) (older : List Exchange)
-        → trace_over m serves_port es n ≡ asking ++ later → OfLine es → Good n → GoesOn a (exchanges_onto p (asking ++ later) (y ∷ older)) →
+    run_asking : (asking later : List TraceEntry) (es : List WireStep) (n : AbstractNode) (y : Exchange) (older : List Exchange)
+        → trace_on_wire m serves_port es n ≡ asking ++ later → OfLine es n → Good n → GoesOn a (exchanges_onto p (asking ++ later) (y ∷ older)) →
         Asked later (exchanges_onto p asking (y ∷ older)) → Representing n (y ∷ older) asking
-        → Reaches (node_over m serves_port es n) (exchanges_onto p (asking ++ later) (y ∷ older))
+        → Reaches (node_on_wire m serves_port es n) (exchanges_onto p (asking ++ later) (y ∷ older))
     run_asking [] later es n y older q l g h w s = elim w [
-      | inl none ↦ subst (λ ts. Reaches (node_over m serves_port es n) (exchanges_onto p ts (y ∷ older))) (sym none)
+      | inl none ↦ subst (λ ts. Reaches (node_on_wire m serves_port es n) (exchanges_onto p ts (y ∷ older))) (sym none)
           (rests_over es n (y ∷ older) (q ∙ none) s)
-      | inr whole ↦ subst (λ ts. Reaches (node_over m serves_port es n) (exchanges_onto p ts (y ∷ older))) q
+      | inr whole ↦ subst (λ ts. Reaches (node_on_wire m serves_port es n) (exchanges_onto p ts (y ∷ older))) q
           (run_later es n y older l g (subst (λ ts. GoesOn a (exchanges_onto p ts (y ∷ older))) (sym q) h) whole s)
     ]
     run_asking (t ∷ asking) later [] n y older q l g h w s = absurd (cc)
-    run_asking (t ∷ asking) later (Changes change ∷ es) n y older q l g h w s = run_asking (t ∷ asking) later es (changed change n) y older
-        q (All-tail (IsStep own) (Changes change) es l) (changed_good own change es n l g) h w (represents_still change n (y ∷ older) (t ∷ asking) s)
-    run_asking (t ∷ asking) later (OfNode e ∷ es) n y older q l g h w s =
+    run_asking (t ∷ asking) later (Sets change ∷ es) n y older q l g h w s = run_asking (t ∷ asking) later es (changed change n) y older
+        q l.1 (good_with change n l.0 g) h w (represents_still change n (y ∷ older) (t ∷ asking) s)
+    run_asking (t ∷ asking) later (OnNode e ∷ es) n y older q l g h w s =
         let turn : TraceEntry = record { event = e; sent = (step m serves_port n e).sent } in
         let head : turn ≡ t = cc in
-        let tail : trace_over m serves_port es (step m serves_port n e).node ≡ asking ++ later = cc in
+        let tail : trace_on_wire m serves_port es (step m serves_port n e).node ≡ asking ++ later = cc in
         let x : Exchange = exchange p e (step m serves_port n e).sent in
         let same : exchange p t.event t.sent ≡ x = ap (λ z. exchange p z.event z.sent) (sym head) in
         let goes = subst (λ z. GoesOn a (exchanges_onto p (asking ++ later) (z ∷ y ∷ older))) same h in
         let here = goes_before a p (asking ++ later) x (y ∷ older) goes in
-        subst (λ z. Reaches (node_over m serves_port (OfNode e ∷ es) n) (exchanges_onto p (asking ++ later) (z ∷ y ∷ older))) (sym same)
-        (run_asking asking later es (step m serves_port n e).node x (y ∷ older) tail (All-tail (IsStep own) (OfNode e) es l)
-        (good_on m lawful.steady serves_port n e (event_first own e es l) g) goes
+        subst (λ z. Reaches (node_on_wire m serves_port (OnNode e ∷ es) n) (exchanges_onto p (asking ++ later) (z ∷ y ∷ older))) (sym same)
+        (run_asking asking later es (step m serves_port n e).node x (y ∷ older) tail l.1
+        (good_on m lawful.steady serves_port n e (is_event e l.0) g) goes
         (subst (λ z. Asked later (exchanges_onto p asking (z ∷ y ∷ older))) same w)
         (represents_on n e g y older asking here.0 (subst (λ z. Representing n (y ∷ older) (z ∷ asking)) (sym head) s)))
+    run_asking (t ∷ asking) later (Drops e ∷ es) n y older q l g h w s =
+        let turn : TraceEntry = record { event = e; sent = None } in
+        let head : turn ≡ t = cc in
+        let tail : trace_on_wire m serves_port es n ≡ asking ++ later = cc in
+        let same : exchange p t.event t.sent ≡ lost e = ap (λ z. exchange p z.event z.sent) (sym head) in
+        let goes = subst (λ z. GoesOn a (exchanges_onto p (asking ++ later) (z ∷ y ∷ older))) same h in
+        let here = goes_before a p (asking ++ later) (lost e) (y ∷ older) goes in
+        subst (λ z. Reaches (node_on_wire m serves_port es n) (exchanges_onto p (asking ++ later) (z ∷ y ∷ older))) (sym same)
+        (run_asking asking later es n (lost e) (y ∷ older) tail l.1 g goes
+        (subst (λ z. Asked later (exchanges_onto p asking (z ∷ y ∷ older))) same w)
+        (represents_lost e n y older turn asking l.0 here.0 (subst (λ z. Representing n (y ∷ older) (z ∷ asking)) (sym head) s)))
 
     -- the numbers of the application are changed while it opens
     opening_still : (change : List ℕ → List ℕ) (n : AbstractNode) (so_far : List Exchange) → Opening n so_far → Opening (changed change n) so_far
@@ -930,90 +1052,108 @@ module _ (m : AppSpec) (pages : Pages) (here : AppState → Bool) (serves_port :
     limit_here (t ∷ turns) y older h = limit_before (exchange p t.event t.sent) y older (limit_here turns (exchange p t.event t.sent) (y ∷ older) h)
 
     -- while the SYN-ACK awaits its acknowledgement
-    run_opening : (opening asking later : List TraceEntry) (es : List LineStep) (n : AbstractNode) (y : Exchange) (older : List Exchange)
-        → trace_over m serves_port es n ≡ opening ++ (asking ++ later) → OfLine es → Good n
+    run_opening : (opening asking later : List TraceEntry) (es : List WireStep) (n : AbstractNode) (y : Exchange) (older : List Exchange)
+        → trace_on_wire m serves_port es n ≡ opening ++ (asking ++ later) → OfLine es n → Good n
         → GoesOn a (exchanges_onto p (opening ++ (asking ++ later)) (y ∷ older)) →
         in_handshake (fresh a (exchanges_onto p opening (y ∷ older))) ≡ true
         → Asked later (exchanges_onto p (opening ++ asking) (y ∷ older))
         → ((slot : ℕ) → calls_of slot asking ≤ patience) → Opening n (y ∷ older) →
-        Reaches (node_over m serves_port es n) (exchanges_onto p (opening ++ (asking ++ later)) (y ∷ older))
+        Reaches (node_on_wire m serves_port es n) (exchanges_onto p (opening ++ (asking ++ later)) (y ∷ older))
     run_opening [] asking later es n y older q l g h limit w prompt s = run_asking asking later es n y older q l g h w
         (asking_from n (y ∷ older) asking prompt s)
     run_opening (t ∷ opening) asking later [] n y older q l g h limit w prompt s = absurd (cc)
-    run_opening (t ∷ opening) asking later (Changes change ∷ es) n y older q l g h limit w prompt s =
-        run_opening (t ∷ opening) asking later es (changed change n) y older q (All-tail (IsStep own) (Changes change) es l)
-        (changed_good own change es n l g) h limit w prompt (opening_still change n (y ∷ older) s)
-    run_opening (t ∷ opening) asking later (OfNode e ∷ es) n y older q l g h limit w prompt s =
+    run_opening (t ∷ opening) asking later (Sets change ∷ es) n y older q l g h limit w prompt s =
+        run_opening (t ∷ opening) asking later es (changed change n) y older q l.1
+        (good_with change n l.0 g) h limit w prompt (opening_still change n (y ∷ older) s)
+    run_opening (t ∷ opening) asking later (OnNode e ∷ es) n y older q l g h limit w prompt s =
         let turn : TraceEntry = record { event = e; sent = (step m serves_port n e).sent } in
         let head : turn ≡ t = cc in
-        let tail : trace_over m serves_port es (step m serves_port n e).node ≡ opening ++ (asking ++ later) = cc in
+        let tail : trace_on_wire m serves_port es (step m serves_port n e).node ≡ opening ++ (asking ++ later) = cc in
         let x : Exchange = exchange p e (step m serves_port n e).sent in
         let same : exchange p t.event t.sent ≡ x = ap (λ z. exchange p z.event z.sent) (sym head) in
         let goes = subst (λ z. GoesOn a (exchanges_onto p (opening ++ (asking ++ later)) (z ∷ y ∷ older))) same h in
         let here = goes_before a p (opening ++ (asking ++ later)) x (y ∷ older) goes in
         let limit_now = subst (λ z. in_handshake (fresh a (exchanges_onto p opening (z ∷ y ∷ older))) ≡ true) same limit in
-        subst (λ z. Reaches (node_over m serves_port (OfNode e ∷ es) n) (exchanges_onto p (opening ++ (asking ++ later)) (z ∷ y ∷ older))) (sym same)
-        (run_opening opening asking later es (step m serves_port n e).node x (y ∷ older) tail (All-tail (IsStep own) (OfNode e) es l)
-        (good_on m lawful.steady serves_port n e (event_first own e es l) g) goes limit_now
+        subst (λ z. Reaches (node_on_wire m serves_port (OnNode e ∷ es) n) (exchanges_onto p (opening ++ (asking ++ later)) (z ∷ y ∷ older))) (sym same)
+        (run_opening opening asking later es (step m serves_port n e).node x (y ∷ older) tail l.1
+        (good_on m lawful.steady serves_port n e (is_event e l.0) g) goes limit_now
         (subst (λ z. Asked later (exchanges_onto p (opening ++ asking) (z ∷ y ∷ older))) same w) prompt
         (opening_on n e g y older [] here.0 (limit_here opening x (y ∷ older) limit_now) s))
+    run_opening (t ∷ opening) asking later (Drops e ∷ es) n y older q l g h limit w prompt s =
+        let turn : TraceEntry = record { event = e; sent = None } in
+        let head : turn ≡ t = cc in
+        let tail : trace_on_wire m serves_port es n ≡ opening ++ (asking ++ later) = cc in
+        let same : exchange p t.event t.sent ≡ lost e = ap (λ z. exchange p z.event z.sent) (sym head) in
+        let goes = subst (λ z. GoesOn a (exchanges_onto p (opening ++ (asking ++ later)) (z ∷ y ∷ older))) same h in
+        let here = goes_before a p (opening ++ (asking ++ later)) (lost e) (y ∷ older) goes in
+        subst (λ z. Reaches (node_on_wire m serves_port es n) (exchanges_onto p (opening ++ (asking ++ later)) (z ∷ y ∷ older))) (sym same)
+        (run_opening opening asking later es n (lost e) (y ∷ older) tail l.1 g goes
+        (subst (λ z. in_handshake (fresh a (exchanges_onto p opening (z ∷ y ∷ older))) ≡ true) same limit)
+        (subst (λ z. Asked later (exchanges_onto p (opening ++ asking) (z ∷ y ∷ older))) same w) prompt
+        (opening_lost e n y older l.0 here.0 s))
 
     -- from the opening
-    from_opening : (e : Event) (es : List LineStep) (n : AbstractNode) (opening asking later : List TraceEntry) → OfLine (OfNode e ∷ es) → Good n →
-        trace_over m serves_port es (step m serves_port n e).node ≡ opening ++ (asking ++ later) →
+    from_opening : (e : Event) (es : List WireStep) (n : AbstractNode) (opening asking later : List TraceEntry) → OfLine (OnNode e ∷ es) n → Good n →
+        trace_on_wire m serves_port es (step m serves_port n e).node ≡ opening ++ (asking ++ later) →
         (let x : Exchange = exchange p e (step m serves_port n e).sent in
         GoesOn a (exchanges_onto p (opening ++ (asking ++ later)) (x ∷ [])) → in_handshake (fresh a (exchanges_onto p opening (x ∷ [])))
         ≡ true → Asked later (exchanges_onto p (opening ++ asking) (x ∷ [])) → ((slot : ℕ) → calls_of slot asking ≤ patience) →
-        Reaches (node_over m serves_port (OfNode e ∷ es) n) (exchanges_onto p (opening ++ (asking ++ later)) (x ∷ [])))
+        Reaches (node_on_wire m serves_port (OnNode e ∷ es) n) (exchanges_onto p (opening ++ (asking ++ later)) (x ∷ [])))
     from_opening e es n opening asking later l g tail h limit w prompt =
         let x : Exchange = exchange p e (step m serves_port n e).sent in
-        let is : IsEvent e = event_first own e es l in
-        run_opening opening asking later es (step m serves_port n e).node x [] tail (All-tail (IsStep own) (OfNode e) es l)
+        let is : IsEvent e = is_event e l.0 in
+        run_opening opening asking later es (step m serves_port n e).node x [] tail l.1
         (good_on m lawful.steady serves_port n e is g) h limit w prompt
         (opens n e is g (goes_before a p (opening ++ (asking ++ later)) x [] h))
 
     -- one that begins with its first entry
-    first_turn : (t : TraceEntry) (opening asking later incarnation : List TraceEntry) (e : Event) (es : List LineStep) (n : AbstractNode)
-        → OfLine (OfNode e ∷ es) → Good n → trace_over m serves_port (OfNode e ∷ es) n ≡ incarnation
+    first_turn : (t : TraceEntry) (opening asking later incarnation : List TraceEntry) (e : Event) (es : List WireStep) (n : AbstractNode)
+        → OfLine (OnNode e ∷ es) n → Good n → trace_on_wire m serves_port (OnNode e ∷ es) n ≡ incarnation
         → incarnation ≡ t ∷ (opening ++ (asking ++ later)) → GoesOn a (exchanges_with p incarnation) →
         in_handshake (fresh a (exchanges_with p (t ∷ opening))) ≡ true
         → Asked later (exchanges_with p (t ∷ (opening ++ asking))) → ((slot : ℕ) → calls_of slot asking ≤ patience)
-        → Reaches (node_over m serves_port (OfNode e ∷ es) n) (exchanges_with p incarnation)
+        → Reaches (node_on_wire m serves_port (OnNode e ∷ es) n) (exchanges_with p incarnation)
     first_turn t opening asking later incarnation e es n l g q j h limit w prompt =
         let turn : TraceEntry = record { event = e; sent = (step m serves_port n e).sent } in
-        let both : turn ∷ trace_over m serves_port es (step m serves_port n e).node ≡ t ∷ (opening ++ (asking ++ later)) = q ∙ j in
+        let both : turn ∷ trace_on_wire m serves_port es (step m serves_port n e).node ≡ t ∷ (opening ++ (asking ++ later)) = q ∙ j in
         let head : turn ≡ t = cc in
-        let tail : trace_over m serves_port es (step m serves_port n e).node ≡ opening ++ (asking ++ later) = cc in
+        let tail : trace_on_wire m serves_port es (step m serves_port n e).node ≡ opening ++ (asking ++ later) = cc in
         let x : Exchange = exchange p e (step m serves_port n e).sent in
         let same : exchange p t.event t.sent ≡ x = ap (λ z. exchange p z.event z.sent) (sym head) in
         let goes : GoesOn a (exchanges_onto p (opening ++ (asking ++ later)) (x ∷ [])) = subst
         (λ z. GoesOn a (exchanges_onto p (opening ++ (asking ++ later)) (z ∷ []))) same (subst (λ ts. GoesOn a (exchanges_with p ts)) j h) in
-        let end : AbstractNode = node_over m serves_port (OfNode e ∷ es) n in
+        let end : AbstractNode = node_on_wire m serves_port (OnNode e ∷ es) n in
         subst (λ ts. Reaches end (exchanges_with p ts)) (sym j)
         (subst (λ z. Reaches end (exchanges_onto p (opening ++ (asking ++ later)) (z ∷ []))) (sym same)
         (from_opening e es n opening asking later l g tail goes (subst (λ z. in_handshake (fresh a (exchanges_onto p opening (z ∷ []))) ≡ true) same limit)
         (subst (λ z. Asked later (exchanges_onto p (opening ++ asking) (z ∷ []))) same w) prompt))
 
+    -- the first entry is not of an event that is dropped: something is sent at it
+    never_lost : (e : Event) (turns : List TraceEntry) → GoesOn a (exchanges_onto p turns (lost e ∷ [])) → ⊥
+    never_lost e turns h = (let o = goes_before a p turns (lost e) [] h in let z : None ≡ Some o.answer = o.output in cc)
+
     -- the turns from the opening on
-    from_start : (opening asking later incarnation : List TraceEntry) (es : List LineStep) (n : AbstractNode) → OfLine es → Good n
-        → trace_over m serves_port es n ≡ incarnation → incarnation ≡ opening ++ (asking ++ later) → GoesOn a (exchanges_with p incarnation) →
+    from_start : (opening asking later incarnation : List TraceEntry) (es : List WireStep) (n : AbstractNode) → OfLine es n → Good n
+        → trace_on_wire m serves_port es n ≡ incarnation → incarnation ≡ opening ++ (asking ++ later) → GoesOn a (exchanges_with p incarnation) →
         in_handshake (fresh a (exchanges_with p opening)) ≡ true → Asked later (exchanges_with p (opening ++ asking))
-        → ((slot : ℕ) → calls_of slot asking ≤ patience) → Reaches (node_over m serves_port es n) (exchanges_with p incarnation)
+        → ((slot : ℕ) → calls_of slot asking ≤ patience) → Reaches (node_on_wire m serves_port es n) (exchanges_with p incarnation)
     from_start opening asking later incarnation [] n l g q j h limit w prompt = absurd (subst (λ ts. GoesOn a (exchanges_with p ts)) (sym q) h)
-    from_start opening asking later incarnation (Changes change ∷ es) n l g q j h limit w prompt = from_start opening asking later
-        incarnation es (changed change n) (All-tail (IsStep own) (Changes change) es l) (changed_good own change es n l g) q j h limit w prompt
-    from_start (t ∷ opening) asking later incarnation (OfNode e ∷ es) n l g q j h limit w prompt = first_turn t opening asking later
+    from_start opening asking later incarnation (Sets change ∷ es) n l g q j h limit w prompt = from_start opening asking later
+        incarnation es (changed change n) l.1 (good_with change n l.0 g) q j h limit w prompt
+    from_start opening asking later incarnation (Drops e ∷ es) n l g q j h limit w prompt =
+        absurd (never_lost e (trace_on_wire m serves_port es n) (subst (λ ts. GoesOn a (exchanges_with p ts)) (sym q) h))
+    from_start (t ∷ opening) asking later incarnation (OnNode e ∷ es) n l g q j h limit w prompt = first_turn t opening asking later
         incarnation e es n l g q j h limit w prompt
-    from_start [] (t ∷ asking) later incarnation (OfNode e ∷ es) n l g q j h limit w prompt =
+    from_start [] (t ∷ asking) later incarnation (OnNode e ∷ es) n l g q j h limit w prompt =
         first_turn t [] asking later incarnation e es n l g q j h refl w
         (λ slot. (let z = prompt slot in let y = calls_more slot t asking in omega (arith, z, y)))
-    from_start [] [] later incarnation (OfNode e ∷ es) n l g q j h limit w prompt =
-        let rest : List TraceEntry = trace_over m serves_port es (step m serves_port n e).node in
+    from_start [] [] later incarnation (OnNode e ∷ es) n l g q j h limit w prompt =
+        let rest : List TraceEntry = trace_on_wire m serves_port es (step m serves_port n e).node in
         let x : Exchange = exchange p e (step m serves_port n e).sent in
         let goes : GoesOn a (exchanges_onto p rest (x ∷ [])) = subst (λ ts. GoesOn a (exchanges_with p ts)) (sym q) h in
         let opening_text : text_received (x ∷ []) ≡ [] = (let o = goes_before a p rest x [] goes in
         ap (λ z. option_map_or (λ s. s.text) z []) o.received ∙ o.text) in
-        subst (λ ts. Reaches (node_over m serves_port (OfNode e ∷ es) n) (exchanges_with p ts)) q
+        subst (λ ts. Reaches (node_on_wire m serves_port (OnNode e ∷ es) n) (exchanges_with p ts)) q
         (from_opening e es n [] [] rest l g refl goes refl
         (elim w [
           | inl none ↦ absurd (let z : record { event = e; sent = (step m serves_port n e).sent } ∷ rest ≡ [] = q ∙ j ∙ none in cc)
@@ -1021,20 +1161,23 @@ module _ (m : AppSpec) (pages : Pages) (here : AppState → Bool) (serves_port :
         ]) (λ slot. omega arith))
 
     -- the turns before
-    pub from_before : (before opening asking later incarnation : List TraceEntry) (es : List LineStep) (n : AbstractNode) → OfLine es
-        → Good n → trace_over m serves_port es n ≡ before ++ incarnation → incarnation ≡ opening ++ (asking ++ later)
+    pub from_before : (before opening asking later incarnation : List TraceEntry) (es : List WireStep) (n : AbstractNode) → OfLine es n
+        → Good n → trace_on_wire m serves_port es n ≡ before ++ incarnation → incarnation ≡ opening ++ (asking ++ later)
         → GoesOn a (exchanges_with p incarnation) →
         in_handshake (fresh a (exchanges_with p opening)) ≡ true → Asked later (exchanges_with p (opening ++ asking))
-        → ((slot : ℕ) → calls_of slot asking ≤ patience) → Reaches (node_over m serves_port es n) (exchanges_with p incarnation)
+        → ((slot : ℕ) → calls_of slot asking ≤ patience) → Reaches (node_on_wire m serves_port es n) (exchanges_with p incarnation)
     from_before [] opening asking later incarnation es n l g q j h limit w prompt = from_start opening asking later incarnation es n l g q j h limit w prompt
     from_before (t ∷ before) opening asking later incarnation [] n l g q j h limit w prompt = absurd (cc)
-    from_before (t ∷ before) opening asking later incarnation (Changes change ∷ es) n l g q j h limit w prompt = from_before (t ∷ before)
-        opening asking later incarnation es (changed change n) (All-tail (IsStep own) (Changes change) es l)
-        (changed_good own change es n l g) q j h limit w prompt
-    from_before (t ∷ before) opening asking later incarnation (OfNode e ∷ es) n l g q j h limit w prompt =
-        let tail : trace_over m serves_port es (step m serves_port n e).node ≡ before ++ incarnation = cc in
-        from_before before opening asking later incarnation es (step m serves_port n e).node (All-tail (IsStep own) (OfNode e) es l)
-        (good_on m lawful.steady serves_port n e (event_first own e es l) g) tail j h limit w prompt
+    from_before (t ∷ before) opening asking later incarnation (Sets change ∷ es) n l g q j h limit w prompt = from_before (t ∷ before)
+        opening asking later incarnation es (changed change n) l.1
+        (good_with change n l.0 g) q j h limit w prompt
+    from_before (t ∷ before) opening asking later incarnation (OnNode e ∷ es) n l g q j h limit w prompt =
+        let tail : trace_on_wire m serves_port es (step m serves_port n e).node ≡ before ++ incarnation = cc in
+        from_before before opening asking later incarnation es (step m serves_port n e).node l.1
+        (good_on m lawful.steady serves_port n e (is_event e l.0) g) tail j h limit w prompt
+    from_before (t ∷ before) opening asking later incarnation (Drops e ∷ es) n l g q j h limit w prompt =
+        let tail : trace_on_wire m serves_port es n ≡ before ++ incarnation = cc in
+        from_before before opening asking later incarnation es n l.1 g tail j h limit w prompt
 
   -- ---- what holds of the node that is reached
 
@@ -1078,30 +1221,21 @@ module _ (m : AppSpec) (pages : Pages) (here : AppState → Bool) (serves_port :
   ]
 
   -- the page has arrived, or the connection of the peer is as these exchanges show
-  pub stands : (n : AbstractNode) (incarnation : List Exchange) → a.mss < 65536 → Representing n incarnation []
+  pub stands : (n : AbstractNode) (incarnation : List Exchange) → Representing n incarnation []
       → Arrives pages a incarnation ⊎ HasConnection a p (fresh a incarnation) n
-  stands n so_far low s = elim s [
-    | incarnations kept e v ↦ inr record {
-      slot = v.i;
-      connection = v.c;
-      there = v.there;
-      serves = stage_serves m pages here p lawful a room fine left texts patience answering v.polls kept v.c v.stage;
-      rcv_nxt = expects m pages here p lawful a room fine left texts patience answering v.polls kept v.c v.stage ∙ ap (λ k. expected_next a k) (sym e);
-      snd_nxt = has_sent m pages here p lawful a room fine left texts patience answering v.polls kept v.c v.stage ∙ ap (λ k. sent_next a k) (sym e);
-      len = (let l = few_out m pages here p lawful a room fine left texts patience answering v.polls kept v.c v.stage in omega (arith, l, low));
-      early = stage_stays m pages here p lawful a room fine left texts patience answering v.polls kept v.c v.stage;
-    }
+  stands n so_far s = elim s [
+    | incarnations kept e v ↦ inr (subst (λ k. HasConnection a p k n) (sym e) (connection_of n v.i v.c v.polls kept v.there v.stage))
     | over reported ↦ inl reported
   ]
 
-  pub from_whole : (own : Addr) (before opening asking later incarnation : List TraceEntry) (es : List LineStep) (n : AbstractNode)
-      → All (IsStep own) es → Good n → trace_over m serves_port es n ≡ before ++ incarnation → incarnation ≡ opening ++ (asking ++ later)
+  pub from_whole : (own : Addr) (before opening asking later incarnation : List TraceEntry) (es : List WireStep) (n : AbstractNode)
+      → AreGuarded m serves_port own a p es n → Good n → trace_on_wire m serves_port es n ≡ before ++ incarnation → incarnation ≡ opening ++ (asking ++ later)
       → GoesOn a (exchanges_with p incarnation) → in_handshake (fresh a (exchanges_with p opening)) ≡ true
       → text_received (fresh a (exchanges_with p (opening ++ asking))) ≡ a.request → ((slot : ℕ) → calls_of slot asking ≤ patience)
       → Progresses pages a texts (exchanges_with p incarnation)
   from_whole own before opening asking later incarnation es n l g q j h limit w prompt =
       let same : (opening ++ asking) ++ later ≡ incarnation = append_assoc opening asking later ∙ sym j in
-      progresses (node_over m serves_port es n) (exchanges_with p incarnation)
+      progresses (node_on_wire m serves_port es n) (exchanges_with p incarnation)
       (subst (λ ts. text_received (fresh a (exchanges_with p ts)) ≡ a.request) same
       (whole_at_end (opening ++ asking) later (subst (λ ts. GoesOn a (exchanges_with p ts)) (sym same) h) w))
       (from_before own before opening asking later incarnation es n l g q j h limit (inr w) prompt)

@@ -7,7 +7,8 @@ use Rattle.node_laws.proofs.Prelude.{initial_node, Asker, ArrivesIn, ArrivesUnde
 use Rattle.node_laws.proofs.Prelude.{calls_of, first_low}
 use Rattle.node_laws.proofs.Prelude.{text_received, bare_acks, IsHonest, HonestPeer, Exchange}
 use Rattle.node_laws.proofs.Prelude.{TraceEntry, exchange, exchanges_onto, exchanges_with}
-use Rattle.node_laws.proofs.Arriving.{Goes, GoesOn, HasConnection, from_before, from_whole, goes_before, keeps_fresh, keeps_quiet, stands}
+use Rattle.node_laws.proofs.Arriving.{AreGuarded, Goes, GoesOn, HasConnection, from_before, from_whole, goes_before, keeps_fresh}
+use Rattle.node_laws.proofs.Arriving.{keeps_quiet, none_dropped, stands}
 use Rattle.node_laws.proofs.Arriving.Goes.{brings_next, brings_stale, waits_for}
 use Rattle.node_laws.proofs.Arriving.InTime.{kept_on, tries_left}
 use Rattle.node_laws.specs.LossyPeers.IsOverLoss.{receives_next, receives_nothing, receives_stale}
@@ -15,7 +16,8 @@ use Rattle.node_laws.proofs.Beating.{mss_some}
 use Rattle.node_laws.proofs.GoodNodes.{good_start}
 use Rattle.node_laws.proofs.HonestSessions.{honest_before}
 use Rattle.node_laws.proofs.Paging.{ActsAs, Paging, acts_as_itself, answering_as, anywhere, paging_as}
-use Rattle.node_laws.proofs.Steps.{IsStep, LineStep, OfNode, all_happen, node_over, trace_over, turns_happen}
+use Rattle.node_laws.proofs.Steps.{IsStep, LineStep, OfNode, WireStep, all_happen, node_on_wire, same_turns, trace_on_wire, trace_over}
+use Rattle.node_laws.proofs.Steps.{turns_happen, unguarded}
 
 -- the longest text is that of the peer's SYN
 pub record OfSyn (a : Asker) : Type 0 where
@@ -26,8 +28,11 @@ pub of_syn : (a : Asker) (p : Sockets) (turns : List TraceEntry) → IsHonest a 
 of_syn a p [] h = absurd h
 of_syn a p (t ∷ turns) h = let o = honest_before a p turns (exchange p t.event t.sent) [] h in record { option = o.syn.mss; is = o.mss }
 
-room_of : (a : Asker) (p : Sockets) (turns : List TraceEntry) → IsHonest a (exchanges_with p turns) → 0 < a.mss
-room_of a p turns h = (let o = of_syn a p turns h in let l = mss_some o.option in let e = o.is in omega (arith, l, e))
+some_mss : (a : Asker) → OfSyn a → 0 < a.mss
+some_mss a o = (let l = mss_some o.option in let e = o.is in omega (arith, l, e))
+
+low_mss : (a : Asker) → OfSyn a → a.mss < 65536
+low_mss a o = (let l = first_low o.option in let e = o.is in omega (arith, l, e))
 
 -- ---- with no loss every exchange is fresh
 
@@ -69,12 +74,14 @@ honest_peer m pages lawful ports own addr numbers words events of a p fine left 
     first_fresh a p asks.later (exchanges_with p asks.asking) (subst (λ k. IsHonest a k) (ap (λ t. exchanges_with p t) asks.joined
     ∙ in_two p asks.asking asks.later []) asks.honest) in
     let node : AbstractNode = initial_node own numbers in
+    let steps : List LineStep = map OfNode events in
+    let syn = of_syn a p incarnation asks.honest in
     (past_all pages a texts (exchanges_with p incarnation)
-    (from_whole m pages anywhere ports p (paging_of m pages lawful p.own_port.0) a (room_of a p incarnation asks.honest) fine left texts patience
+    (from_whole m pages anywhere ports p (paging_of m pages lawful p.own_port.0) a (some_mss a syn) (low_mss a syn) fine left texts patience
     (answering_as m m p.own_port.0 anywhere (acts_as_itself m p.own_port.0) a.request a.mss fine left texts patience answering) own
-    asks.before [] asks.asking asks.later incarnation (map OfNode events) node (all_happen own events of)
-    (good_start own numbers words) (turns_happen m ports events node ∙ asks.split) asks.joined (goes_honest a (exchanges_with p incarnation)
-    asks.honest) refl (ap (λ k. text_received k) first ∙ asks.whole) asks.prompt)
+    asks.before [] asks.asking asks.later incarnation (map unguarded steps) node (none_dropped m ports own a p steps node (all_happen own events of))
+    (good_start own numbers words) (same_turns m ports steps node ∙ turns_happen m ports events node ∙ asks.split) asks.joined
+    (goes_honest a (exchanges_with p incarnation) asks.honest) refl (ap (λ k. text_received k) first ∙ asks.whole) asks.prompt)
     (subst (λ k. texts < bare_acks k) (sym (all_fresh a (exchanges_with p incarnation) asks.honest)) few)).page
 
 -- ---- with loss
@@ -98,24 +105,7 @@ of_lossy_syn a p (t ∷ turns) h = let o = goes_before a p turns (exchange p t.e
 pub lossy_syn : (a : Asker) (p : Sockets) (turns : List TraceEntry) → IsLossy a (exchanges_with p turns) → OfSyn a
 lossy_syn a p turns h = of_lossy_syn a p turns (goes_lossy a (exchanges_with p turns) h)
 
--- over events and changes of the application's numbers, in the states of the port in which it acts as an application of pages
-pub arrives_acting : (m n : AppSpec) (pages : Pages) (here : AppState → Bool) → IsSteady m → IsPaged n pages
-    → (served : ℕ → Bool) (own : Addr) (numbers : List ℕ) → All IsU32 numbers → (steps : List LineStep) → All (IsStep own) steps
-    → (a : Asker) (p : Sockets) → ActsAs m n p.own_port.0 here → (fine : ℕ → AppState → Bool) (left : AppState → ℕ) (texts patience : ℕ)
-    → AnswersPolled n a.request a.mss fine left texts patience
-    → (incarnation : List TraceEntry) → AsksOverLoss a p patience (trace_over m served steps (initial_node own numbers)) incarnation
-    → Progresses pages a texts (exchanges_with p incarnation)
-arrives_acting m n pages here steady lawful served own numbers words steps of a p acts fine left texts patience answering incarnation asks =
-    let goes : GoesOn a (exchanges_with p incarnation) = goes_lossy a (exchanges_with p incarnation) asks.lossy in
-    let room : 0 < a.mss = (let o = of_lossy_syn a p incarnation goes in let l = mss_some o.option in let e = o.is in omega (arith, l, e)) in
-    from_whole m pages here served p (paging_as m n p.own_port.0 here acts pages lawful steady) a room fine left texts patience
-    (answering_as m n p.own_port.0 here acts a.request a.mss fine left texts patience answering)
-    own asks.before asks.opening asks.asking asks.later incarnation steps (initial_node own numbers) of (good_start own numbers words)
-    asks.split asks.joined goes asks.handshake asks.whole asks.prompt
-
--- ---- while it asks
-
--- The same of an incarnation up to any point. If its request is not whole, nothing follows the part in which it asks.
+-- Such an incarnation up to any point. If its request is not whole, nothing follows the part in which it asks.
 pub record AsksSoFar (a : Asker) (p : Sockets) (patience : ℕ) (trace incarnation : List TraceEntry) : Type 0 where
   pub before : List TraceEntry
   pub opening : List TraceEntry
@@ -128,25 +118,48 @@ pub record AsksSoFar (a : Asker) (p : Sockets) (patience : ℕ) (trace incarnati
   pub so_far : (later ≡ []) ⊎ (text_received (fresh a (exchanges_with p (opening ++ asking))) ≡ a.request)
   pub prompt : (slot : ℕ) → calls_of slot asking ≤ patience
 
--- then the page has arrived, or the node has the connection of the peer
-pub connection_stands : (m n : AppSpec) (pages : Pages) (here : AppState → Bool) → IsSteady m → IsPaged n pages
+module _ (m n : AppSpec) (pages : Pages) (here : AppState → Bool) (steady : IsSteady m) (lawful : IsPaged n pages) (served : ℕ → Bool)
+    (own : Addr) (numbers : List ℕ) (words : All IsU32 numbers) (steps : List WireStep) (a : Asker) (p : Sockets)
+    (guarded : AreGuarded m served own a p steps (initial_node own numbers)) (acts : ActsAs m n p.own_port.0 here) (fine : ℕ → AppState → Bool)
+    (left : AppState → ℕ) (texts patience : ℕ) (answering : AnswersPolled n a.request a.mss fine left texts patience) where
+  -- With a guard before the node: events, changes of the application's numbers, and events that are dropped. In the states of the port the
+  -- application acts as one of pages.
+  pub arrives_on_wire : (incarnation : List TraceEntry) → AsksOverLoss a p patience (trace_on_wire m served steps (initial_node own numbers)) incarnation
+      → Progresses pages a texts (exchanges_with p incarnation)
+  arrives_on_wire incarnation asks =
+      let goes : GoesOn a (exchanges_with p incarnation) = goes_lossy a (exchanges_with p incarnation) asks.lossy in
+      let syn = of_lossy_syn a p incarnation goes in
+      from_whole m pages here served p (paging_as m n p.own_port.0 here acts pages lawful steady) a (some_mss a syn) (low_mss a syn) fine left texts patience
+      (answering_as m n p.own_port.0 here acts a.request a.mss fine left texts patience answering)
+      own asks.before asks.opening asks.asking asks.later incarnation steps (initial_node own numbers) guarded (good_start own numbers words)
+      asks.split asks.joined goes asks.handshake asks.whole asks.prompt
+
+  -- The page has arrived, or the node has the connection of the peer, also while it asks.
+  pub connection_stands : (incarnation : List TraceEntry) → AsksSoFar a p patience (trace_on_wire m served steps (initial_node own numbers)) incarnation
+      → Arrives pages a (exchanges_with p incarnation)
+      ⊎ HasConnection a p (fresh a (exchanges_with p incarnation)) (node_on_wire m served steps (initial_node own numbers))
+  connection_stands incarnation asks =
+      let goes : GoesOn a (exchanges_with p incarnation) = goes_lossy a (exchanges_with p incarnation) asks.lossy in
+      let syn = of_lossy_syn a p incarnation goes in
+      let paging = paging_as m n p.own_port.0 here acts pages lawful steady in
+      let answers = answering_as m n p.own_port.0 here acts a.request a.mss fine left texts patience answering in
+      stands m pages here served p paging a (some_mss a syn) (low_mss a syn) fine left texts patience answers
+      (node_on_wire m served steps (initial_node own numbers)) (exchanges_with p incarnation)
+      (from_before m pages here served p paging a (some_mss a syn) (low_mss a syn) fine left texts patience answers own asks.before asks.opening
+      asks.asking asks.later incarnation steps (initial_node own numbers) guarded (good_start own numbers words) asks.split asks.joined goes
+      asks.handshake asks.so_far asks.prompt)
+
+-- over events and changes of the application's numbers, in the states of the port in which it acts as an application of pages
+pub arrives_acting : (m n : AppSpec) (pages : Pages) (here : AppState → Bool) → IsSteady m → IsPaged n pages
     → (served : ℕ → Bool) (own : Addr) (numbers : List ℕ) → All IsU32 numbers → (steps : List LineStep) → All (IsStep own) steps
     → (a : Asker) (p : Sockets) → ActsAs m n p.own_port.0 here → (fine : ℕ → AppState → Bool) (left : AppState → ℕ) (texts patience : ℕ)
     → AnswersPolled n a.request a.mss fine left texts patience
-    → (incarnation : List TraceEntry) → AsksSoFar a p patience (trace_over m served steps (initial_node own numbers)) incarnation
-    → Arrives pages a (exchanges_with p incarnation)
-    ⊎ HasConnection a p (fresh a (exchanges_with p incarnation)) (node_over m served steps (initial_node own numbers))
-connection_stands m n pages here steady lawful served own numbers words steps of a p acts fine left texts patience answering incarnation asks =
-    let goes : GoesOn a (exchanges_with p incarnation) = goes_lossy a (exchanges_with p incarnation) asks.lossy in
-    let syn = of_lossy_syn a p incarnation goes in
-    let room : 0 < a.mss = (let l = mss_some syn.option in let e = syn.is in omega (arith, l, e)) in
-    let low : a.mss < 65536 = (let l = first_low syn.option in let e = syn.is in omega (arith, l, e)) in
-    let paging = paging_as m n p.own_port.0 here acts pages lawful steady in
-    let answers = answering_as m n p.own_port.0 here acts a.request a.mss fine left texts patience answering in
-    stands m pages here served p paging a room fine left texts patience answers
-    (node_over m served steps (initial_node own numbers)) (exchanges_with p incarnation) low
-    (from_before m pages here served p paging a room fine left texts patience answers own asks.before asks.opening asks.asking asks.later
-    incarnation steps (initial_node own numbers) of (good_start own numbers words) asks.split asks.joined goes asks.handshake asks.so_far asks.prompt)
+    → (incarnation : List TraceEntry) → AsksOverLoss a p patience (trace_over m served steps (initial_node own numbers)) incarnation
+    → Progresses pages a texts (exchanges_with p incarnation)
+arrives_acting m n pages here steady lawful served own numbers words steps of a p acts fine left texts patience answering incarnation asks =
+    arrives_on_wire m n pages here steady lawful served own numbers words (map unguarded steps) a p
+    (none_dropped m served own a p steps (initial_node own numbers) of) acts fine left texts patience answering incarnation
+    (subst (λ trace. AsksOverLoss a p patience trace incarnation) (sym (same_turns m served steps (initial_node own numbers))) asks)
 
 pub arrives_acting_in : (m n : AppSpec) (pages : Pages) (here : AppState → Bool) → IsSteady m → IsPaged n pages
     → (served : ℕ → Bool) (own : Addr) (numbers : List ℕ) → All IsU32 numbers → (events : List Event) → All (IsOfLine own) events

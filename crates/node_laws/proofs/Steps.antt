@@ -1,6 +1,6 @@
 -- The steps of a node's line: events, and between them changes of its application's numbers, as by values that a caller sets.
 use Rattle.node_laws.proofs.Prelude.{All, ◌≡◌, ℕ, Bool, List, [], ◌∷◌, ◌++◌, map, refl, ap, ◌∙◌, All-cons, All-head, All-nil, All-tail}
-use Rattle.node_laws.proofs.Prelude.{IsU32, AppSpec, Addr, Event, IsEvent, AbstractNode, run, step, TraceEntry, trace_of, IsOfLine}
+use Rattle.node_laws.proofs.Prelude.{IsU32, AppSpec, Addr, Event, IsEvent, AbstractNode, run, step, TraceEntry, trace_of, IsOfLine, None}
 use Rattle.node_laws.proofs.GoodNodes.{Good}
 use Rattle.node_laws.proofs.Wire.{line_wire, wire_event}
 
@@ -23,12 +23,6 @@ module _ (m : AppSpec) (served : ℕ → Bool) where
   trace_over (OfNode event ∷ steps) n =
       record { event = event; sent = (step m served n event).sent } ∷ trace_over steps (step m served n event).node
   trace_over (Changes change ∷ steps) n = trace_over steps (changed change n)
-
-  -- the node after them
-  abbrev pub node_over : List LineStep → AbstractNode → AbstractNode
-  node_over [] n = n
-  node_over (OfNode event ∷ steps) n = node_over steps (step m served n event).node
-  node_over (Changes change ∷ steps) n = node_over steps (changed change n)
 
   -- where nothing is changed
   pub turns_happen : (events : List Event) (n : AbstractNode) → trace_over (map OfNode events) n ≡ trace_of m served events n
@@ -86,3 +80,36 @@ changed_good own change steps n of good = record {
   single = good.single;
   fit = record { size = good.fit.size; conns = good.fit.conns; numbers = (All-head (IsStep own) (Changes change) steps of) n.numbers good.fit.numbers };
 }
+
+-- ---- a guard before the node
+
+-- An event of the node, a change of its application's numbers, or an event that a guard before the node drops.
+pub data WireStep : Type 0 where
+  OnNode : (event : Event) → WireStep
+  Sets : (change : List ℕ → List ℕ) → WireStep
+  Drops : (event : Event) → WireStep
+
+-- a step with no guard
+abbrev pub unguarded : LineStep → WireStep
+unguarded (OfNode event) = OnNode event
+unguarded (Changes change) = Sets change
+
+module _ (m : AppSpec) (served : ℕ → Bool) where
+  -- the turns of all events, also of those that are dropped
+  abbrev pub trace_on_wire : List WireStep → AbstractNode → List TraceEntry
+  trace_on_wire [] n = []
+  trace_on_wire (OnNode event ∷ steps) n =
+      record { event = event; sent = (step m served n event).sent } ∷ trace_on_wire steps (step m served n event).node
+  trace_on_wire (Sets change ∷ steps) n = trace_on_wire steps (changed change n)
+  trace_on_wire (Drops event ∷ steps) n = record { event = event; sent = None } ∷ trace_on_wire steps n
+
+  abbrev pub node_on_wire : List WireStep → AbstractNode → AbstractNode
+  node_on_wire [] n = n
+  node_on_wire (OnNode event ∷ steps) n = node_on_wire steps (step m served n event).node
+  node_on_wire (Sets change ∷ steps) n = node_on_wire steps (changed change n)
+  node_on_wire (Drops event ∷ steps) n = node_on_wire steps n
+
+  pub same_turns : (steps : List LineStep) (n : AbstractNode) → trace_on_wire (map unguarded steps) n ≡ trace_over m served steps n
+  same_turns [] n = refl
+  same_turns (OfNode e ∷ steps) n = ap (λ l. record { event = e; sent = (step m served n e).sent } ∷ l) (same_turns steps (step m served n e).node)
+  same_turns (Changes change ∷ steps) n = same_turns steps (changed change n)
