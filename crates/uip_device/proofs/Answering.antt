@@ -34,7 +34,7 @@ use Rattle.device_values.specs.Lemmas.Laws.{words_short}
 use Rattle.device_values.specs.Prelude.{words}
 use Rattle.device_values.specs.declared.word.Word.{Word}
 use Rattle.device_values.specs.declared.word.Word.TheVariants as word
-use Rattle.script_lang.specs.Prelude.{length_at_most, takes_capture}
+use Rattle.script_lang.specs.Prelude.{takes_capture}
 
 not_twenty : (n : ℕ) → n < 20 → (n == 20) ≡ false
 not_twenty n l = grind (arith, common_steps)
