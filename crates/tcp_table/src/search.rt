@@ -32,10 +32,11 @@ fn closed_in<A>(conns: &[Conn<A>]) -> Option<usize>
 fn longest_in<A>(conns: &[Conn<A>]) -> u8
     ensures { result ≡ longest_rest conns.now }
 {
-    match conns {
-        [] => 0,
-        [first, rest @ ..] => first.waited().max(longest_in(rest)),
+    let mut longest = 0;
+    for conn in conns {
+        longest = longest.max(conn.waited());
     }
+    longest
 }
 
 /// Returns the first slot whose connection has been in TIME-WAIT for `ticks` ticks.

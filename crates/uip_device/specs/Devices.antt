@@ -1,6 +1,6 @@
 -- A device, and the output of each call.
 use Rattle.std.specs.Prelude.{◌≡◌, ◌≤◌, ◌==◌, ◌+◌, ℕ, Bool, List, [], ◌∷◌, ◌++◌, Option, None, Some, IfSome, if◌then◌else◌, length, map, ◌⊎◌, false, true}
-use Rattle.std.specs.List.{flat_map}
+use Rattle.std.specs.List.{find, flat_map}
 use Rattle.app_events.specs.Prelude.{AppSpec}
 use Rattle.app_events.specs.declared.app.App.{Ghosts}
 use Rattle.app_events.specs.declared.row.Row.{Row}
@@ -69,8 +69,7 @@ is_node_idle n = length (rows_from 0 n.connections) == 0
 
 -- the row of a slot among those of the open connections; none if it is CLOSED
 abbrev pub row_in : ℕ → List Row → Option Row
-row_in slot [] = None
-row_in slot (row ∷ rows) = if row.slot == slot then Some row else row_in slot rows
+row_in slot rows = find (λ row. row.slot == slot) rows
 
 abbrev pub connection_row : ℕ → AbstractNode → Option Row
 connection_row slot n = row_in slot (rows_from 0 n.connections)

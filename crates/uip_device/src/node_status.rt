@@ -34,16 +34,12 @@ pub fn is_node_idle<A: App>(node: &Node<A>) -> bool
 fn row_in(rows: &[Row], slot: usize) -> Option<Row>
     ensures { result ≡ row_in slot rows.now }
 {
-    match rows {
-        [] => None,
-        [row, rest @ ..] => {
-            if row.slot as usize == slot {
-                Some(*row)
-            } else {
-                row_in(rest, slot)
-            }
+    for row in rows {
+        if row.slot as usize == slot {
+            return Some(*row);
         }
     }
+    None
 }
 
 /// Returns the row of the connection in a slot, as `tcp-connections` shows it; `None` if it is CLOSED.
