@@ -14,10 +14,10 @@ use packet_buffer::Packet;
 use std::alloc::Global;
 use std::marker::Model;
 use tcp_machine::Step;
-use tcp_segment::{SYN, Segment, check as check_segment};
+use tcp_segment::{SYN, Segment, TcpFate, check as check_segment};
 use tcp_table::{Conn, Table};
 use uip_edge::NoMemory;
-use uip_ipv4::{IpHead, Proto, check as check_head};
+use uip_ipv4::{IpFate, IpHead, Proto, check as check_head};
 use uip_wire::{Addr, LARGEST_DATAGRAM};
 
 /// Returns whether a step is a retransmission.
@@ -83,7 +83,7 @@ impl<A: App> Node<A> {
     ghost use Rattle.uip_node.specs.Counted.{seen};
     ghost use Rattle.uip_node.specs.Counters.{counters, ticks_of};
     ghost use Rattle.uip_node.specs.Edge.{by_proto, by_segment, event_of, sockets_of};
-    ghost use Rattle.uip_node.specs.Events.Event.{Overlong, Periodic};
+    ghost use Rattle.uip_node.specs.Events.Event.{IpRefused, Overlong, Periodic, TcpRefused};
     ghost use Rattle.uip_node.specs.Node.{AbstractNode, arrives, for_no_connection, initial_node, opens, refuses, slot_for_syn, step};
     ghost use Rattle.uip_node.specs.Inner.{AnswersPeer, OpensBy, SendsStep, StepsIn};
     ghost use Rattle.uip_node.specs.Slots.{IsIn, NoneAt};
@@ -293,6 +293,20 @@ impl<A: App> Node<A> {
         }
     }
 
+    /// Counts a datagram that fails a check of its IP header.
+    pub fn refuse_datagram(&mut self, fate: IpFate)
+        ensures { Refines A.App (λ m served n. step m served n (IpRefused fate)) self.old self.new None }
+    {
+        event_counts::refuse_ip(&mut self.net, fate);
+    }
+
+    /// Counts a datagram whose TCP segment fails a check.
+    pub fn refuse_segment(&mut self, fate: TcpFate)
+        ensures { Refines A.App (λ m served n. step m served n (TcpRefused fate)) self.old self.new None }
+    {
+        event_counts::refuse_tcp(&mut self.net, fate);
+    }
+
     /// Handles the TCP datagram in the packet.
     fn take_tcp(&mut self, head: &IpHead) -> Option<usize>
         requires head { IsHeadOf head.now (datagram_in self.old.packet) }
@@ -304,15 +318,15 @@ impl<A: App> Node<A> {
     {
         match check_segment(self.packet.bytes(), head) {
             Err(fate) => {
-                event_counts::refuse_tcp(&mut self.net, fate);
+                self.refuse_segment(fate);
                 None
             }
             Ok(seg) => self.segment_arrives(head.source, &seg),
         }
     }
 
-    /// Handles the ICMP datagram in the packet (RFC 792).
-    fn take_icmp(&mut self, head: &IpHead) -> Option<usize>
+    /// Handles the ICMP datagram in the packet, whose header passed its checks (RFC 792).
+    pub fn take_icmp(&mut self, head: &IpHead) -> Option<usize>
         requires head { IsHeadOf head.now (datagram_in self.old.packet) }
         requires most { head.now.total ≤ length (datagram_in self.old.packet) }
         ensures { Refines A.App
@@ -336,7 +350,7 @@ impl<A: App> Node<A> {
     {
         match check_head(self.packet.bytes(), self.addr) {
             Err(fate) => {
-                event_counts::refuse_ip(&mut self.net, fate);
+                self.refuse_datagram(fate);
                 None
             }
             Ok(head) => match head.proto {
