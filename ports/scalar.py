@@ -11,7 +11,7 @@ import re
 import sys
 
 PAIRS = [    # the source file, the Rattle module, the function whose calls are redirected, and the function that is called instead
-    ("uip_slip/src/marks.rt", "uip_slip::marks", "plain_len", "plain_by_words"),
+    ("uip_slip/src/plain_runs.rt", "uip_slip::plain_runs", "copy_plain", "copy_plain_by_words"),
     ("script_lang/src/search.rt", "script_lang::search", "byte_from", "byte_one_by_one"),
 ]
 

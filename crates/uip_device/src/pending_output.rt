@@ -13,7 +13,7 @@ ghost use Rattle.uip_device.specs.Sending.{text_sent};
 
 use app_events::App;
 use uip_node::Node;
-use uip_slip::{END, put_escaped};
+use uip_slip::{END, put_bytes, put_plain};
 use uip_wire::LARGEST_DATAGRAM;
 
 /// The longest SLIP text of a datagram, in bytes: each byte escaped, and an END on both sides.
@@ -46,7 +46,10 @@ struct Run {
     len: usize,
 }
 
-/// Appends bytes of a piece, escaped, to a text of `len` bytes: as many as fit even if each of them is escaped.
+/// After a run without END and ESC, at most this many bytes are put one by one, since marks may be close together.
+const MOST_ONE_BY_ONE: usize = 16;
+
+/// Appends bytes of a piece, escaped, to a text of `len` bytes, as far as there is room: a run without END and ESC, and some bytes after it.
 fn put_some(out: &mut [u8], len: usize, piece: &[u8]) -> Run
     requires some { 0 < length piece.now }
     requires room { len + 2 ≤ length out.old }
@@ -58,10 +61,21 @@ fn put_some(out: &mut [u8], len: usize, piece: &[u8]) -> Run
     ensures grows { len ≤ result.len }
     ensures text { take result.len out.new ≡ take len out.old ++ escaped (take result.count piece.now) }
 {
-    let room = (out.len() - len) / 2;
-    let count = piece.len().min(room);
-    let end = put_escaped(out, len, &piece[..count]);
-    Run { count, len: end }
+    let fits = piece.len().min(out.len() - len);
+    let plain = put_plain(out, len, &piece[..fits]);
+    let end = len + plain;
+    if plain == fits {
+        return Run {
+            count: plain,
+            len: end,
+        };
+    }
+    let count = plain
+        + MOST_ONE_BY_ONE
+            .min((out.len() - end) / 2)
+            .min(piece.len() - plain);
+    let len = put_bytes(out, end, &piece[plain..count]);
+    Run { count, len }
 }
 
 /// Continues the text of a datagram after its first `at` bytes, as far as there is room.

@@ -1,7 +1,7 @@
 -- What a decoder knows after one more byte, or a run of them.
 use Rattle.uip_slip.proofs.Prelude.{◌≡◌, ℕ, ◌+◌, ◌≤◌, ◌<◌, Bool, true, false, cond, eqb, nat_lt, List, [], ◌∷◌, ◌++◌, take, length, get_or}
 use Rattle.uip_slip.proofs.Prelude.{refl, sym, ap, subst, ◌-◌, ◌∙◌, append-nil, append_assoc, arith, length-take, length-append}
-use Rattle.uip_slip.proofs.Prelude.{length-drop, drop, min, ◌||◌, list_all, get_or-drop, get_or-take, take_all, take_more, take-add}
+use Rattle.uip_slip.proofs.Prelude.{length-drop, drop, ◌||◌, list_all, get_or-drop, get_or-take, take_all, take_more, take-add}
 use Rattle.uip_slip.proofs.Prelude.{take-append-add, ltb-false, ltb-true, le-ltb, lt-ltb, le-leb, lt-leb, Frame, meant, unescaped, frame_of}
 use Rattle.uip_slip.proofs.Prelude.{open_part, frames, Datagram, Overlong, is_plain, Fed, EndsFrame, State, WasFed, waits_after, open_bytes}
 use Rattle.uip_slip.proofs.Prelude.{reported_by, reopened, pushed, taken, joined_parts, Closes, IsNoise, true≢false}
@@ -192,35 +192,23 @@ run_then_byte before bytes n s mid new reported here run byte f =
 same_state : (s : State) (xs ys : List ℕ) (a b : Bool) → xs ≡ ys → a ≡ b → record s { bytes = xs; over = a } ≡ record s { bytes = ys; over = b }
 same_state s xs ys a b e f = rw (e, f) refl
 
-min_take : (n count : ℕ) (run : List ℕ) → count ≡ min (length run) n → take count run ≡ take n run
-min_take n count run e =
-    elim (nat_lt n (length run)) as (λ v. nat_lt n (length run) ≡ v → take count run ≡ take n run) [
-      | true ↦ λ q. ap (λ k. take k run) (let less : n < length run = ltb-true _ _ q in omega (arith, e, less))
-      | false ↦ λ q. (let most : length run ≤ n = ltb-false _ _ q in let all : count ≡ length run = omega (arith, e, most) in
-          take_all count run (omega (arith, all)) ∙ sym (take_all n run most))
-    ] refl
-
 prefix_before : (n : ℕ) (t run : List ℕ) → length t ≤ n → take n (t ++ run) ≡ t ++ take (n - length t) run
 prefix_before n t run h =
     ap (λ k. take k (t ++ run)) (let e : n ≡ length t + (n - length t) = omega arith in e) ∙ take-append-add t run (n - length t)
 
-past_room : (n a b : ℕ) → a ≤ n → nat_lt (n - a) b ≡ nat_lt n (a + b)
-past_room n a b h =
-    elim (nat_lt n (a + b)) as (λ v. nat_lt n (a + b) ≡ v → nat_lt (n - a) b ≡ v) [
-      | true ↦ λ q. (let less : n < a + b = ltb-true _ _ q in lt-ltb (n - a) b (omega (arith, less)))
-      | false ↦ λ q. (let most : a + b ≤ n = ltb-false _ _ q in le-ltb (n - a) b (omega (arith, most)))
-    ] refl
+or_false : (b : Bool) → b ≡ b || false
+or_false true = refl
+or_false false = refl
 
--- a frame takes of a run what there is room for
-pub joined_is : (s : State) (run : List ℕ) (len count : ℕ) → length s.bytes ≡ len → len ≤ 1500 → count ≡ min (length run) (1500 - len)
-    → record s { bytes = s.bytes ++ take count run; over = s.over || nat_lt (1500 - len) (length run) } ≡ joined_parts s run
-joined_is s run len count size h e =
-    let bytes : s.bytes ++ take count run ≡ take 1500 (s.bytes ++ run) =
-    ap (λ l. s.bytes ++ l) (min_take (1500 - len) count run e ∙ ap (λ k. take (1500 - k) run) (sym size))
-    ∙ sym (prefix_before 1500 s.bytes run (omega (arith, size))) in
-    let over : nat_lt (1500 - len) (length run) ≡ nat_lt 1500 (length s.bytes + length run) =
-    past_room 1500 len (length run) h ∙ ap (λ k. nat_lt 1500 (k + length run)) (sym size) in
-    same_state s _ _ _ _ bytes (ap (λ v. s.over || v) over)
+-- a run for which a frame has room
+pub joined_within : (s : State) (run : List ℕ) (len : ℕ) → length s.bytes ≡ len → len + length run ≤ 1500
+    → record s { bytes = s.bytes ++ run } ≡ joined_parts s run
+joined_within s run len size fits =
+    let bytes : s.bytes ++ run ≡ take 1500 (s.bytes ++ run) =
+    ap (λ l. s.bytes ++ l) (sym (take_all (1500 - length s.bytes) run (omega (arith, size, fits))))
+    ∙ sym (prefix_before 1500 s.bytes run (omega (arith, size, fits))) in
+    let over : false ≡ nat_lt 1500 (length s.bytes + length run) = sym (le-ltb 1500 (length s.bytes + length run) (omega (arith, size, fits))) in
+    same_state s _ _ _ _ bytes (or_false s.over ∙ ap (λ v. s.over || v) over)
 
 -- the first bytes, and then a prefix of the others
 prefix_and_more : (before bytes : List ℕ) (n k : ℕ) → (before ++ take n bytes) ++ take k (take (length bytes - n) (drop n bytes)) ≡ before ++ take (n + k) bytes

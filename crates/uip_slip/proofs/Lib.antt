@@ -1,4 +1,5 @@
 pub mod Ascii
+pub mod Copies
 pub mod DecoderLaws
 pub mod PartLaws
 pub mod PlainLaws

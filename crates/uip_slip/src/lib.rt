@@ -7,6 +7,7 @@ mod encoder;
 mod fed;
 mod marks;
 mod part;
+mod plain_runs;
 mod slip_text;
 mod text_area;
 
@@ -15,4 +16,5 @@ pub use encoder::{Encoder, encode, encoded_len, text_is_one_frame};
 pub use fed::{Fed, FedRun};
 pub use marks::END;
 pub use part::Part;
-pub use slip_text::put_escaped;
+pub use plain_runs::put_plain;
+pub use slip_text::put_bytes;

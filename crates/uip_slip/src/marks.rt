@@ -25,7 +25,7 @@ const LANES: usize = 32;
 const WIDE: usize = 64;
 
 /// The number of bytes that are examined together as one number.
-const WORD: usize = 8;
+pub const WORD: usize = 8;
 
 /// The high bit of each byte of such a number.
 const HIGHS: u64 = 0x8080_8080_8080_8080;
@@ -39,8 +39,8 @@ const ENDS: u64 = 0xC0C0_C0C0_C0C0_C0C0;
 /// The bits in which END and ESC differ, in each byte.
 const DIFFERENCES: u64 = 0x1B1B_1B1B_1B1B_1B1B;
 
-/// Returns the length of the prefix without END and ESC. It is not inlined, since decoder and encoder both search.
-#[inline(never)]
+/// Returns the length of the prefix without END and ESC.
+#[inline(always)]
 pub fn plain_len(bytes: &[u8]) -> usize
     ensures { IsPlainPrefix bytes.now result }
 {
@@ -100,9 +100,8 @@ fn plain_after(bytes: &[u8]) -> usize
     last + plain_wide(bytes, last)
 }
 
-/// The same, eight bytes at a time and the rest one by one. A processor without vectors searches all bytes by it.
-#[inline(never)]
-pub fn plain_by_words(bytes: &[u8]) -> usize
+/// The same, eight bytes at a time and the rest one by one.
+fn plain_by_words(bytes: &[u8]) -> usize
     ensures { IsPlainPrefix bytes.now result }
 {
     let mut at = 0;
@@ -124,7 +123,7 @@ pub fn plain_by_words(bytes: &[u8]) -> usize
 /// Returns whether none of eight bytes is END or ESC. A byte below 128 is neither. Any other is one of them exactly if its low seven bits
 /// are theirs. A sum with 127 has the high bit exactly if the bits differ, and nothing is carried to the next byte.
 #[inline(always)]
-fn is_plain_word(bytes: [u8; WORD]) -> bool
+pub fn is_plain_word(bytes: [u8; WORD]) -> bool
     ensures { result ≡ true → list_all is_plain bytes ≡ true }
 {
     let word = u64::from_le_bytes(bytes);

@@ -2,13 +2,14 @@
 //! of bytes (RFC 1055). Between the frames the caller may use the area for something else.
 
 ghost use Rattle.std.specs.Prelude.{◌≡◌, ◌≤◌, ◌<◌, ◌++◌, ◌+◌, [], ◌∷◌, List, ℕ, length, take, true, false};
-ghost use Rattle.uip_slip.specs.Frames.{frames, is_plain};
+ghost use Rattle.uip_slip.specs.Frames.{IsPlainPrefix, frames, is_plain};
 ghost use Rattle.std.specs.List.{list_all};
 
 use crate::fed::{Fed, FedRun};
-use crate::marks::{END, ESC, meant, plain_len};
+use crate::marks::{END, ESC, meant};
+use crate::plain_runs::put_plain;
 use std::marker::Model;
-use uip_wire::{LARGEST_DATAGRAM, copy_bytes};
+use uip_wire::LARGEST_DATAGRAM;
 
 /// What is known of the frame that is received in an area: its length so far, whether it is overlong, whether an ESC waits, and whether it
 /// is a datagram that was just decoded.
@@ -273,7 +274,7 @@ impl Part {
         }
     }
 
-    /// Appends the bytes before the next END or ESC to the frame, and returns how many they are.
+    /// Appends the bytes before the next END or ESC to the frame, as far as there is room, and returns how many they are.
     #[inline(always)]
     fn join_plain(&mut self, area: &mut [u8], bytes: &[u8]) -> usize
         requires size { length area.old ≡ LARGEST_DATAGRAM }
@@ -286,35 +287,23 @@ impl Part {
         if self.waits {
             return 0;
         }
-        let count = plain_len(bytes);
-        self.join(area, &bytes[..count]);
-        count
-    }
-
-    /// Appends bytes to the frame, as far as there is room.
-    #[inline(always)]
-    fn join(&mut self, area: &mut [u8], bytes: &[u8])
-        requires size { length area.old ≡ LARGEST_DATAGRAM }
-        ensures long { length area.new ≡ length area.old }
-        ensures fed { state_in area.new self.new ≡ joined_parts (state_in area.old self.old) bytes.now }
-    {
         let room = LARGEST_DATAGRAM - self.len;
-        let count = bytes.len().min(room);
-        self.over |= bytes.len() > room;
-        self.append(area, &bytes[..count]);
+        self.append_plain(area, &bytes[..bytes.len().min(room)])
     }
 
-    /// Appends bytes to the frame.
+    /// Appends the bytes before the next END or ESC to the frame, in which there is room, and returns how many they are.
     #[inline(always)]
-    fn append(&mut self, area: &mut [u8], bytes: &[u8])
+    fn append_plain(&mut self, area: &mut [u8], bytes: &[u8]) -> usize
         requires size { length area.old ≡ LARGEST_DATAGRAM }
         requires room { self.old.len + length bytes.now ≤ LARGEST_DATAGRAM }
         ensures long { length area.new ≡ length area.old }
-        ensures fed { state_in area.new self.new ≡ record (state_in area.old self.old) { bytes = take self.old.len area.old ++ bytes.now } }
+        ensures prefix { IsPlainPrefix bytes.now result }
+        ensures fed { state_in area.new self.new
+            ≡ record (state_in area.old self.old) { bytes = take self.old.len area.old ++ take result bytes.now } }
     {
-        let end = self.len + bytes.len();
-        copy_bytes(&mut area[self.len..end], bytes);
-        self.len = end;
+        let count = put_plain(area, self.len, bytes);
+        self.len += count;
+        count
     }
 
     /// Returns the datagram that was just decoded.

@@ -4,8 +4,7 @@
 ghost use Rattle.std.specs.Prelude.{◌≡◌, ◌≤◌, ◌<◌, ◌+◌, ◌*◌, ◌/◌, ◌%◌, ◌++◌, [], ◌∷◌, length, take};
 ghost use Rattle.uip_slip.specs.Text.{PutsPrefix, escaped, escaped_byte};
 
-use crate::marks::plain_len;
-use uip_wire::copy_bytes;
+use crate::plain_runs::put_plain;
 
 /// This many bytes go one by one if marks are close together.
 const CHUNK: usize = 32;
@@ -29,18 +28,6 @@ fn put(out: &mut [u8], len: usize, piece: &[u8]) -> usize
 {
     let end = len + piece.len();
     out[len..end].copy_from_slice(piece);
-    end
-}
-
-/// Appends bytes as they are to a text of `len` bytes; there may be many of them. Returns its new length.
-fn put_long(out: &mut [u8], len: usize, piece: &[u8]) -> usize
-    requires { len + length piece.now ≤ length out.old }
-    ensures long { length out.new ≡ length out.old }
-    ensures end { result ≡ len + length piece.now }
-    ensures text { take result out.new ≡ take len out.old ++ piece.now }
-{
-    let end = len + piece.len();
-    copy_bytes(&mut out[len..end], piece);
     end
 }
 
@@ -87,8 +74,9 @@ fn put_byte(out: &mut [u8], len: usize, byte: u8) -> usize
     if text < 256 { len + 1 } else { len + 2 }
 }
 
-/// Appends bytes of a datagram one by one.
-fn put_bytes(out: &mut [u8], len: usize, piece: &[u8]) -> usize
+/// Appends bytes of a datagram one by one to a text of `len` bytes at the start of an area. Returns its new length. A byte after the text
+/// may change too.
+pub fn put_bytes(out: &mut [u8], len: usize, piece: &[u8]) -> usize
     requires room { len + 2 * length piece.now ≤ length out.old }
     ensures long { length out.new ≡ length out.old }
     ensures bound { result ≤ len + 2 * length piece.now }
@@ -107,8 +95,8 @@ fn put_run(out: &mut [u8], len: usize, piece: &[u8]) -> Run
     requires room { len + 2 * length piece.now ≤ length out.old }
     ensures { PutsPrefix piece.now len out.old result.count result.len out.new }
 {
-    let plain = plain_len(piece);
-    let end = put_long(out, len, &piece[..plain]);
+    let plain = put_plain(out, len, piece);
+    let end = len + plain;
     if plain == piece.len() {
         return Run {
             count: plain,
