@@ -70,11 +70,15 @@ EndsFrame fed.More byte = ⊤
 EndsFrame (fed.Datagram n) byte = byte ≡ 192
 EndsFrame fed.Overlong byte = byte ≡ 192
 
+-- After whatever was fed before, a decoder was fed these bytes, and the frame that they complete is reported.
+abbrev pub FeedsBytes : State → List ℕ → Fed → State → Type 0
+FeedsBytes old bytes fed new = (before : List ℕ) → WasFed before old
+    → WasFed (before ++ bytes) new × (frames (before ++ bytes) ≡ frames before ++ reported_by fed new)
+
 -- A prefix of these bytes was fed, at least one, as if one by one; the frame that the last of them completes is reported.
 pub record FeedsPrefix (old : State) (bytes : List ℕ) (run : FedRun) (new : State) : Type 0 where
   pub some : 0 < run.count
   pub within : run.count ≤ length bytes
-  pub frames : (before : List ℕ) → WasFed before old → WasFed (before ++ take run.count bytes) new
-      × (frames (before ++ take run.count bytes) ≡ frames before ++ reported_by run.fed new)
+  pub frames : FeedsBytes old (take run.count bytes) run.fed new
   pub leaves : Leaves run.fed new
   pub end : EndsFrame run.fed (slice_index bytes (run.count - 1))

@@ -1,7 +1,6 @@
 //! The decoder with an area of its own.
 
-ghost use Rattle.std.specs.Prelude.{◌≡◌, ◌<◌, ◌++◌, [], ◌∷◌, List, ℕ, length, true};
-ghost use Rattle.uip_slip.specs.Frames.{frames};
+ghost use Rattle.std.specs.Prelude.{◌≡◌, ◌<◌, [], ◌∷◌, length, true};
 
 use crate::fed::{Fed, FedRun};
 use crate::part::Part;
@@ -24,7 +23,7 @@ impl Model for Decoder {
 }
 
 impl Decoder {
-    ghost use Rattle.uip_slip.specs.Decoding.{EndsFrame, FeedsPrefix, Leaves, WasFed, reported_by};
+    ghost use Rattle.uip_slip.specs.Decoding.{EndsFrame, FeedsBytes, FeedsPrefix, Leaves, WasFed};
     ghost use Rattle.uip_slip.specs.declared.fed.Fed.TheVariants.{More};
 
     /// Returns a decoder that was fed nothing.
@@ -40,8 +39,7 @@ impl Decoder {
     /// Feeds one byte. The bytes of a datagram that it completes stay readable until the next call.
     pub fn feed(&mut self, byte: u8) -> Fed
         // Whatever was fed before, the results report its frames.
-        ensures frames { (bytes : List ℕ) → WasFed bytes self.old → WasFed (bytes ++ byte ∷ []) self.new
-            × (frames (bytes ++ byte ∷ []) ≡ frames bytes ++ reported_by result self.new) }
+        ensures frames { FeedsBytes self.old (byte ∷ []) result self.new }
         ensures leaves { Leaves result self.new }
         ensures end { EndsFrame result byte }
     {

@@ -2,7 +2,7 @@
 //! of bytes (RFC 1055). Between the frames the caller may use the area for something else.
 
 ghost use Rattle.std.specs.Prelude.{◌≡◌, ◌≤◌, ◌<◌, ◌++◌, ◌+◌, [], ◌∷◌, List, ℕ, length, take, true, false};
-ghost use Rattle.uip_slip.specs.Frames.{IsPlainPrefix, frames, is_plain};
+ghost use Rattle.uip_slip.specs.Frames.{IsPlainPrefix, is_plain};
 ghost use Rattle.std.specs.List.{list_all};
 
 use crate::fed::{Fed, FedRun};
@@ -57,7 +57,7 @@ fn still_dense(dense: usize, count: usize, last: u8) -> usize {
 }
 
 impl Part {
-    ghost use Rattle.uip_slip.specs.Decoding.{EndsFrame, FeedsPrefix, IsNoise, Leaves, WasFed, is_free, reported_by, state_in};
+    ghost use Rattle.uip_slip.specs.Decoding.{EndsFrame, FeedsBytes, FeedsPrefix, IsNoise, Leaves, WasFed, is_free, state_in};
     ghost use Rattle.uip_slip.specs.declared.fed.Fed.TheVariants.{More};
     ghost use Rattle.uip_slip.specs.Steps.{reopened, taken, pushed, joined_parts, Closes};
 
@@ -79,8 +79,7 @@ impl Part {
         requires size { length area.old ≡ LARGEST_DATAGRAM }
         ensures long { length area.new ≡ length area.old }
         // Whatever was fed before, the results report its frames.
-        ensures frames { (bytes : List ℕ) → WasFed bytes (state_in area.old self.old) → WasFed (bytes ++ byte ∷ []) (state_in area.new self.new)
-            × (frames (bytes ++ byte ∷ []) ≡ frames bytes ++ reported_by result (state_in area.new self.new)) }
+        ensures frames { FeedsBytes (state_in area.old self.old) (byte ∷ []) result (state_in area.new self.new) }
         ensures leaves { Leaves result (state_in area.new self.new) }
         ensures end { EndsFrame result byte }
     {
@@ -97,8 +96,7 @@ impl Part {
     fn feed_end(&mut self, area: &mut [u8]) -> Fed
         requires size { length area.old ≡ LARGEST_DATAGRAM }
         ensures long { length area.new ≡ length area.old }
-        ensures frames { (bytes : List ℕ) → WasFed bytes (state_in area.old self.old) → WasFed (bytes ++ END ∷ []) (state_in area.new self.new)
-            × (frames (bytes ++ END ∷ []) ≡ frames bytes ++ reported_by result (state_in area.new self.new)) }
+        ensures frames { FeedsBytes (state_in area.old self.old) (END ∷ []) result (state_in area.new self.new) }
         ensures leaves { Leaves result (state_in area.new self.new) }
     {
         self.reopen();
