@@ -2,13 +2,13 @@
 use Rattle.httpd.proofs.Prelude.{◌≡◌, ◌+◌, ℕ, ◌≤◌, ◌==◌, ◌&&◌, min, Bool, true, false, not, List, [], ◌∷◌, ◌++◌, Option, length, drop}
 use Rattle.httpd.proofs.Prelude.{nat_lt, refl, sym, ap, subst, ◌∙◌, arith, append_assoc, append-nil, length-append, length-drop}
 use Rattle.httpd.proofs.Prelude.{if◌then◌else◌, inl, inr, map, codes, cases_eq, eq-eqb, eqb-true, ne_eqb, Snapshot, AppState, Nothing, Send}
-use Rattle.httpd.proofs.Prelude.{Close, Abort, File, FileId, SiteContent, files_of, ScriptFunctions, Wanted, wanted, Name, NotYet, Refused}
+use Rattle.httpd.proofs.Prelude.{Close, Abort, File, FileId, SiteContent, files_of, ScriptFunctions, Wanted, wanted, Name}
 use Rattle.httpd.proofs.Prelude.{pieces_by, ScriptPiece, kind_line, reply_pieces_by, piece_output, Made, Plain, is_whole_by, made_by}
 use Rattle.httpd.proofs.Prelude.{page_by, page_for_by, reach_by, text_by, whole_for_by, is_acknowledged_by, left_of_by}
 use Rattle.httpd.proofs.Prelude.{waits_for_capture_by, web_want_by, made_end, made_first, stopped_end, stopped_text, text_grows, Pages}
 use Rattle.httpd.proofs.Prelude.{Thread, Head, Kind, Body, Inside, Making, End, Due, FileReply, body, body_from, calls_in, head_text}
 use Rattle.httpd.proofs.Prelude.{is_scripted, kind_text, left_from, reply_by, Fits, IsInner, KeepsDirective, SeesCall, IsDueReply, IsNotDue}
-use Rattle.httpd.proofs.Prelude.{left_text, left_whole, want_left, PagesRepresent, IsLeft, IsReplying, SendsNothing, IsRepresentedIn}
+use Rattle.httpd.proofs.Prelude.{left_text, left_whole, PagesRepresent, IsLeft, IsReplying, SendsNothing, IsRepresentedIn}
 use Rattle.httpd.specs.declared.stage.Stage.TheVariants as stage
 use Rattle.httpd.proofs.Representing.{replying}
 use Rattle.httpd.proofs.Walking.{call_before}

@@ -1,9 +1,9 @@
 -- The states of compact pages, after each call.
-use Rattle.httpd.proofs.Prelude.{◌≡◌, ◌≤◌, ℕ, Bool, true, false, List, [], ◌∷◌, ◌++◌, Option, length, take, refl, sym, ap, subst, arith}
-use Rattle.httpd.proofs.Prelude.{AppState, CanSupply, IsRepresented, File, FileId, SiteContent, files_of, ScriptFunctions, Line, wanted}
-use Rattle.httpd.proofs.Prelude.{NotYet, Refused, method_open, target_open, CompactPages, Received, Stage, Thread, Head, CompactRepresent}
-use Rattle.httpd.proofs.Prelude.{ReceivesWord, pages_kept, word_stage, ReceivesTo, IsFileAsked, PagesRepresent, SendsNothing, Fits, IsFound}
-use Rattle.httpd.proofs.Prelude.{left_from, reply_by, left_text}
+use Rattle.httpd.proofs.Prelude.{◌≡◌, ◌≤◌, ℕ, Bool, true, false, List, ◌++◌, Option, length, refl, sym, subst}
+use Rattle.httpd.proofs.Prelude.{AppState, CanSupply, IsRepresented, FileId, SiteContent, files_of, ScriptFunctions, Line, wanted}
+use Rattle.httpd.proofs.Prelude.{NotYet, Refused, method_open, target_open, CompactPages, Received, Thread, Head, CompactRepresent}
+use Rattle.httpd.proofs.Prelude.{ReceivesWord, pages_kept, word_stage, ReceivesTo, IsFileAsked, SendsNothing, Fits, IsFound}
+use Rattle.httpd.proofs.Prelude.{reply_by, left_text}
 use Rattle.httpd.specs.declared.compact.CompactPages.TheVariants as compact
 use Rattle.httpd.specs.declared.stage.Stage.TheVariants as stage
 use Rattle.httpd.proofs.Representing.{can_supply, means, reply_fits, reply_found, some_part}

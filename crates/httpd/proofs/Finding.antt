@@ -1,6 +1,6 @@
 -- The index of the file of a name.
-use Rattle.httpd.proofs.Prelude.{◌≡◌, ℕ, ◌<◌, ◌≤◌, Bool, true, false, List, [], ◌∷◌, Option, None, Some, length, ◌++◌, take, drop, refl}
-use Rattle.httpd.proofs.Prelude.{sym, ap, subst, ◌∙◌, arith, true≢false, option_map, position, get_or, cond, is_some, codes, if◌then◌else◌}
+use Rattle.httpd.proofs.Prelude.{◌≡◌, ℕ, ◌<◌, Bool, true, false, List, [], ◌∷◌, Option, None, Some, length, ◌++◌, take, drop, refl}
+use Rattle.httpd.proofs.Prelude.{sym, ap, subst, ◌∙◌, arith, true≢false, option_map, get_or, cond, is_some}
 use Rattle.httpd.proofs.Prelude.{slice_get, IfSome, position_or_len, bytes_eq, lt-ltb, list_any_at, position_or_len_is, position-Some}
 use Rattle.httpd.proofs.Prelude.{get_or_from_slice_get, slice_get-get_or, slice_get_within, bytes_eq-Decides, File, has_name}
 use Rattle.httpd.proofs.Prelude.{take-append_seam, AreApart, SiteContent, files_of, Wanted, hits_by, FileId, place_of}

@@ -1,8 +1,8 @@
 -- The text that a value of the web server can send, for each state that it represents.
 -- [add: piece] What a value of the web server can send in the piece.
 use Rattle.httpd.proofs.Prelude.{◌≡◌, ℕ, ◌+◌, ◌≤◌, Bool, true, false, List, [], ◌++◌, Option, None, Some, length, drop, refl, sym, ap}
-use Rattle.httpd.proofs.Prelude.{subst, ◌∙◌, arith, true≢false, append-nil, length-drop, ∥∥₁_elim, ∥∥₁_map, drop-drop, le_prop, Snapshot}
-use Rattle.httpd.proofs.Prelude.{AppState, text_left, IsRepresented, CanSupply, File, FileId, SiteContent, files_of, ScriptFunctions}
+use Rattle.httpd.proofs.Prelude.{subst, ◌∙◌, arith, true≢false, append-nil, length-drop, ∥∥₁_elim, ∥∥₁_map, drop-drop, le_prop}
+use Rattle.httpd.proofs.Prelude.{AppState, IsRepresented, CanSupply, File, FileId, SiteContent, files_of, ScriptFunctions}
 use Rattle.httpd.proofs.Prelude.{reply_pieces_by, text_by, web_spec_by, Pages, Stage, Thread, Head, Kind, Body, Inside, Making, End}
 use Rattle.httpd.proofs.Prelude.{FileReply, body, is_scripted, left_from, reply_by, Fits, IsBodyPlace, IsFound, IsInner, KeepsOn, IsPast}
 use Rattle.httpd.proofs.Prelude.{PagesRepresent, IsLeft, IsReplying, IsRepresentedIn, left_in, left_of_value}

@@ -5,7 +5,7 @@ use Rattle.httpd.proofs.Prelude.{drop-take, take-take, FoundOf, PieceOf, Text, I
 use Rattle.httpd.proofs.Prelude.{begins, is_directive_mark, is_inside_directive, line_end, before_cr, directive, piece_by, pieces_by}
 use Rattle.httpd.proofs.Prelude.{run_end, found-goes, pieces_by-step, run-rest, first_place-is, run-inside, file_named, ScriptPiece}
 use Rattle.httpd.proofs.Prelude.{bytes_or, piece_output, Plain, Made, Span, Body, FileReply, body, body_from, is_scripted, left_from, Fits}
-use Rattle.httpd.proofs.Prelude.{IsBodyPlace, IsInner, EndsCall, EndsDirective, EndsInclude, IsSpan, Sees}
+use Rattle.httpd.proofs.Prelude.{IsBodyPlace, EndsCall, EndsDirective, EndsInclude, IsSpan, Sees}
 use Rattle.httpd.proofs.Seeing.{IsFurther, sees_first, sees_prefix, span_along}
 
 -- what `next_piece` returns for a piece that it found

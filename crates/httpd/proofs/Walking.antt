@@ -1,13 +1,12 @@
 -- Going from piece to piece.
 -- [add: piece] The step to the next piece.
-use Rattle.httpd.proofs.Prelude.{◌≡◌, ℕ, ◌+◌, ◌-◌, ◌<◌, ◌≤◌, ◌==◌, ◌&&◌, min, Bool, true, false, List, [], ◌∷◌, ◌++◌, length, take, drop}
-use Rattle.httpd.proofs.Prelude.{nat_lt, refl, sym, ap, subst, ◌∙◌, arith, length-append, length-drop, true≢false, inl, inr, if◌then◌else◌}
+use Rattle.httpd.proofs.Prelude.{◌≡◌, ℕ, ◌+◌, ◌-◌, ◌<◌, ◌≤◌, ◌==◌, ◌&&◌, min, Bool, true, false, List, [], ◌++◌, length, take, drop}
+use Rattle.httpd.proofs.Prelude.{nat_lt, refl, sym, ap, subst, ◌∙◌, arith, length-append, length-drop, inl, inr, if◌then◌else◌}
 use Rattle.httpd.proofs.Prelude.{cases_eq, ne_eqb, lt-ltb, drop-drop, drop_at, Want, Nothing, Send, Close, File, ScriptFunctions}
 use Rattle.httpd.proofs.Prelude.{ScriptPiece, reach_by, text_by, stopped_text, stopped_end, Span, Look, Thread, Head, Kind, Body, Inside}
-use Rattle.httpd.proofs.Prelude.{Making, End, FileReply, body_from, left_from, Fits, moved, thread_place, KeepsOn, want_left, IsCallBefore}
+use Rattle.httpd.proofs.Prelude.{Making, End, FileReply, body_from, left_from, Fits, KeepsOn, want_left, IsCallBefore}
 use Rattle.httpd.proofs.Prelude.{IsText, IsPast, Leads, Sees, SeesBy, SeesCall, SeesText, span_text}
 use Rattle.httpd.specs.declared.span.Span.TheVariants as span
-use Rattle.httpd.proofs.Seeing.{keeps_in}
 
 -- ---- text past a place
 

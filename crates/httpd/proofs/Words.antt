@@ -1,8 +1,8 @@
 -- What a line holds of the words delivered.
-use Rattle.httpd.proofs.Prelude.{◌≡◌, ℕ, suc, ◌+◌, ◌-◌, ◌<◌, ◌≤◌, ◌||◌, ◌&&◌, Bool, true, false, not, cond, List, [], ◌∷◌, ◌++◌, length}
+use Rattle.httpd.proofs.Prelude.{◌≡◌, ℕ, suc, ◌+◌, ◌<◌, ◌≤◌, ◌||◌, ◌&&◌, Bool, true, false, not, cond, List, [], ◌∷◌, ◌++◌, length}
 use Rattle.httpd.proofs.Prelude.{take, drop, nat_lt, codes, refl, sym, ap, subst, ◌∙◌, inl, inr, arith, if◌then◌else◌, true≢false}
 use Rattle.httpd.proofs.Prelude.{length-append, length-take, append_assoc, nat_eq, before_first, list_any, starts_with, bytes_eq, cases_lt}
-use Rattle.httpd.proofs.Prelude.{lt-ltb, le-ltb, ltb-true, ltb-false, or_parts, leb-true, and_parts, drop_all, take_all, take-append-drop}
+use Rattle.httpd.proofs.Prelude.{ltb-true, ltb-false, drop_all, take_all, take-append-drop}
 use Rattle.httpd.proofs.Prelude.{list_any-append, bytes_eq-Decides, File, has_name, IsLoaded, SiteContent, files_of, Stops, Space}
 use Rattle.httpd.proofs.Prelude.{SpaceOrLine, Line, after, fresh, delivered, is_query_mark, is_stop, word_of, receives_joined, none_at_all}
 use Rattle.httpd.proofs.Prelude.{none_before, one_before, after_method, has_ended, method_of, name_in}

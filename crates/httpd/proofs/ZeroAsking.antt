@@ -1,7 +1,7 @@
 -- What a target requests, word by word.
 use Rattle.httpd.proofs.Prelude.{◌≡◌, ℕ, true, List, [], ◌∷◌, ◌++◌, Option, Some, refl, sym, ap, ◌∙◌, true≢false, codes, or_right}
-use Rattle.httpd.proofs.Prelude.{list_any-append, list_any, Space, SpaceOrLine, Line, is_stop, word_of, FileId, File, file_named, wanted}
-use Rattle.httpd.proofs.Prelude.{has_ended, after_method, name_in, target_of, ended_more, after_more, name_stays, IsFound, found_file}
+use Rattle.httpd.proofs.Prelude.{list_any-append, list_any, SpaceOrLine, Line, is_stop, word_of, FileId, File, file_named, wanted}
+use Rattle.httpd.proofs.Prelude.{has_ended, after_method, name_in, target_of, after_more, name_stays, IsFound, found_file}
 use Rattle.httpd.proofs.Prelude.{ReceivesMethod, ReceivesTarget, HasName, IsAsked}
 use Rattle.protosocket.specs.Line.{delivered as received_line}
 

@@ -1,12 +1,12 @@
 //! The web server on one connection, in less memory.
 
-ghost use Rattle.std.specs.Prelude.{◌≡◌, ℕ, List, [], ◌+◌, ◌++◌, false, length, min, take};
+ghost use Rattle.std.specs.Prelude.{◌≡◌, ℕ, List, ◌+◌, ◌++◌, false, length, min, take};
 ghost use Rattle.app_events.specs.Prelude.{AppState, IsRepresented, CanSupply, text_left};
-ghost use Rattle.app_events.specs.declared.now.Now.{Now};
 ghost use Rattle.file_tree.specs.Prelude.{SiteContent, files_of};
 ghost use Rattle.generators.specs.Prelude.{script_functions};
 ghost use Rattle.web_pages.specs.Prelude.{wanted, NotYet, hits_by, web_spec_by, web_want_by};
 ghost use Rattle.httpd.specs.Compact.{CompactRepresent, ReceivesWord, is_target_stage, polls_of, with_polls};
+ghost use Rattle.httpd.specs.HttpdRepresents.{Becomes, TakesNoCapture, before_input, hits_after};
 ghost use Rattle.httpd.specs.Reception.{IsDecided};
 ghost use Rattle.httpd.specs.Web.{IsCounted};
 
@@ -79,9 +79,8 @@ fn is_target_stage(stage: Stage) -> bool
 impl<R: CallRecord> CompactPages<R> {
     /// Returns the pages of a connection that has received nothing.
     pub fn fresh() -> CompactPages<R>
-        ensures { let represented = CompactRepresent (script_functions R.Function.calling R.output) R.text in
-            (site : SiteContent) (port : ℕ) → represented result site
-            (record { port = port; input = []; snapshots = []; acked = 0; polls = 0; own = 0 }) }
+        ensures { (site : SiteContent) (port : ℕ)
+            → CompactRepresent (script_functions R.Function.calling R.output) R.text result site (before_input port) }
     {
         CompactPages::Receiving {
             polls: 0,
@@ -115,12 +114,10 @@ impl<R: CallRecord> CompactPages<R> {
     /// Delivers the next bytes from the peer, and counts a hit of the file that they request.
     pub fn take_piece<B: Image>(&mut self, site: &SiteOf<B>, hits: &mut [u32], piece: &[u8])
         requires counted { IsCounted site.now hits.old }
-        ensures part { let represented = CompactRepresent (script_functions R.Function.calling R.output) R.text in
-            (p : AppState) → represented self.old site.now p
-            → represented self.new site.now (record p { input = p.input ++ piece.now; polls = 0 }) }
-        ensures hits { let represented = CompactRepresent (script_functions R.Function.calling R.output) R.text in
-            (p : AppState) → represented self.old site.now p
-            → hits.new ≡ hits_by (files_of site.now) hits.old (wanted p.input) (wanted (p.input ++ piece.now)) }
+        ensures part { Becomes (CompactRepresent (script_functions R.Function.calling R.output) R.text) site.now
+            (λ p. record p { input = p.input ++ piece.now; polls = 0 }) self.old self.new }
+        ensures hits { (p : AppState) → CompactRepresent (script_functions R.Function.calling R.output) R.text self.old site.now p
+            → hits.new ≡ hits_after (files_of site.now) p piece.now hits.old }
     {
         let stage = match self {
             CompactPages::Receiving {
@@ -161,8 +158,7 @@ impl<R: CallRecord> CompactPages<R> {
     pub fn is_due_at<B: Image>(&self, site: &SiteOf<B>) -> bool
         requires { IsRepresented (CompactRepresent (script_functions R.Function.calling R.output) R.text) self.now site.now }
         ensures not_due { let g = script_functions R.Function.calling R.output in
-            result ≡ false → (numbers : List ℕ) (p : AppState) (now : Now) → CompactRepresent g R.text self.now site.now p
-            → (web_spec_by g (files_of site.now)).prepare numbers p now ≡ p }
+            result ≡ false → TakesNoCapture (web_spec_by g (files_of site.now)) (CompactRepresent g R.text self.now site.now) }
     {
         match self {
             CompactPages::Replying { found, thread, .. } => match *thread {
@@ -178,8 +174,8 @@ impl<R: CallRecord> CompactPages<R> {
         requires counted { IsCounted site.now hits.now }
         requires part { IsRepresented (CompactRepresent (script_functions R.Function.calling R.output) R.text) self.old site.now }
         ensures { let g = script_functions R.Function.calling R.output in
-            (p : AppState) → CompactRepresent g R.text self.old site.now p → CompactRepresent g R.text self.new site.now
-            ((web_spec_by g (files_of site.now)).prepare (hits.now ++ R.own_numbers own.now) p now.now) }
+            Becomes (CompactRepresent g R.text) site.now
+            (λ p. (web_spec_by g (files_of site.now)).prepare (hits.now ++ R.own_numbers own.now) p now.now) self.old self.new }
     {
         if let CompactPages::Replying {
             found,
@@ -242,9 +238,8 @@ impl<R: CallRecord> CompactPages<R> {
     pub fn pass<B: Image>(&mut self, site: &SiteOf<B>, count: usize)
         requires { let g = script_functions R.Function.calling R.output in
             CanSupply (λ site. web_spec_by g (files_of site)) (CompactRepresent g R.text) self.old site.now count }
-        ensures { let represented = CompactRepresent (script_functions R.Function.calling R.output) R.text in
-            (p : AppState) → represented self.old site.now p
-            → represented self.new site.now (record p { acked = p.acked + count; polls = 0 }) }
+        ensures { Becomes (CompactRepresent (script_functions R.Function.calling R.output) R.text) site.now
+            (λ p. record p { acked = p.acked + count; polls = 0 }) self.old self.new }
     {
         match self {
             CompactPages::Receiving { polls, .. } => *polls = 0,
@@ -263,9 +258,8 @@ impl<R: CallRecord> CompactPages<R> {
 
     /// Counts a tick with nothing outstanding.
     pub fn wait(&mut self)
-        ensures { let represented = CompactRepresent (script_functions R.Function.calling R.output) R.text in
-            (site : SiteContent) (p : AppState) → represented self.old site p
-            → represented self.new site (record p { polls = min MOST_POLLS (p.polls + 1) }) }
+        ensures { (site : SiteContent) → Becomes (CompactRepresent (script_functions R.Function.calling R.output) R.text) site
+            (λ p. record p { polls = min MOST_POLLS (p.polls + 1) }) self.old self.new }
     {
         let count = MOST_POLLS.min(self.polls().saturating_add(1));
         self.set_polls(count);

@@ -1,4 +1,4 @@
-use Rattle.httpd.proofs.Prelude.{ap, sym, ◌∙◌, files_of, writes_by, zero_page}
+use Rattle.httpd.proofs.Prelude.{sym, files_of, writes_by}
 use Rattle.httpd.proofs.ZeroWriting.{asked_some}
 use Rattle.httpd.proofs.zero.page_zero.Goals as goal
 

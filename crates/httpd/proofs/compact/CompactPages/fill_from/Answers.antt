@@ -1,4 +1,4 @@
-use Rattle.httpd.proofs.Prelude.{◌≡◌, ◌≤◌, ℕ, List, [], ◌∷◌, length, take, sym, ap, refl, subst, arith, CanSupply, script_functions}
+use Rattle.httpd.proofs.Prelude.{◌≡◌, ℕ, List, [], ◌∷◌, length, take, sym, ap, refl, subst, arith, CanSupply, script_functions}
 use Rattle.httpd.proofs.Prelude.{CompactRepresent, pages_kept}
 use Rattle.httpd.specs.declared.compact.CompactPages.TheVariants as compact
 use Rattle.httpd.proofs.Compacting.{sent_enough, sent_fits, sent_found, sent_some, word_quiet}

@@ -1,4 +1,4 @@
-use Rattle.httpd.proofs.Prelude.{◌≡◌, ◌≤◌, ℕ, List, [], ◌∷◌, length, take, sym, ap, subst, ◌∙◌, arith, script_functions}
+use Rattle.httpd.proofs.Prelude.{◌≡◌, ℕ, List, [], ◌∷◌, length, take, sym, ap, arith, script_functions}
 use Rattle.httpd.specs.declared.stage.Stage.TheVariants as stage
 use Rattle.httpd.proofs.Representing.{can_supply, quiet_zero, reply_fits, reply_found, some_part}
 use Rattle.httpd.proofs.httpd.Pages.fill_from.Goals as goal
