@@ -10,5 +10,6 @@ pub mod WebDevices
 pub mod Answering
 pub mod ConstantValues
 pub mod Query
+pub mod ValueStates
 pub mod Lemmas
 pub mod Prelude

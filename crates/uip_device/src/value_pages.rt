@@ -2,11 +2,11 @@
 
 ghost use Rattle.std.specs.Prelude.{◌≡◌, ◌++◌, [], false, option_map, slice_index_or, true};
 ghost use Rattle.app_events.specs.Prelude.{AppState};
-ghost use Rattle.device_values.specs.Prelude.{record_text, words};
 ghost use Rattle.file_tree.specs.Prelude.{AreApart, SiteContent, files_of};
-ghost use Rattle.httpd.specs.Compact.{CompactRepresent};
-ghost use Rattle.web_pages.specs.Prelude.{hits_by, target_of, wanted};
-ghost use Rattle.uip_device.specs.Query.{kept_query, kept_text, place_wanted, query_after, query_in, text_after_mark};
+ghost use Rattle.httpd.specs.HttpdRepresents.{Becomes, hits_after};
+ghost use Rattle.web_pages.specs.Prelude.{target_of};
+ghost use Rattle.uip_device.specs.Query.{kept_query, kept_text, query_after, text_after_mark};
+ghost use Rattle.uip_device.specs.ValueStates.{ValuesRepresent};
 
 use crate::device_web::{DeviceWeb, FlashWeb, see_counted};
 use crate::query::{Query, query_text};
@@ -27,21 +27,19 @@ pub struct ValuePages {
 /// Delivers the next bytes from the peer, and counts a hit of the file that they request.
 fn take_piece(pages: &mut CompactPages<ValueCapture>, web: &mut FlashWeb, piece: &[u8])
     ensures site { web.new.site ≡ web.old.site }
-    ensures part { let shows = CompactRepresent words record_text in
-        (p : AppState) → shows pages.old web.old.site p
-        → shows pages.new web.old.site (record p { input = p.input ++ piece.now; polls = 0 }) }
-    ensures hits { let shows = CompactRepresent words record_text in
-        (p : AppState) → shows pages.old web.old.site p
-        → web.new.hits ≡ hits_by (files_of web.old.site) web.old.hits (wanted p.input) (wanted (p.input ++ piece.now)) }
+    ensures part { Becomes ValuesRepresent web.old.site
+        (λ p. record p { input = p.input ++ piece.now; polls = 0 }) pages.old pages.new }
+    ensures hits { (p : AppState) → ValuesRepresent pages.old web.old.site p
+        → web.new.hits ≡ hits_after (files_of web.old.site) p piece.now web.old.hits }
 {
     pages.take_piece(&web.site, &mut web.hits, piece);
 }
 
 /// Returns whether nothing was delivered on the connection.
 fn is_first(pages: &CompactPages<ValueCapture>) -> bool
-    ensures first { result ≡ true → (site : SiteContent) (p : AppState) → CompactRepresent words record_text pages.now site p
+    ensures first { result ≡ true → (site : SiteContent) (p : AppState) → ValuesRepresent pages.now site p
         → p.input ≡ [] }
-    ensures later { result ≡ false → (site : SiteContent) (p : AppState) → CompactRepresent words record_text pages.now site p
+    ensures later { result ≡ false → (site : SiteContent) (p : AppState) → ValuesRepresent pages.now site p
         → p.input ≡ [] → ⊥ }
 {
     match pages {
@@ -90,9 +88,8 @@ fn keep_for(query: &mut Query, found: Option<FileId>, web: &FlashWeb, request: &
 
 /// Keeps the query of a request that came in one piece, if it brought one.
 fn keep(query: &mut Query, pages: &CompactPages<ValueCapture>, web: &FlashWeb, request: &[u8])
-    ensures { (p : AppState) → CompactRepresent words record_text pages.now web.now.site p → p.input ≡ request.now
-        → query.new ≡ kept_query web.now.hits query.old (place_wanted (files_of web.now.site) (wanted request.now))
-        (query_in request.now) }
+    ensures { (p : AppState) → ValuesRepresent pages.now web.now.site p → p.input ≡ request.now
+        → query.new ≡ query_after (files_of web.now.site) web.now.hits query.old [] request.now }
 {
     see_apart(web);
     match pages {
@@ -106,15 +103,12 @@ fn keep(query: &mut Query, pages: &CompactPages<ValueCapture>, web: &FlashWeb, r
 fn receive(pages: &mut CompactPages<ValueCapture>, shared: &mut DeviceWeb, piece: &[u8])
     ensures site { shared.new.web.site ≡ shared.old.web.site }
     ensures values { shared.new.values.bytes ≡ shared.old.values.bytes }
-    ensures part { let shows = CompactRepresent words record_text in
-        (p : AppState) → shows pages.old shared.old.web.site p
-        → shows pages.new shared.old.web.site (record p { input = p.input ++ piece.now; polls = 0 }) }
-    ensures hits { let shows = CompactRepresent words record_text in
-        (p : AppState) → shows pages.old shared.old.web.site p → shared.new.web.hits
-        ≡ hits_by (files_of shared.old.web.site) shared.old.web.hits (wanted p.input) (wanted (p.input ++ piece.now)) }
-    ensures query { let shows = CompactRepresent words record_text in
-        (p : AppState) → shows pages.old shared.old.web.site p → shared.new.query
-        ≡ query_after (files_of shared.old.web.site) shared.new.web.hits shared.old.query p.input piece.now }
+    ensures part { Becomes ValuesRepresent shared.old.web.site
+        (λ p. record p { input = p.input ++ piece.now; polls = 0 }) pages.old pages.new }
+    ensures hits { (p : AppState) → ValuesRepresent pages.old shared.old.web.site p
+        → shared.new.web.hits ≡ hits_after (files_of shared.old.web.site) p piece.now shared.old.web.hits }
+    ensures query { (p : AppState) → ValuesRepresent pages.old shared.old.web.site p
+        → shared.new.query ≡ query_after (files_of shared.old.web.site) shared.new.web.hits shared.old.query p.input piece.now }
 {
     let first = is_first(pages);
     take_piece(pages, &mut shared.web, piece);
@@ -129,7 +123,7 @@ impl App for ValuePages {
     ghost use Rattle.web_pages.specs.Serving.{is_served};
     ghost use Rattle.web_pages.specs.WebSpec.{web_spec_by};
     ghost use Rattle.web_pages.specs.Lemmas.WebLaws.{web_lawful, web_starts};
-    ghost use Rattle.httpd.specs.Compact.{CompactRepresent, pages_kept};
+    ghost use Rattle.httpd.specs.Compact.{pages_kept};
     ghost use Rattle.httpd.specs.Lemmas.SameLeft.{same_left_by};
     ghost use Rattle.device_values.specs.Words.{record_text, words};
 
@@ -144,7 +138,7 @@ impl App for ValuePages {
 
     ghost app_spec = { λ site. web_spec_by words (files_of site) };
 
-    ghost represents = { λ a site part. CompactRepresent words record_text a.pages site part };
+    ghost represents = { λ a site part. ValuesRepresent a.pages site part };
 
     ghost served = { is_served };
 
@@ -199,7 +193,7 @@ impl App for ValuePages {
 
     fn ended(&mut self, _shared: &mut DeviceWeb, _how: Ending) {}
 
-    ghost lawful = { λ a site. web_lawful words (files_of site) (λ part. CompactRepresent words record_text a.pages site part) };
+    ghost lawful = { λ a site. web_lawful words (files_of site) (λ part. ValuesRepresent a.pages site part) };
 
     ghost starts = { λ site. web_starts words (files_of site) };
 
