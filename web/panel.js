@@ -102,7 +102,7 @@ export class DevicePanel {
       item.dataset.state = state;
       item.title = state === "CLOSED" ? `slot ${slot}: free` : `slot ${slot}: ${state}, ${peer.join(".")}:${port}`;
     });
-    this.facts.textContent = `${device.ticks} tick${device.ticks === 1 ? "" : "s"}, ${device.memory / 1024} KiB of WebAssembly memory (a Cortex-M4: 8 kB of RAM)`;
+    this.facts.textContent = `${device.ticks} tick${device.ticks === 1 ? "" : "s"}, ${device.memory / 1024} KiB of WebAssembly memory`;
   }
 }
 

@@ -244,7 +244,7 @@ inEach("values are sliders and fields, hits are lamps, the last query and the sl
   await tab.run(`self.held = node.session.host.connect()`);
   await tab.until(`document.querySelector(".slot[data-state=ESTABLISHED]")?.title.includes("10.0.0.2:" + self.held.port)`);
   assert.equal(await tab.run(`return document.querySelectorAll(".slot").length`), 10);
-  await tab.until(`/^\\d+ ticks?, \\d+ KiB of WebAssembly memory \\(a Cortex-M4: 8 kB of RAM\\)$/.test(document.querySelector("[data-panel=facts]").innerText)`);
+  await tab.until(`/^\\d+ ticks?, \\d+ KiB of WebAssembly memory$/.test(document.querySelector("[data-panel=facts]").innerText)`);
 });
 
 inEach("one's own site: files, an image, and a bad one", {}, async tab => {
@@ -382,8 +382,9 @@ test("the page and the one file have less than 250 kB", () => {
   const file = join(folder, "demo.html");
   execFileSync("python3", [join(web, "one_file.py"), file]);
   assert.ok(statSync(file).size < 250000, `${statSync(file).size}`);
-  const size = Math.round(statSync(join(web, "node.wasm")).size / 1000);
-  assert.ok(readFileSync(join(web, "index.html"), "utf8").includes(`as ${size}&nbsp;kB of WebAssembly`), `${size} kB`);
+  const size = statSync(join(web, "node.wasm")).size / 1000;
+  const most = Number(/as less than (\d+)&nbsp;kB of WebAssembly/.exec(readFileSync(join(web, "index.html"), "utf8"))?.[1]);
+  assert.ok(size < most && size > most - 5, `${size} kB, and less than ${most} by the page`);
 });
 
 for (const browser of browsers)
