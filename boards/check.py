@@ -1,11 +1,12 @@
 #!/usr/bin/env python3
 """Tries the node of browse.py by this machine's own TCP: pings, every file, the rate of the ticks, a flood, and that all is well after it.
 
-    python3 examples/browse.py .. -- python3 boards/check.py [FOLDER] [--two]
+    python3 examples/browse.py .. -- python3 boards/check.py [FOLDER] [--two | --secret]
 
 FOLDER is the site (examples/site). The flood is 30 echo requests of 1,400 bytes at once: more than any ring holds, in both directions. With
 --two it tries two clients at once instead, on a line with a rate (browse.py --baud): the node must have counted no damaged datagram. The
-ticks and the count are read from /stats.shtml. The status is 0 if all is as it should be, else 1.
+ticks and the count are read from /stats.shtml. With --secret it looks at the first sequence number of the node, which is small if it has no
+secret, and prints it. The status is 0 if all is as it should be, else 1.
 """
 import contextlib
 import os
@@ -25,6 +26,7 @@ NODE = fetch.SERVER[0]
 FLOOD, FLOOD_LEN = 30, 1400
 FIRST_AT_START, FIRST_OF_FLOOD = 100, 1000    # numbers of requests; those of the pings begin at 0
 ECHO_REPLY, ECHO = 0, 8
+SYN = 2                               # of the flags of TCP
 DAMAGED = (3, 4, 6, 8, 14, 17, 18)    # the counters of uip.h that grow if a byte of a datagram was lost
 TICKS_FOR = 5                         # seconds
 
@@ -124,8 +126,20 @@ def try_two(trial, folder):
     trial.see(ends == [0, 0] and damaged == 0, f"two clients at once: statuses {ends}, {damaged} damaged datagrams, {counters[19]} sent again")
 
 
+def try_secret(trial):
+    """Without a secret the node's numbers are counts from its start (RFC 793, the ISN)."""
+    with socket.socket(socket.AF_INET, socket.SOCK_RAW, socket.IPPROTO_TCP) as seen, socket.create_connection((NODE, 80), timeout=40):
+        seen.settimeout(5)
+        while True:
+            segment = seen.recv(2048)[20:]
+            if segment[13] & SYN:
+                break
+    number = struct.unpack_from(">I", segment, 4)[0]
+    trial.see(number > 0xFFFF, f"the first sequence number is {number:#010x}")
+
+
 def main():
-    words = [word for word in sys.argv[1:] if word != "--two"]
+    words = [word for word in sys.argv[1:] if word not in ("--two", "--secret")]
     if "--help" in words or "-h" in words or len(words) > 1:
         sys.exit(__doc__)
     folder = words[0] if words else os.path.join(EXAMPLES, "site")
@@ -133,6 +147,8 @@ def main():
     try:
         if "--two" in sys.argv:
             try_two(trial, folder)
+        elif "--secret" in sys.argv:
+            try_secret(trial)
         else:
             with socket.socket(socket.AF_INET, socket.SOCK_RAW, socket.IPPROTO_ICMP) as link:
                 link.setsockopt(socket.SOL_SOCKET, socket.SO_SNDBUF, 1 << 20)

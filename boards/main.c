@@ -6,6 +6,7 @@
 #include "heap.c"
 
 void board_start(void);
+void protect(void);                            // gives the device a secret, if the processor has random bytes
 
 uip_device device = UIP_INIT;
 
@@ -13,5 +14,7 @@ int main(void) {
     static const unsigned char own[4] = {10, 0, 0, 1};
     uip_opened opened = uip_open(&device, site_image, SITE_IMAGE_LEN, own);
     board_start();
-    return (int)(opened.status == UIP_OK ? serve() : opened.status);
+    if (opened.status != UIP_OK) return (int)opened.status;
+    protect();
+    return (int)serve();
 }

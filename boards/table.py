@@ -4,19 +4,19 @@
     python3 boards/table.py            builds each firmware, and writes the table
     python3 boards/table.py check      status 1 if the table is not what it would write
 
-Flash is what the firmware takes there without the site's image. Memory is .data and .bss with the heap, and the stack. The depth of the stack is
-computed from the frames and calls that gcc lists (-fcallgraph-info=su), with one interrupt: the linker refuses a firmware whose parts do not fit.
+Flash is what the firmware takes there without the site's image. Memory is .data and .bss with the heap, and the stack, whose depth stack.py computes.
 """
 import os
-import re
 import subprocess
 import sys
 
+sys.dont_write_bytecode = True
 HERE = os.path.dirname(os.path.abspath(__file__))
+sys.path.insert(0, HERE)
+from stack import Calls  # noqa: E402
+
 README = os.path.join(HERE, "README.md")
 BEGIN, END = "<!-- table.py writes this table -->\n", "<!-- to here -->\n"
-RECURSIVE = {"slot_guard_choice_slots_of": 11}    # it calls itself for each of the ten slots, and once after the last
-INTERRUPT_FRAME = {"arm": 36, "riscv32": 0}    # what the processor itself saves, with its alignment
 
 
 def words_of(board):
@@ -29,53 +29,16 @@ def symbols(tool, elf):
     return {fields[2]: int(fields[0], 16) for fields in map(str.split, lines) if len(fields) == 3}
 
 
-class Calls:
-    """The frames and calls of a firmware, as gcc lists them."""
-
-    def __init__(self, folder):
-        self.frames, self.calls = {}, {}
-        for name in os.listdir(folder):
-            if name.endswith(".ci"):
-                with open(os.path.join(folder, name)) as file:
-                    self.read(file.read())
-
-    def read(self, text):
-        for title, label in re.findall(r'^node: \{ title: "([^"]*)" label: "([^"]*)"', text, re.M):
-            size = re.search(r"\\n(\d+) bytes", label)
-            if size:
-                self.frames[title] = int(size[1])
-        for source, target in re.findall(r'^edge: \{ sourcename: "([^"]*)" targetname: "([^"]*)"', text, re.M):
-            deep = RECURSIVE.get(re.sub(r"_\d+$", "", source.rsplit(":", 1)[-1].split(".")[0])) if source == target else None
-            if deep:
-                self.frames[source] *= deep
-            else:
-                self.calls.setdefault(source, set()).add(target)
-
-    def depth(self, name, above=()):
-        if name in above:
-            sys.exit(f"table.py: {name} calls itself")
-        below = [self.depth(other, (*above, name)) for other in self.calls.get(name, ())]
-        return self.frames.get(name, 0) + max(below, default=0)
-
-    def greatest(self, processor):
-        """That of the program with one interrupt above it."""
-        interrupts = [self.depth(name) for name in self.frames if name.rsplit(":", 1)[-1].startswith("interrupt_")]
-        return self.depth("main") + max(interrupts, default=0) + INTERRUPT_FRAME[processor]
-
-
 def row(board, loop):
     words = words_of(board)
     wanted = loop or words.get("LOOP", "step")
     out = os.path.join(HERE, "out", "table", f"{board}-{wanted}")
-    subprocess.run(["make", "-s", "-C", HERE, f"BOARD={board}", f"LOOP={wanted}", f"out={out}", "MORE=-fcallgraph-info=su"],
-                   check=True, stdout=subprocess.DEVNULL)
+    subprocess.run(["make", "-s", "-C", HERE, f"BOARD={board}", f"LOOP={wanted}", f"out={out}"], check=True, stdout=subprocess.DEVNULL)
     tool = {"arm": "arm-none-eabi-", "riscv32": "riscv64-unknown-elf-"}[words["PROCESSOR"]]
     at = symbols(tool, os.path.join(out, "firmware.elf"))
     flash = at["__flash_end"] - at["__flash_start"] - os.path.getsize(os.path.join(out, "site.img"))
     static, stack = at["__bss_end"] - at["__data_start"], at["__stack_top"] - at["__stack_low"]
     deepest = Calls(out).greatest(words["PROCESSOR"])
-    if deepest > stack:
-        print(f"table.py: {board} ({wanted}): the stack has {stack} bytes, and may need {deepest}", file=sys.stderr)
     size = int(words["RAM_LEN"].rstrip("K")) * 1024
     ring = "" if wanted == "ether" else words["RING"]
     return f"| {board} | {wanted} | {ring} | {flash:,} | {static + stack:,} of {size:,} | {deepest:,} |\n"

@@ -6,12 +6,13 @@
 #
 #         full      a flood with a ring that is full at once: the port of mps2-an386 is then not deaf
 #         data      the start code gives variables their initial values
-#         small     the linker refuses a firmware that does not fit
+#         small     a firmware that does not fit is refused, and one that may need more stack than it has
 #         demo      the demo of the micro:bit
+#         secret    the micro:bit begins with another sequence number at each start
 #
 # Needs what the Makefile needs, qemu-system-arm or qemu-system-misc (riscv32), `ip` and /dev/net/tun. QEMU names another qemu, and WORDS has further
 # words for make. planted_test.py shows that these tests find what they are for.
-case "$1" in -h|--help) sed -n '2,14s/^# \{0,1\}//p' "$0"; exit 0;; esac
+case "$1" in -h|--help) sed -n '2,15s/^# \{0,1\}//p' "$0"; exit 0;; esac
 here=$(cd "$(dirname "$0")" && pwd)
 wrong=0
 value() { sed -n "s/^$1=//p" "$here/$board/board.mk"; }
@@ -56,7 +57,16 @@ small() {
     board=stm32vldiscovery loop=''
     if ! told=$(make_it out="$here/out/small"); then fail "$name: $told"
     elif make_it RING=2048 out="$here/out/small" >/dev/null; then fail "$name: the linker took more memory than there is"
-    else echo "passed: the linker refuses a ring of 2,048 bytes in 8 kB"; fi
+    elif make_it STACK=2048 out="$here/out/small" >/dev/null; then fail "$name: make took less stack than the firmware may need"
+    else echo "passed: a ring of 2,048 bytes and a stack of 2,048 bytes are refused in 8 kB"; fi
+}
+
+secret() {
+    board=microbit loop='' found=''
+    for _ in 1 2; do try --secret out="$here/out/secret" || return; done
+    # shellcheck disable=SC2046,SC2086
+    set -- $(echo "$found" | tr ';' '\n' | sed 's/.* //' | sort -u)
+    if [ $# = 2 ]; then echo "passed: the micro:bit has a secret: $1 and $2"; else fail "$name: the same number at both starts$found"; fi
 }
 
 # Its buttons are pressed, its page and its matrix are looked at.
@@ -70,8 +80,8 @@ demo() {
 }
 
 # shellcheck disable=SC2046
-[ $# -gt 0 ] || set -- $(cd "$here" && for it in */board.mk */ether.c; do echo "$it"; done | sed 's|/board.mk||; s|/ether.c|-ether|' | sort) full data small demo
+[ $# -gt 0 ] || set -- $(cd "$here" && for it in */board.mk */ether.c; do echo "$it"; done | sed 's|/board.mk||; s|/ether.c|-ether|' | sort) full data small secret demo
 for name; do
-    case "$name" in full|data|small|demo) $name;; *) whole;; esac
+    case "$name" in full|data|small|secret|demo) $name;; *) whole;; esac
 done
 exit $wrong

@@ -3,6 +3,7 @@
 #define CLOCK 12000000
 #define LINE 20
 #define LINES [16 + LINE] = interrupt_port
+#define HAS_RANDOM
 #include "../cortex_m.h"
 #define UART 0x40034000
 #include "../pl011.h"
@@ -13,6 +14,7 @@ enum { CRYSTAL = 0x40024000, CRYSTAL_STATE = CRYSTAL + 4, CRYSTAL_DELAY = CRYSTA
 enum { CLOCKS = 0x40008000, REFERENCE = CLOCKS + 0x30, REFERENCE_IS = CLOCKS + 0x38, BY_CRYSTAL = 2, SYSTEM = CLOCKS + 0x3c,
        PERIPHERALS = CLOCKS + 0x48, PERIPHERALS_ON = 1 << 11 };
 enum { PINS = 0x40014000, PIN_UART = 2, PIN_GPIO = 5, LED = 25, OUT_SET = 0xd0000014, OUT_CLEAR = 0xd0000018, OUTPUT_SET = 0xd0000024 };
+enum { RING_OSCILLATOR_BIT = 0x4006001c, DRAWS = 32 };
 #define PIN_CONTROL(pin) (PINS + 8 * (pin) + 4)
 
 static void start(void) {
@@ -32,6 +34,13 @@ static void start(void) {
     REG(OUTPUT_SET) = 1u << LED;
     port_on();
     ENABLE_LINE(LINE);
+}
+
+// Of the ring oscillator, which is not the clock here. Its datasheet promises no security (section 2.17.5), so each bit is of many draws.
+static int random_byte(void) {
+    unsigned byte = 0;
+    for (unsigned draw = 0; draw < 8 * DRAWS; draw++) byte = (byte << 1 & 0xff) ^ byte >> 7 ^ (REG(RING_OSCILLATOR_BIT) & 1);
+    return (int)byte;
 }
 
 void lamp(int is_on) { REG(is_on ? OUT_SET : OUT_CLEAR) = 1u << LED; }
