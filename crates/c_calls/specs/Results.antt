@@ -1,6 +1,7 @@
 -- The results of calls from C.
-use Rattle.std.specs.Prelude.{◌≡◌, ◌⊎◌, Bool, false, length, List, None, Option, Some, take, true, ℕ}
+use Rattle.std.specs.Prelude.{◌≡◌, ◌⊎◌, ◌==◌, if◌then◌else◌, Bool, false, length, List, None, Option, Some, take, true, ℕ}
 use Rattle.uip_wire.specs.Prelude.{written}
+use Rattle.guarded_node.specs.declared.guard.GuardCounts.{GuardCounts}
 use Rattle.c_calls.specs.declared.received.UipReceived.{UipReceived}
 use Rattle.c_calls.specs.declared.result.UipResult.{UipResult}
 use Rattle.c_calls.specs.declared.status.TheConstants.{BAD_ARGUMENT, NO_DEVICE, NOT_READY, OK, OUTPUT_PENDING, WRONG_LINK}
@@ -33,6 +34,10 @@ left_flag (Some at) = 1
 abbrev pub flag_of : Bool → ℕ
 flag_of true = 1
 flag_of false = 0
+
+-- A count of a guard, by its number for C: what it dropped, or what it gave up.
+abbrev pub guard_count : ℕ → GuardCounts → ℕ
+guard_count number counts = if number == 1 then counts.dropped else counts.displaced
 
 -- What was read of a connection of a node, of whose abstract nodes `Of` speaks: whether the connection is ready, its port, and its pending
 -- bytes, of which the area has as many as it has room for.

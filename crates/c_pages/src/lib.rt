@@ -1,13 +1,11 @@
 //! What the libraries for C with web pages have in common: what opening a site reports, and what is read of a node.
 #![tactic(auto)]
 
-mod number;
 mod open_device;
 mod opened;
 mod query;
 mod row;
 
-pub use number::UipNumber;
 pub use opened::{UipOpened, boxed, plain};
 pub use query::UipQuery;
 pub use row::UipRow;

@@ -5,6 +5,7 @@ use Rattle.frame_device.proofs.Prelude.{datagram_in, Addr, Node, Event, Reply, A
 use Rattle.frame_device.proofs.Prelude.{Own, MediumSpec, acts_among, all_written, StationEvent, OfMedium, OfNode, Station, station_after}
 use Rattle.frame_device.proofs.Prelude.{station_after_all, output, reply_text, IsHere, IsNode, FrameSpec, GuardedLink, IsSilent, as_medium}
 use Rattle.frame_device.proofs.Prelude.{input_events, lensed, wire_medium, HasRun, IsSentOver, TakesEvents, guarded, leaving, Key}
+use Rattle.frame_device.proofs.Prelude.{GuardCounts, Rules, counts_by_inputs}
 use Rattle.serve_loop.proofs.AddrLaws.{step-addr}
 use Rattle.uip_node.specs.Prelude.{Ran, joined}
 
@@ -24,6 +25,12 @@ module _ {C : Type 0} (w : FrameSpec C) (acts : List C) (wire : List ℕ → Lis
   some_sent [] sent packet text some e is = absurd (false≢true (sym (ap (λ o. is_some o) is) ∙ some))
   some_sent (reply ∷ []) sent packet text some e is = e ∙ ap (λ d. w.text acts d) is.datagram ∙ sym (append-nil (w.text acts (wire (reply_bytes own reply))))
   some_sent (reply ∷ another ∷ more) sent packet text some e is = absurd is
+
+-- the guard counts nothing at an event of the link's own
+pub silent_counts : {C : Type 0} (w : FrameSpec C) (rules : Rules) (served : ℕ → Bool) (n : AbstractNode) (cs : List (MediumInput C))
+    (counts : GuardCounts) → IsSilent w cs → counts ≡ counts_by_inputs rules served n cs counts
+silent_counts w rules served n cs counts (inl e) = ap (λ l. counts_by_inputs rules served n l counts) (sym e)
+silent_counts w rules served n cs counts (inr quiet) = ap (λ l. counts_by_inputs rules served n l counts) (sym quiet.1)
 
 -- the address stays
 pub run_addr : (m : AppSpec) (served : ℕ → Bool) (events : List Event) (n : AbstractNode) → (run m served events n).node.addr ≡ n.addr

@@ -13,12 +13,16 @@ pub use Rattle.frame_device.specs.Prelude.{ether_frames, frame_moves_of, frame_s
 pub use Rattle.frame_device.specs.Prelude.{handed_of, hop_of, interface_of, is_on_link, lensed, masked, next_hop, no_address, on_line}
 pub use Rattle.frame_device.specs.Prelude.{output_of_call, station_after_frame_call, station_after_move, station_after_moves}
 pub use Rattle.frame_device.specs.Prelude.{station_events_by, station_events_of_move, stations_at, wire_medium, with_value}
+pub use Rattle.frame_device.specs.Prelude.{counts_after_moves, counts_by_call, counts_by_inputs, counts_by_move}
 pub use Rattle.frame_device.specs.declared.device.FrameDevice.{FrameDevice}
 pub use Rattle.frame_device.specs.declared.network.Network.{Network}
 pub use Rattle.guarded_node.proofs.Resets.{unanswered}
+pub use Rattle.guarded_node.specs.Counts.{fresh_guard}
 pub use Rattle.guarded_node.specs.Guarded.{by_verdict, guarded, reset_by}
 pub use Rattle.guarded_node.specs.Runs.{HasRun, IsSentOver, TakesEvents}
 pub use Rattle.guarded_node.specs.Wire.{leaving}
+pub use Rattle.guarded_node.specs.declared.guard.Guard.{Guard}
+pub use Rattle.guarded_node.specs.declared.guard.GuardCounts.{GuardCounts}
 pub use Rattle.guarded_node.specs.declared.guard.Rules.{Rules}
 pub use Rattle.guarded_node.specs.declared.verdict.Verdict.{Verdict}
 pub use Rattle.guarded_node.specs.declared.verdict.Verdict.TheVariants.{Displace, Drop, Pass}

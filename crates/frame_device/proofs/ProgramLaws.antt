@@ -12,7 +12,8 @@ use Rattle.frame_device.proofs.Prelude.{by_verdict, ether_frames, false, true, g
 use Rattle.frame_device.proofs.Prelude.{initial_station, HandsOutFrame, IsFrameOfBytes, FrameTrace, NewestInEachSlot}
 use Rattle.frame_device.specs.ProgramCalls.{AnsweredBy, DidInTurn, GoHome, OfEach, Program, after_program_call, after_program_calls}
 use Rattle.frame_device.specs.ProgramCalls.{before_program_call, program_calls, program_frame, program_stations, frames_made}
-use Rattle.frame_device.specs.ProgramCalls.{program_frames}
+use Rattle.frame_device.specs.ProgramCalls.{counts_after_program_calls, counts_by_program_call, program_frames}
+use Rattle.frame_device.proofs.Prelude.{GuardCounts}
 use Rattle.frame_device.specs.ProgramKeeping.{ProgramConforms}
 use Rattle.frame_device.proofs.HomeLaws.{call_home}
 use Rattle.frame_device.proofs.KeepLaws.{Reached, call_hands_out, call_of_line, change_reached, first_reached, node_after, run_reached}
@@ -51,19 +52,25 @@ module _ {Call C : Type 0} (program : Program Call C) (m : AppSpec) (served : �
 
   -- ---- exactness, from what one call does
 
-  module _ {K : Type 0} (Here : K → Station C → Type 0) (P : Call → Station C → Type 0) (Did : Call → K → K → List ℕ → Type 0)
-      (one : (call : Call) (s : Station C) (a b : K) (handed : List ℕ) → Here a s → Did call a b handed → Here b (After call s)
-      × (handed ≡ program_frame program m served w own call s) × P call s) where
-    pub record Exact (all : List (AnsweredBy Call)) (s : Station C) (c : K) : Type 0 where
+  abbrev Counts : Call → Station C → GuardCounts → GuardCounts
+  Counts call s counts = counts_by_program_call program m served w own call s counts
+
+  module _ {K : Type 0} (Here : K → Station C → GuardCounts → Type 0) (P : Call → Station C → Type 0)
+      (Did : Call → K → K → List ℕ → Type 0)
+      (one : (call : Call) (s : Station C) (counts : GuardCounts) (a b : K) (handed : List ℕ) → Here a s counts → Did call a b handed
+      → Here b (After call s) (Counts call s counts) × (handed ≡ program_frame program m served w own call s) × P call s) where
+    pub record Exact (all : List (AnsweredBy Call)) (s : Station C) (counts : GuardCounts) (c : K) : Type 0 where
       pub frames : map (λ it. it.handed) all ≡ program_frames program m served w own (program_calls all) s
       pub each : Each P (program_calls all) s
       pub here : Here c (after_program_calls program m served w own (program_calls all) s)
+          (counts_after_program_calls program m served w own (program_calls all) s counts)
 
-    pub all_exact : (all : List (AnsweredBy Call)) (s : Station C) (a c : K) → Here a s → DidInTurn Did all a c → Exact all s c
-    all_exact [] s a c here same = record { frames = refl; each = tt; here = subst (λ (k : K). Here k s) same here }
-    all_exact (it ∷ all) s a c here more =
-        let first = one it.call s a more.0 it.handed here more.1 in
-        let later = all_exact all (After it.call s) more.0 c first.0 more.2 in
+    pub all_exact : (all : List (AnsweredBy Call)) (s : Station C) (counts : GuardCounts) (a c : K) → Here a s counts → DidInTurn Did all a c
+        → Exact all s counts c
+    all_exact [] s counts a c here same = record { frames = refl; each = tt; here = subst (λ (k : K). Here k s counts) same here }
+    all_exact (it ∷ all) s counts a c here more =
+        let first = one it.call s counts a more.0 it.handed here more.1 in
+        let later = all_exact all (After it.call s) (Counts it.call s counts) more.0 c first.0 more.2 in
         record {
           frames = ap (λ (l : List ℕ). l ∷ map (λ x. x.handed) all) first.1
               ∙ ap (λ (ls : List (List ℕ)). program_frame program m served w own it.call s ∷ ls) later.frames;

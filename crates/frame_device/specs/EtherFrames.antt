@@ -1,5 +1,5 @@
 -- Ethernet with ARP over whole frames, and how it compares with a line, on which each frame follows its length.
-use Rattle.std.specs.Prelude.{◌≡◌, ℕ, Bool, true, if◌then◌else◌, List, [], ◌∷◌, length, Some, ⊤}
+use Rattle.std.specs.Prelude.{◌≡◌, ℕ, Bool, true, if◌then◌else◌, List, [], ◌∷◌, length, Option, option_map, Some, ⊤}
 use Rattle.app_events.specs.Prelude.{AppSpec}
 use Rattle.uip_wire.specs.Prelude.{word_at}
 use Rattle.uip_wire.specs.declared.addr.Addr.{Addr}
@@ -8,8 +8,12 @@ use Rattle.ethernet_arp.specs.Prelude.{ether_medium, is_taken, Host, arp_reply, 
 use Rattle.ethernet_arp.specs.Prelude.{wrapped_via, Act, Asked, Ticked, host_of, known, target_in}
 use Rattle.frame_device.specs.FrameSpecs.{FrameSpec, GuardedLink, as_medium, guarded_link, lensed}
 use Rattle.guarded_node.specs.declared.guard.Rules.{Rules}
+use Rattle.sip_hash.specs.SipHash.{key_of}
+use Rattle.sip_hash.specs.declared.key.Key.{Key}
+use Rattle.ethernet_arp.specs.declared.mac.Mac.{Mac}
 use Rattle.frame_device.specs.declared.ether.Ethernet.{Ethernet}
-use Rattle.frame_device.specs.NextHop.{Interface, IsOneLink, hop_of, next_hop}
+use Rattle.frame_device.specs.declared.network.Network.{Network}
+use Rattle.frame_device.specs.NextHop.{Interface, IsOneLink, hop_of, interface_at, next_hop}
 use Rattle.frame_device.specs.FrameCalls.{FrameCall, FrameMove, Writing, frame_sent, station_after_move, station_events_by}
 
 abbrev pub interface_of : Ethernet → Interface
@@ -31,6 +35,19 @@ ether_frames k = record {
 -- Ethernet with a guard of these rules.
 abbrev pub guarded_ether : Interface → Rules → GuardedLink Act
 guarded_ether k rules = guarded_link (ether_frames k) rules
+
+-- How a program opens a device on Ethernet: its addresses, its network, and the secret of its guard, if it gives one.
+pub record Setup : Type 0 where
+  pub own : Addr
+  pub mac : Mac
+  pub network : Network
+  pub secret : Option (List ℕ)
+
+abbrev pub interface_by : Setup → Interface
+interface_by setup = interface_at setup.own setup.mac setup.network
+
+abbrev pub key_by : Setup → Option Key
+key_by setup = option_map key_of setup.secret
 
 -- a frame as it is on a line; nothing if there is none
 abbrev pub on_line : List ℕ → List ℕ

@@ -1,12 +1,16 @@
 -- What a caller does to a device on a link of frames, and what is written.
-use Rattle.std.specs.Prelude.{◌≡◌, ℕ, Bool, false, flat_map, List, [], ◌∷◌, ◌++◌, map, Some}
+use Rattle.std.specs.Prelude.{◌≡◌, ℕ, Bool, false, flat_map, List, [], ◌∷◌, ◌++◌, map, None, Some}
 use Rattle.app_events.specs.Prelude.{AppSpec}
 use Rattle.app_events.specs.declared.app.App.{Ghosts}
 use Rattle.uip_wire.specs.declared.addr.Addr.{Addr}
 use Rattle.uip_node.specs.Prelude.{AbstractNode, Periodic}
 use Rattle.uip_node.specs.Events.Event.{Overlong as OverlongFrame}
 use Rattle.line_medium.specs.Prelude.{MediumInput, Datagram, Overlong, Own}
+use Rattle.guarded_node.specs.Arrivals.{Received, counted_at}
+use Rattle.guarded_node.specs.Counts.{fresh_guard}
 use Rattle.guarded_node.specs.Guarded.{guarded}
+use Rattle.guarded_node.specs.declared.guard.Guard.{Guard}
+use Rattle.guarded_node.specs.declared.guard.GuardCounts.{GuardCounts}
 use Rattle.guarded_node.specs.declared.guard.Rules.{Rules}
 use Rattle.sip_hash.specs.declared.key.Key.{Key}
 use Rattle.serve_loop.specs.Prelude.{StationEvent, OfMedium, OfNode, Station, station_after_all}
@@ -35,6 +39,21 @@ station_events_by w served n (InputsFrame frame) = flat_map (input_events w.rule
 station_events_by w served n (CallsSlot slot) = map OfMedium (acts_before w.link slot) ++ OfNode (Periodic slot) ∷ []
 station_events_by w served n DoesNothing = []
 
+-- What the guard counts for what a frame decodes to, and for a call at this node.
+abbrev pub counts_by_input : {A : Type 0} → Rules → (ℕ → Bool) → AbstractNode → MediumInput A → GuardCounts → GuardCounts
+counts_by_input rules served n (Datagram bytes) counts = counted_at rules served n (Received bytes) counts
+counts_by_input rules served n Overlong counts = counts
+counts_by_input rules served n (Own a) counts = counts
+
+abbrev pub counts_by_inputs : {A : Type 0} → Rules → (ℕ → Bool) → AbstractNode → List (MediumInput A) → GuardCounts → GuardCounts
+counts_by_inputs rules served n [] counts = counts
+counts_by_inputs rules served n (it ∷ more) counts = counts_by_inputs rules served n more (counts_by_input rules served n it counts)
+
+abbrev pub counts_by_call : {A : Type 0} → GuardedLink A → (ℕ → Bool) → AbstractNode → FrameCall → GuardCounts → GuardCounts
+counts_by_call w served n (InputsFrame frame) counts = counts_by_inputs w.rules served n (w.link.decodes frame) counts
+counts_by_call w served n (CallsSlot slot) counts = counts
+counts_by_call w served n DoesNothing counts = counts
+
 -- the device represents this station: its node represents the node there, and its link had these events
 abbrev pub RepresentsStation : {A S M : Type 0} (g : Ghosts A S) (h : FramesGhosts M) (k : h.Config) → AppSpec → Addr → FrameDevice A M S
     → Station h.Act → Type 0
@@ -49,7 +68,7 @@ output_of_call m served w own call s = output m served (wire_medium w) own (stat
 
 -- A call was answered by these bytes: for each station that the device represented, it represents the one after the events of the call,
 -- and the output for these, a frame or nothing, was written. The configuration of its application, as a site, stays, and so do the rules
--- of its guard.
+-- of its guard, which counted what it did at that station.
 pub record AnswersFrame {A S M : Type 0} (g : Ghosts A S) (h : FramesGhosts M) (call : FrameCall) (old new : FrameDevice A M S)
     (handed : List ℕ) : Type 0 where
   pub kept : g.config new.node.shared ≡ g.config old.node.shared
@@ -57,18 +76,31 @@ pub record AnswersFrame {A S M : Type 0} (g : Ghosts A S) (h : FramesGhosts M) (
   pub each : (k : h.Config) (m : AppSpec) (own : Addr) (s : Station h.Act) → RepresentsStation g h k m own old s
       → RepresentsStation g h k m own new (station_after_frame_call m g.served (guarded_link (h.spec k) old.guard.rules) call s)
       × (handed ≡ output_of_call m g.served (guarded_link (h.spec k) old.guard.rules) own call s)
+  pub counts : (k : h.Config) (m : AppSpec) (own : Addr) (s : Station h.Act) → RepresentsStation g h k m own old s
+      → new.guard.counts ≡ counts_by_call (guarded_link (h.spec k) old.guard.rules) g.served s.node call old.guard.counts
 
--- A device at the address `own` of which nothing was called yet, with a guard of these rules.
+-- A device at the address `own` of which nothing was called yet, with a guard of these rules that has done nothing.
 pub record IsFreshFrameDevice {A S M : Type 0} (g : Ghosts A S) (h : FramesGhosts M)
     (k : h.Config) (m : AppSpec) (numbers : List ℕ) (rules : Rules) (own : Addr)
     (d : FrameDevice A M S) : Type 0 where
   pub represented : RepresentsStation g h k m own d (initial_station own numbers)
   pub rules_are : d.guard.rules ≡ rules
+  pub counts_are : d.guard.counts ≡ (fresh_guard rules).counts
   pub unused : d.is_used ≡ false
+
+-- A guard with these rules and counts.
+abbrev pub guard_with : Rules → GuardCounts → Guard
+guard_with rules counts = record { rules = rules; counts = counts }
 
 -- The device, if its guard has this secret.
 abbrev pub with_secret : {A S M : Type 0} → Key → FrameDevice A M S → FrameDevice A M S
 with_secret key d = record d { guard = record d.guard { rules = record d.guard.rules { key = Some key } } }
+
+-- Nothing was received or called, and the guard had no secret. It has this one now, and nothing else changed.
+pub record GainsSecret {A S M : Type 0} (key : Key) (old new : FrameDevice A M S) : Type 0 where
+  pub unused : old.is_used ≡ false
+  pub none : old.guard.rules.key ≡ None
+  pub set : new ≡ with_secret key old
 
 -- ---- calls in turn, and values that are set between them
 
@@ -98,23 +130,36 @@ station_after_move m served w gives move s =
 
 abbrev pub station_after_moves : {A : Type 0} → AppSpec → (ℕ → Bool) → GuardedLink A → Writing → List FrameMove → Station A → Station A
 station_after_moves m served w gives [] s = s
-station_after_moves m served w gives (move ∷ moves) s = station_after_moves m served w gives moves (station_after_move m served w gives move s)
+station_after_moves m served w gives (move ∷ moves) s =
+    station_after_moves m served w gives moves (station_after_move m served w gives move s)
+
+-- what the guard counted after a move, and after moves
+abbrev pub counts_by_move : {A : Type 0} → GuardedLink A → (ℕ → Bool) → FrameMove → Station A → GuardCounts → GuardCounts
+counts_by_move w served (Makes call) s counts = counts_by_call w served s.node call counts
+counts_by_move w served (Gives number text) s counts = counts
+
+abbrev pub counts_after_moves : {A : Type 0} → AppSpec → (ℕ → Bool) → GuardedLink A → Writing → List FrameMove → Station A → GuardCounts
+    → GuardCounts
+counts_after_moves m served w gives [] s counts = counts
+counts_after_moves m served w gives (move ∷ moves) s counts =
+    counts_after_moves m served w gives moves (station_after_move m served w gives move s) (counts_by_move w served move s counts)
 
 -- the frame that is sent at a move and at each of these, or no bytes
 abbrev pub frame_sent : {A : Type 0} → AppSpec → (ℕ → Bool) → GuardedLink A → Writing → Addr → FrameMove → Station A → List ℕ
 frame_sent m served w gives own move s =
     output m served (wire_medium w) own (station_events_of_move w served (with_value gives move s).node move) (with_value gives move s)
 
-abbrev pub frames_sent : {A : Type 0} → AppSpec → (ℕ → Bool) → GuardedLink A → Writing → Addr → List FrameMove → Station A → List (List ℕ)
+abbrev pub frames_sent : {A : Type 0} → AppSpec → (ℕ → Bool) → GuardedLink A → Writing → Addr → List FrameMove → Station A
+    → List (List ℕ)
 frames_sent m served w gives own [] s = []
 frames_sent m served w gives own (move ∷ moves) s =
     frame_sent m served w gives own move s ∷ frames_sent m served w gives own moves (station_after_move m served w gives move s)
 
--- The numbers of the application were changed so between calls.
+-- The numbers of the application were changed so between calls. The guard stays.
 pub record ChangesNumbers {A S M : Type 0} (g : Ghosts A S) (h : FramesGhosts M) (change : List ℕ → List ℕ)
     (old new : FrameDevice A M S) : Type 0 where
   pub kept : g.config new.node.shared ≡ g.config old.node.shared
-  pub rules : new.guard.rules ≡ old.guard.rules
+  pub guard : new.guard ≡ old.guard
   pub each : (k : h.Config) (m : AppSpec) (own : Addr) (s : Station h.Act) → RepresentsStation g h k m own old s
       → RepresentsStation g h k m own new (with_numbers change s)
 
@@ -144,7 +189,8 @@ AnswersAllFrames {A = A} {S = S} {M = M} g h gives (it ∷ all) a c =
 
 -- This holds of every fresh device with its guarded link, and of any moves in turn that it answers.
 abbrev pub FromFresh : {A S M : Type 0} (g : Ghosts A S) (h : FramesGhosts M)
-    → (h.Config → GuardedLink h.Act → AppSpec → Writing → List ℕ → Addr → List AnsweredFrame → FrameDevice A M S → FrameDevice A M S → Type 0)
+    → (h.Config → GuardedLink h.Act → AppSpec → Writing → List ℕ → Addr → List AnsweredFrame → FrameDevice A M S → FrameDevice A M S
+    → Type 0)
     → Type 0
 FromFresh {A = A} {S = S} {M = M} g h P =
     (k : h.Config) (m : AppSpec) (gives : Writing) (numbers : List ℕ) (rules : Rules) (own : Addr) (all : List AnsweredFrame)

@@ -1,5 +1,6 @@
 -- The specification of a link that carries datagrams in whole frames.
-use Rattle.std.specs.Prelude.{◌≡◌, ◌≤◌, ◌+◌, ◌⊎◌, ◌==◌, ◌&&◌, if◌then◌else◌, ◌∷◌, [], All, drop, length, List, nat_le, nat_lt, take, Option, ℕ, ⊤}
+use Rattle.std.specs.Prelude.{◌≡◌, ◌≤◌, ◌+◌, ◌⊎◌, ◌==◌, ◌&&◌, if◌then◌else◌, ◌∷◌, [], All, drop, length, List, nat_le, nat_lt, take}
+use Rattle.std.specs.Prelude.{Option, ℕ, ⊤}
 use Rattle.std.proofs.lemmas.List.Elements.{All-cons, All-nil}
 use Rattle.app_events.specs.Prelude.{IsByte}
 use Rattle.uip_node.proofs.Basics.{choose}

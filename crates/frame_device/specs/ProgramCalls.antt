@@ -5,9 +5,11 @@ use Rattle.app_events.specs.Prelude.{AppSpec}
 use Rattle.ethernet_arp.specs.Prelude.{Act}
 use Rattle.uip_wire.specs.declared.addr.Addr.{Addr}
 use Rattle.serve_loop.specs.Prelude.{Station}
+use Rattle.guarded_node.specs.declared.guard.GuardCounts.{GuardCounts}
 use Rattle.guarded_node.specs.declared.guard.Rules.{Rules}
 use Rattle.frame_device.specs.EtherFrames.{IsHome, guarded_ether}
-use Rattle.frame_device.specs.FrameCalls.{AnsweredFrame, FrameCall, Makes, output_of_call, station_after_frame_call, with_numbers}
+use Rattle.frame_device.specs.FrameCalls.{AnsweredFrame, FrameCall, Makes, counts_by_call, output_of_call, station_after_frame_call}
+use Rattle.frame_device.specs.FrameCalls.{with_numbers}
 use Rattle.frame_device.specs.FrameSpecs.{GuardedLink}
 use Rattle.frame_device.specs.NextHop.{Interface}
 
@@ -47,6 +49,15 @@ module _ {Call C : Type 0} (program : Program Call C) (m : AppSpec) (served : �
   abbrev pub after_program_calls : List Call → Station C → Station C
   after_program_calls [] s = s
   after_program_calls (call ∷ calls) s = after_program_calls calls (after_program_call call s)
+
+  -- what the guard counted after a call, and after calls
+  abbrev pub counts_by_program_call : Call → Station C → GuardCounts → GuardCounts
+  counts_by_program_call call s counts = counts_by_call w served (before_program_call call s).node (program.makes call) counts
+
+  abbrev pub counts_after_program_calls : List Call → Station C → GuardCounts → GuardCounts
+  counts_after_program_calls [] s counts = counts
+  counts_after_program_calls (call ∷ calls) s counts =
+      counts_after_program_calls calls (after_program_call call s) (counts_by_program_call call s counts)
 
   -- the frame that is sent at a call, or no bytes, and at each of these
   abbrev pub program_frame : Call → Station C → List ℕ

@@ -35,8 +35,8 @@ fn write_sent<A: App, M: Frames>(
     requires room { LARGEST_OUT ≤ length out.old }
     ensures long { length out.new ≡ length out.old }
     ensures within { result ≤ length out.new }
-    ensures text { (k : M.Config) (acts : List M.Act) (wire : List ℕ → List ℕ) (own : Address) (replies : List Reply) → M.did frames.now k acts
-        → IsSentOver wire own replies sent node.now.packet
+    ensures text { (k : M.Config) (acts : List M.Act) (wire : List ℕ → List ℕ) (own : Address) (replies : List Reply)
+        → M.did frames.now k acts → IsSentOver wire own replies sent node.now.packet
         → take result out.new ≡ flat_map (λ reply. (M.spec k).text acts (wire (reply_bytes own reply))) replies }
 {
     match sent {
@@ -58,7 +58,7 @@ fn begin_tick<M: Frames>(frames: &mut M, slot: usize)
 
 impl<A: App, M: Frames> FrameDevice<A, M> {
     ghost use Rattle.std.specs.Prelude.{◌≡◌, ◌<◌, ◌≤◌, ◌||◌, IfOk, false, is_some, length, not, take, true};
-    ghost use Rattle.frame_device.specs.FrameCalls.{AnswersFrame, InputsFrame, CallsSlot, IsFreshFrameDevice, with_secret};
+    ghost use Rattle.frame_device.specs.FrameCalls.{AnswersFrame, InputsFrame, CallsSlot, GainsSecret, IsFreshFrameDevice};
     ghost use Rattle.guarded_node.specs.Counts.{initial_guard};
 
     /// Makes a device at an address. The connections of its application share a value. Its guard has no secret; `pages` is the port at
@@ -87,7 +87,7 @@ impl<A: App, M: Frames> FrameDevice<A, M> {
     /// changes nothing.
     pub fn protect(&mut self, key: Key) -> bool
         ensures may { result ≡ not (self.old.is_used || is_some self.old.guard.rules.key) }
-        ensures set { result ≡ true → self.new ≡ with_secret key self.old }
+        ensures set { result ≡ true → GainsSecret key self.old self.new }
         ensures refused { result ≡ false → self.new ≡ self.old }
     {
         !self.is_used && self.guard.protect(key)

@@ -8,7 +8,9 @@ ghost use Rattle.uip_wire.specs.declared.addr.Addr.{Addr};
 ghost use Rattle.frame_device.specs.declared.device.FrameDevice.{FrameDevice as AnyDevice};
 ghost use Rattle.frame_device.specs.Prelude.{FramesGoHome, SentAsOnLine, AnsweredFrame, AnswersAllFrames, FromFresh};
 ghost use Rattle.frame_device.specs.Prelude.{IsFreshFrameDevice, RepresentsStation, Writing, frames_sent, handed_of};
-ghost use Rattle.frame_device.specs.Prelude.{frame_moves_of, guarded_link, station_after_moves, stations_at, IsFrameOfBytes, FramesConform, KeepsU32};
+ghost use Rattle.frame_device.specs.Prelude.{FramesConform, IsFrameOfBytes, KeepsU32, counts_after_moves, frame_moves_of, guarded_link};
+ghost use Rattle.frame_device.specs.Prelude.{station_after_moves, stations_at};
+ghost use Rattle.guarded_node.specs.Counts.{fresh_guard};
 ghost use Rattle.guarded_node.specs.declared.guard.Rules.{Rules};
 ghost use Rattle.serve_loop.specs.Prelude.{initial_station};
 
@@ -17,7 +19,7 @@ use app_events::App;
 
 /// Holds for any calls of a fresh device in turn, and any values that are set between them. Each call writes exactly the frame that the
 /// initial node with its guard and its link send for its events, or none. The device represents the node and link after all moves. The
-/// configuration of its application stays, and so do the rules of its guard.
+/// configuration of its application stays, and so do the rules of its guard, which counted what it did at these stations.
 pub fn frame_calls_are_exact<A: App, M: Frames>()
     ensures frames { FromFresh A.App M.Frames (λ k w m gives numbers own all old new.
         handed_of all ≡ frames_sent m A.served w gives own (frame_moves_of all) (initial_station own numbers)) }
@@ -26,6 +28,9 @@ pub fn frame_calls_are_exact<A: App, M: Frames>()
         (station_after_moves m A.served w gives (frame_moves_of all) (initial_station own numbers))) }
     ensures kept { FromFresh A.App M.Frames (λ k w m gives numbers own all old new.
         (A.config new.node.shared ≡ A.config old.node.shared) × (new.guard.rules ≡ w.rules)) }
+    ensures counted { FromFresh A.App M.Frames (λ k w m gives numbers own all old new.
+        new.guard.counts ≡ counts_after_moves m A.served w gives (frame_moves_of all) (initial_station own numbers)
+        (fresh_guard w.rules).counts) }
 {}
 
 /// Holds for any frames of bytes and any other calls of a fresh device in turn, and any values that are set between them, if its

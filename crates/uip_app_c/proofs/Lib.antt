@@ -1,4 +1,3 @@
-pub mod Taking
 pub mod Words
 pub mod AppLaws
 pub mod AppKeepLaws

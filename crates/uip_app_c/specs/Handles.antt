@@ -1,6 +1,6 @@
 -- What a call does to what a handle keeps.
-use Rattle.std.specs.Prelude.{◌≡◌, ◌||◌, [], Bool, false, is_some, List, None, Option, option_map, Some, true, ℕ}
-use Rattle.c_calls.specs.Prelude.{HasOne, ReadsConnection, StillHas}
+use Rattle.std.specs.Prelude.{◌≡◌, ◌||◌, [], Bool, false, is_some, List, None, Option, Some, true, ℕ}
+use Rattle.c_calls.specs.Prelude.{HasOne, ReadsConnection, StillHas, guard_count}
 use Rattle.c_calls.specs.declared.received.UipReceived.{UipReceived}
 use Rattle.uip_wire.specs.declared.addr.Addr.{Addr}
 use Rattle.ethernet_arp.specs.declared.mac.Mac.{Mac}
@@ -8,7 +8,7 @@ use Rattle.sip_hash.specs.SipHash.{key_of}
 use Rattle.sip_hash.specs.declared.key.Key.{Key}
 use Rattle.guarded_node.specs.declared.guard.Rules.{Rules}
 use Rattle.frame_device.specs.declared.network.Network.{Network}
-use Rattle.frame_device.specs.Prelude.{AnswersFrame, CallsSlot, FrameCall, IsFreshFrameDevice, interface_at, with_secret}
+use Rattle.frame_device.specs.Prelude.{AnswersFrame, CallsSlot, FrameCall, GainsSecret, IsFreshFrameDevice, interface_at}
 use Rattle.frame_device.specs.contracts.ether.EthernetFrames.TheImpl.{ghosts as ether_link}
 use Rattle.own_app.specs.contracts.app.OwnAppApp.TheImpl.{ghosts}
 use Rattle.own_app.specs.Prelude.{no_message, numbers_of, own_spec}
@@ -19,9 +19,6 @@ use Rattle.uip_app_c.specs.Ports.{ports_of}
 -- The rules of the guard under this key, if there is one. No connection is given up because its host holds many: all are the program's.
 abbrev pub own_rules : Option Key → Rules
 own_rules key = record { key = key; pages = None }
-
-abbrev pub key_by : Option (List ℕ) → Option Key
-key_by secret = option_map key_of secret
 
 -- It represents the initial node at this address, and a link with this hardware address, on this network, that has learned nothing. No
 -- port is open, and the guard has no secret.
@@ -36,19 +33,19 @@ OpensOwn own mac mask router old new =
     × HasOne OwnEther (IsFreshOwnEther (record { 0 = own }) (record { 0 = mac })
     (record { mask = record { 0 = mask }; router = record { 0 = router } })) new
 
--- Its guard has this secret now, and nothing else changed.
-abbrev pub HasSecret : List ℕ → OwnEther → OwnEther → Type 0
-HasSecret secret old new = new ≡ with_secret (key_of secret) old
-
--- There was a device and there still is one, whose guard was given this secret; or none was given, and nothing changed.
+-- There was a device and there still is one, whose guard gained this secret; or none was given, and nothing changed.
 abbrev pub ProtectsOwn : Option (List ℕ) → Kept → Kept → Type 0
 ProtectsOwn None old new = new ≡ old
-ProtectsOwn (Some secret) old new = StillHas Some (λ before after. HasSecret secret before after) old new
+ProtectsOwn (Some secret) old new = StillHas Some (λ before after. GainsSecret (key_of secret) before after) old new
 
 -- There is a device for which a secret comes too late.
 abbrev pub is_late : Kept → Bool
 is_late None = false
 is_late (Some d) = d.is_used || is_some d.guard.rules.key
+
+-- There is a device, and this is the count of its guard with this number.
+abbrev pub ReadsGuard : ℕ → ℕ → Kept → Type 0
+ReadsGuard number read kept = HasOne OwnEther (λ d. read ≡ guard_count number d.guard.counts) kept
 
 -- There was a device and there still is one, and the call wrote this frame, or no bytes.
 abbrev pub OwnAnswers : FrameCall → Kept → Kept → List ℕ → Type 0
@@ -64,7 +61,7 @@ pub record OwnWrites (slot taken : ℕ) (text : List ℕ) (last : Bool) (old new
   pub is : new ≡ Some after
   pub could : OfNode before.node (λ n. can_write_in slot taken n ≡ true)
   pub link : between.frames ≡ before.frames
-  pub guarded : between.guard.rules ≡ before.guard.rules
+  pub guarded : between.guard ≡ before.guard
   pub writes : WritesMessage slot taken text last before.node between.node
   pub answers : AnswersFrame ghosts ether_link (CallsSlot slot) between after handed
 

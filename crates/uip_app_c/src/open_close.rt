@@ -1,16 +1,15 @@
 //! Opening and closing a device.
 
-ghost use Rattle.std.specs.Prelude.{◌≡◌, ◌==◌, ◌⊎◌, ◌||◌, IfOk, None, Some, false, is_some, not, true};
-ghost use Rattle.c_calls.specs.Prelude.{ClosesHandle, IsCallStatus};
-ghost use Rattle.uip_app_c.specs.Prelude.{HasSecret, IsFreshOwnEther, OpensOwn, ProtectsOwn, is_late};
+ghost use Rattle.std.specs.Prelude.{◌≡◌, ◌==◌, ◌⊎◌, IfOk, None, is_some};
+ghost use Rattle.c_calls.specs.Prelude.{ClosesHandle};
+ghost use Rattle.uip_app_c.specs.Prelude.{IsFreshOwnEther, OpensOwn};
 
 use crate::handle::{AppDevice, put_in, take_out};
 use crate::held::OwnEther;
-use c_calls::{BAD_ARGUMENT, HAS_DEVICE, NO_DEVICE, NO_MEMORY, OK, free};
+use c_calls::{HAS_DEVICE, NO_MEMORY, OK, free};
 use ethernet_arp::Mac;
 use frame_device::{Ethernet, FrameDevice, Network};
 use own_app::OwnShared;
-use sip_hash::Key;
 use std::alloc::Global;
 use uip_edge::NoMemory;
 use uip_wire::Addr;
@@ -60,33 +59,6 @@ pub extern "C" fn uip_app_open(
     };
     put_in(device, opened);
     OK
-}
-
-/// Gives the guard of a device a secret. Returns false and changes nothing if that is too late.
-fn protect(device: &mut OwnEther, secret: &[u8; 16]) -> bool
-    ensures may { result ≡ not (device.old.is_used || is_some device.old.guard.rules.key) }
-    ensures set { result ≡ true → HasSecret secret.now device.old device.new }
-    ensures refused { result ≡ false → device.new ≡ device.old }
-{
-    device.protect(Key::new(secret))
-}
-
-/// Gives the guard of a device a secret of 16 random bytes, before the first frame and the first periodic call. It is refused later, and
-/// if there is a secret.
-#[unsafe(no_mangle)]
-pub extern "C" fn uip_app_protect(alloc: Global, device: &mut AppDevice, secret: &[u8; 16]) -> u32
-    ensures known { IsCallStatus result }
-    ensures fine { result ≡ OK → ProtectsOwn (Some secret.now) device.old.held.device device.new.held.device }
-    ensures no_device { result ≡ NO_DEVICE → device.old.held.device ≡ None }
-    ensures late { (result == BAD_ARGUMENT) ≡ is_late device.old.held.device }
-    ensures refused { (result ≡ OK → ⊥) → device.new.held.device ≡ device.old.held.device }
-{
-    let Some(mut opened) = take_out(alloc, device) else {
-        return NO_DEVICE;
-    };
-    let is_set = protect(&mut opened, secret);
-    put_in(device, opened);
-    if is_set { OK } else { BAD_ARGUMENT }
 }
 
 /// Closes the handle's device and frees its memory. Its connections end without a segment.

@@ -5,10 +5,13 @@ ghost use Rattle.std.specs.Prelude.{◌≡◌, None};
 use crate::calls::{
     uip_app_input_frame_area, uip_app_listen, uip_app_periodic_frame, uip_app_read, uip_app_write,
 };
+use crate::guard_calls::{uip_app_guard_counter, uip_app_protect};
 use crate::handle::AppDevice;
 use crate::held::Held;
-use crate::open_close::{uip_app_close, uip_app_open, uip_app_protect};
-use c_calls::{BAD_ARGUMENT, HAS_DEVICE, NO_DEVICE, NOT_READY, OK, UipReceived, UipResult};
+use crate::open_close::{uip_app_close, uip_app_open};
+use c_calls::{
+    BAD_ARGUMENT, HAS_DEVICE, NO_DEVICE, NOT_READY, OK, UipNumber, UipReceived, UipResult,
+};
 use frame_device::LARGEST_OUT;
 use frame_device::worked::{
     ARP_REPLY, ARP_REQUEST, FAR_PING, FAR_REPLY, ROUTER_REPLY, ROUTER_REQUEST,
@@ -116,6 +119,30 @@ fn a_secret_is_set_once_and_in_time(rt: HostRuntime) {
     close(&rt, alloc, used);
 }
 
+/// A SYN from the own address of the node: one less in its source, so one more in each checksum (RFC 1071).
+#[test]
+fn what_the_guard_drops_is_counted(rt: HostRuntime) {
+    let alloc = rt.alloc();
+    let mut device = opened(&rt, alloc);
+    assert_eq!(rt; uip_app_listen(alloc, &mut device, 5025), OK);
+    let mut frame = [0; LARGEST_OUT];
+    frame[..54].copy_from_slice(&SYN);
+    frame[25] = 206;
+    frame[29] = 1;
+    frame[51] = 87;
+    assert_eq!(rt;
+        uip_app_input_frame_area(alloc, &mut device, &mut frame, 54),
+        UipResult::done(54, 0, None)
+    );
+    for (number, count) in [(1, 1), (2, 0)] {
+        assert_eq!(rt;
+            uip_app_guard_counter(alloc, &mut device, number),
+            UipNumber::read(count)
+        );
+    }
+    close(&rt, alloc, device);
+}
+
 #[test]
 fn a_handle_without_a_device_refuses_all(rt: HostRuntime) {
     let alloc = rt.alloc();
@@ -124,6 +151,10 @@ fn a_handle_without_a_device_refuses_all(rt: HostRuntime) {
     assert_eq!(rt;
         uip_app_read(alloc, &mut device, 0, &mut []).status,
         NO_DEVICE
+    );
+    assert_eq!(rt;
+        uip_app_guard_counter(alloc, &mut device, 1),
+        UipNumber::unread(NO_DEVICE)
     );
     assert_eq!(rt; uip_app_close(alloc, &mut device), NO_DEVICE);
     discard(device);
@@ -222,6 +253,12 @@ fn a_bad_argument_is_refused(rt: HostRuntime) {
     );
     for port in [0, 80, 65536] {
         assert_eq!(rt; uip_app_listen(alloc, &mut device, port), BAD_ARGUMENT);
+    }
+    for number in [0, 3] {
+        assert_eq!(rt;
+            uip_app_guard_counter(alloc, &mut device, number),
+            UipNumber::unread(BAD_ARGUMENT)
+        );
     }
     close(&rt, alloc, device);
 }

@@ -1,19 +1,19 @@
 -- Calls on a handle, one after the other, keep the promise.
-use Rattle.uip_both_c.proofs.Prelude.{Key, Option, ProtectsBoth, both_rules, key_by, All, ◌≡◌, ◌∙◌, ℕ, ◌+◌, ◌<◌, Bool, true, false}
-use Rattle.uip_both_c.proofs.Prelude.{if◌then◌else◌, List, [], ◌∷◌, ◌++◌, length, map, sym, ap, subst, arith, length-map, AppSpec, IsAddr}
-use Rattle.uip_both_c.proofs.Prelude.{IsPrefixOf, IsU32, Snapshot, others_stay, own_u32, pair_u32, second_back, with_own_u32, change_own}
-use Rattle.uip_both_c.proofs.Prelude.{own_numbers, Act, Mac, files_of, words, words_bytes, words_short, CallsSlot, DoesNothing, FrameCall}
-use Rattle.uip_both_c.proofs.Prelude.{GuardedLink, InputsFrame, IsFrameOfBytes, Makes, acts_before, ether_brings_bytes, interface_at}
-use Rattle.uip_both_c.proofs.Prelude.{station_events_by, Network, DidInTurn, program_calls, IsOfLine, at_end, call_few, each_by, each_with}
-use Rattle.uip_both_c.proofs.Prelude.{events_of_call, program_goes_home, node_of_call, periodic_events, program_conforms, PlainMessage}
-use Rattle.uip_both_c.proofs.Prelude.{is_own_port, messages_text, no_message, numbers_of, own_output_model, own_spec, write_message}
-use Rattle.uip_both_c.proofs.Prelude.{HasCaptured, next_message_at, own_connection, with_change, Station, File, AnsweredCall, BothCall}
-use Rattle.uip_both_c.proofs.Prelude.{BothCallsConform, BothTraceConforms, Calls, Captures, CouldWrite, Gives, IsCallOfBytes, Kept, Listens}
-use Rattle.uip_both_c.proofs.Prelude.{OfEachCall, OpensBoth, Writes, both_model, both_program, both_spec, call_at, change_by}
-use Rattle.uip_both_c.proofs.Prelude.{connection_after, first_both_numbers, first_station, is_both_port, is_dropped, link_of, own_in}
-use Rattle.uip_both_c.proofs.Prelude.{ports_after_call, station_after_call, station_after_calls, text_in_call, undropped, choose}
-use Rattle.uip_both_c.proofs.Prelude.{first_numbers, value_pages, value_spec, write_value, first_words, written_words, AbstractNode, Event}
-use Rattle.uip_both_c.proofs.Prelude.{Periodic, connection_in, run, Addr}
+use Rattle.uip_both_c.proofs.Prelude.{AbstractNode, Act, All, AnsweredCall, AppSpec, Bool, BothCall, BothCallsConform, BothTraceConforms}
+use Rattle.uip_both_c.proofs.Prelude.{Calls, CallsSlot, Captures, CouldWrite, DidInTurn, DoesNothing, Event, File, FrameCall, Gives}
+use Rattle.uip_both_c.proofs.Prelude.{GuardedLink, HasCaptured, InputsFrame, IsAddr, IsCallOfBytes, IsFrameOfBytes, IsOfLine, IsPrefixOf}
+use Rattle.uip_both_c.proofs.Prelude.{IsU32, Kept, List, Listens, Makes, OfEachCall, OpensBoth, Periodic, PlainMessage, ProtectsBoth}
+use Rattle.uip_both_c.proofs.Prelude.{Setup, Snapshot, Station, Writes, [], acts_before, ap, arith, at_end, both_model, both_program}
+use Rattle.uip_both_c.proofs.Prelude.{both_rules, both_spec, call_at, call_few, change_by, change_own, choose, connection_after}
+use Rattle.uip_both_c.proofs.Prelude.{connection_in, each_by, each_with, ether_brings_bytes, events_of_call, false, files_of}
+use Rattle.uip_both_c.proofs.Prelude.{first_both_numbers, first_numbers, first_station, first_words, if◌then◌else◌, interface_by}
+use Rattle.uip_both_c.proofs.Prelude.{is_both_port, is_dropped, is_own_port, key_by, length, length-map, link_of, map, messages_text}
+use Rattle.uip_both_c.proofs.Prelude.{next_message_at, no_message, node_of_call, numbers_of, others_stay, own_connection, own_in}
+use Rattle.uip_both_c.proofs.Prelude.{own_numbers, own_output_model, own_spec, own_u32, pair_u32, periodic_events, ports_after_call}
+use Rattle.uip_both_c.proofs.Prelude.{program_calls, program_conforms, program_goes_home, run, second_back, station_after_call}
+use Rattle.uip_both_c.proofs.Prelude.{station_after_calls, station_events_by, subst, sym, text_in_call, true, undropped, value_pages}
+use Rattle.uip_both_c.proofs.Prelude.{value_spec, with_change, with_own_u32, words, words_bytes, words_short, write_message, write_value}
+use Rattle.uip_both_c.proofs.Prelude.{written_words, ℕ, ◌++◌, ◌+◌, ◌<◌, ◌∙◌, ◌∷◌, ◌≡◌}
 use Rattle.std.proofs.lemmas.List.Elements.{All-cons, All-head, All-nil, All-tail}
 use Rattle.app_pair.specs.PairSpec.{CanBePaired, own_snapshot}
 use Rattle.line_laws.specs.Prelude.{events_among}
@@ -40,9 +40,9 @@ use Rattle.uip_node.proofs.Steadiness.{steady_of}
 use Rattle.web_pages.proofs.ByteLaws.{made_of_bytes_by}
 use Rattle.web_pages.proofs.PageLaws.{keeps_page_laws_by}
 
-module _ (files : List File) (own : Addr) (mac : Mac) (network : Network) (key : Option Key) where
+module _ (files : List File) (setup : Setup) where
   abbrev link : GuardedLink Act
-  link = link_of own mac network key
+  link = link_of setup
 
   abbrev spec : AppSpec
   spec = both_spec files
@@ -51,7 +51,7 @@ module _ (files : List File) (own : Addr) (mac : Mac) (network : Network) (key :
   pages_pair = pages_can_pair words files
 
   abbrev after : BothCall → Station Act → Station Act
-  after call s = station_after_call files own mac network key call s
+  after call s = station_after_call files setup call s
 
   abbrev FollowsAt : Station Act → Type 0
   FollowsAt s = Follows is_own_port second_part second_numbers spec (in_pair (value_spec files) pages_pair) s.node
@@ -59,9 +59,9 @@ module _ (files : List File) (own : Addr) (mac : Mac) (network : Network) (key :
   follows_after : (call : BothCall) (s : Station Act) → FollowsAt s → FollowsAt (after call s)
   follows_after call s f =
       subst (λ (n : AbstractNode). Follows is_own_port second_part second_numbers spec (in_pair (value_spec files) pages_pair) n)
-      (sym (node_of_call both_program spec is_both_port link own call s))
+      (sym (node_of_call both_program spec is_both_port link setup.own call s))
       (run_follows is_own_port second_part second_numbers spec (in_pair (value_spec files) pages_pair) is_both_port
-      (events_of_call both_program spec is_both_port link own call s) (with_change (change_by call s) s.node)
+      (events_of_call both_program spec is_both_port link setup.own call s) (with_change (change_by call s) s.node)
       (change_follows is_own_port second_part second_numbers spec (in_pair (value_spec files) pages_pair) (change_by call s) s.node f))
 
   -- ---- of one call
@@ -75,7 +75,7 @@ module _ (files : List File) (own : Addr) (mac : Mac) (network : Network) (key :
   frame_of_bytes (CallsSlot slot) is = tt
   frame_of_bytes DoesNothing is = tt
 
-  of_line : (call : BothCall) (s : Station Act) → FollowsAt s → IsGood call s → IsOfLine both_program spec is_both_port link own call s
+  of_line : (call : BothCall) (s : Station Act) → FollowsAt s → IsGood call s → IsOfLine both_program spec is_both_port link setup.own call s
   of_line (Calls call) s f good = (frame_of_bytes call good.0, λ numbers h. h)
   of_line (Listens port) s f good = (tt, λ numbers h. h)
   of_line (Writes slot taken text last) s f good = (
@@ -96,11 +96,11 @@ module _ (files : List File) (own : Addr) (mac : Mac) (network : Network) (key :
       → (after (Writes slot taken text last) s).node
       ≡ (run spec is_both_port (Periodic slot ∷ []) (with_change (change_by (Writes slot taken text last) s) s.node)).node
   called slot taken text last s =
-      node_of_call both_program spec is_both_port link own (Writes slot taken text last) s
+      node_of_call both_program spec is_both_port link setup.own (Writes slot taken text last) s
       ∙ ap (λ (events : List Event). (run spec is_both_port events (with_change (change_by (Writes slot taken text last) s) s.node)).node)
       (periodic_events (acts_before link.link slot) slot)
 
-  captures_one : (call : BothCall) (s : Station Act) → FollowsAt s → IsGood call s → Captures files own mac network key call s
+  captures_one : (call : BothCall) (s : Station Act) → FollowsAt s → IsGood call s → Captures files setup call s
   captures_one (Calls call) s f good = tt
   captures_one (Listens port) s f good = tt
   captures_one (Writes slot taken text last) s f good =
@@ -122,7 +122,7 @@ module _ (files : List File) (own : Addr) (mac : Mac) (network : Network) (key :
       → HoldsNext (run spec is_both_port (events_among (station_events_by link is_both_port n call)) n).node count slot (text ++ [])
   call_leaves call n f count slot text low h =
       few_leave is_own_port second_part second_numbers spec (in_pair (value_spec files) pages_pair) is_both_port
-      (events_among (station_events_by link is_both_port n call)) (call_few (interface_at own mac network) (both_rules key) is_both_port n
+      (events_among (station_events_by link is_both_port n call)) (call_few (interface_by setup) (both_rules (key_by setup)) is_both_port n
       call) n f count slot text low h
 
   one_leaves : (call : BothCall) (s : Station Act) → FollowsAt s → IsGood call s → (count slot : ℕ) (text : List ℕ) → count + 1 < 4294967296
@@ -130,25 +130,26 @@ module _ (files : List File) (own : Addr) (mac : Mac) (network : Network) (key :
       → HoldsNext (after call s).node count slot (text ++ text_in_call slot call)
   one_leaves (Calls call) s f good count slot before low h =
       subst (λ (n : AbstractNode). HoldsNext n count slot (before ++ []))
-      (sym (node_of_call both_program spec is_both_port link own (Calls call) s)) (call_leaves call s.node f count slot before low h)
+      (sym (node_of_call both_program spec is_both_port link setup.own (Calls call) s)) (call_leaves call s.node f count slot before low h)
   one_leaves (Listens port) s f good count slot before low h =
       subst (λ (n : AbstractNode). HoldsNext n count slot (before ++ []))
-      (sym (node_of_call both_program spec is_both_port link own (Listens port) s)) (call_leaves DoesNothing s.node f count slot before low h)
+      (sym (node_of_call both_program spec is_both_port link setup.own (Listens port) s)) (call_leaves DoesNothing s.node f count slot before low h)
   one_leaves (Writes at taken text last) s f good count slot before low h =
       subst (λ (n : AbstractNode). HoldsNext n count slot (before ++ text_in_call slot (Writes at taken text last))) (sym (called at taken text last s))
       (pair_wrote (value_spec files) pages_pair s.node at taken text last f good.0 good.1 count slot before h)
   one_leaves (Gives number text) s f good count slot before low h =
       let change : List ℕ → List ℕ = change_own false (write_value number text) in
-      subst (λ (n : AbstractNode). HoldsNext n count slot (before ++ [])) (sym (node_of_call both_program spec is_both_port link own (Gives number text) s))
+      subst (λ (n : AbstractNode). HoldsNext n count slot (before ++ []))
+      (sym (node_of_call both_program spec is_both_port link setup.own (Gives number text) s))
       (call_leaves DoesNothing (with_change change s.node) (change_follows is_own_port second_part second_numbers spec
       (in_pair (value_spec files) pages_pair) change s.node f) count slot before low
       (change_leaves is_own_port second_part second_numbers spec (in_pair (value_spec files) pages_pair) change s.node count slot before
       (others_stay false (write_value number text (own_numbers false s.node.numbers)) s.node.numbers) h))
 
-  all_leave : (calls : List BothCall) (s : Station Act) → FollowsAt s → OfEachCall files own mac network key IsGood calls s
+  all_leave : (calls : List BothCall) (s : Station Act) → FollowsAt s → OfEachCall files setup IsGood calls s
       → (count slot : ℕ) (text : List ℕ) → count + length calls < 4294967296 → HoldsAt s.node count slot text
-      → HasWrittenText (view is_own_port second_part second_numbers (connection_in slot (station_after_calls files own mac network key calls s).node))
-      (text_written (station_after_call files own mac network key) (λ (s : Station Act). s.node) text_in_call slot calls s text)
+      → HasWrittenText (view is_own_port second_part second_numbers (connection_in slot (station_after_calls files setup calls s).node))
+      (text_written (station_after_call files setup) (λ (s : Station Act). s.node) text_in_call slot calls s text)
   all_leave [] s f good count slot text low h = h.has
   all_leave (call ∷ calls) s f good count slot text low h =
       all_leave calls (after call s) (follows_after call s f) good.1 (count + 1) slot
@@ -174,20 +175,19 @@ both_words files = pair_u32 (first_numbers files) (numbers_of 0 no_message) (fir
 
 -- ---- the law
 
-undropped_conform : (image : List ℕ) (own : Addr) → IsAddr own → (mac : Mac) (network : Network) (secret : Option (List ℕ))
+undropped_conform : (image : List ℕ) (setup : Setup) → IsAddr setup.own →
     (all : List AnsweredCall) → All IsCallOfBytes (program_calls all)
-    → (closed opened old new : Kept) → (opens : OpensBoth image own.0 mac.0 network.mask.0 network.router.0 closed opened)
-    → ProtectsBoth secret opened old → DidInTurn Did all old new
-    → BothTraceConforms (files_of opens.site) own mac network (key_by secret) all
-undropped_conform image own is mac network secret all bytes closed opened old new opens protects did =
-    let key : Option Key = key_by secret in
+    → (closed opened old new : Kept) → (opens : OpensBoth image setup.own.0 setup.mac.0 setup.network.mask.0 setup.network.router.0 closed opened)
+    → ProtectsBoth setup.secret opened old → DidInTurn Did all old new
+    → BothTraceConforms (files_of opens.site) setup all
+undropped_conform image setup is all bytes closed opened old new opens protects did =
     let files : List File = files_of opens.site in
-    let s : Station Act = first_station files own in
+    let s : Station Act = first_station files setup in
     let calls : List BothCall = program_calls all in
-    let exact = undropped_exact files own mac network secret all closed opened old new (opens.opened, protects) did in
+    let exact = undropped_exact files setup all closed opened old new (opens.opened, protects) did in
     let numbers : List ℕ = first_both_numbers files in
     let spec : AppSpec = both_spec files in
-    let link : GuardedLink Act = link_of own mac network key in
+    let link : GuardedLink Act = link_of setup in
     let of = opens.of_image in
     let lawful = keeps_page_laws_by words words_short opens.site of.loaded of.sound in
     let pages : CanBePaired (value_spec files) = pages_can_pair words files in
@@ -201,27 +201,28 @@ undropped_conform image own is mac network secret all bytes closed opened old ne
     }
     record { steady = own_speaks.steady; bytes = own_speaks.bytes; speaks = own_speaks.speaks; port = own_can_pair.port } in
     let contains = in_pair (value_spec files) pages in
-    let f = first_follows is_own_port second_part second_numbers spec contains own numbers in
-    let good = each_with both_program spec is_both_port link own IsCallOfBytes CouldWrite calls s bytes exact.could in
-    let ends = at_end both_program spec is_both_port link own (FollowsAt files own mac network key) (follows_after files own mac network key) calls s f in
-    let trace = program_conforms both_program spec is_both_port link own (ether_brings_bytes (interface_at own mac network))
+    let f = first_follows is_own_port second_part second_numbers spec contains setup.own numbers in
+    let good = each_with both_program spec is_both_port link setup.own IsCallOfBytes CouldWrite calls s bytes exact.could in
+    let ends = at_end both_program spec is_both_port link setup.own (FollowsAt files setup) (follows_after files setup) calls s f in
+    let trace = program_conforms both_program spec is_both_port link setup.own (ether_brings_bytes (interface_by setup))
     (both_model files) speaks.steady speaks.bytes speaks.speaks numbers (both_words files) is all
-    (each_by both_program spec is_both_port link own (FollowsAt files own mac network key) (follows_after files own mac network key)
-    (IsGood files own mac network key) (IsOfLine both_program spec is_both_port link own) (of_line files own mac network key) calls s f good) exact.frames in
+    (each_by both_program spec is_both_port link setup.own (FollowsAt files setup) (follows_after files setup)
+    (IsGood files setup) (IsOfLine both_program spec is_both_port link setup.own) (of_line files setup) calls s f good) exact.frames in
     record {
       trace = trace;
-      sent = λ slot live mine. messages_sent files (connection_after files own mac network key all slot) _ (trace.newest slot live) mine;
-      captured = each_by both_program spec is_both_port link own (FollowsAt files own mac network key)
-          (follows_after files own mac network key) (IsGood files own mac network key) (Captures files own mac network key)
-          (captures_one files own mac network key) calls s f good;
+      sent = λ slot live mine. messages_sent files (connection_after files setup all slot) _ (trace.newest slot live) mine;
+      captured = each_by both_program spec is_both_port link setup.own (FollowsAt files setup)
+          (follows_after files setup) (IsGood files setup) (Captures files setup)
+          (captures_one files setup) calls s f good;
       written = λ few slot mine.
-          (let c : Connection = connection_after files own mac network key all slot in
-          let has = all_leave files own mac network key calls s f good 0 slot []
+          (let c : Connection = connection_after files setup all slot in
+          let has = all_leave files setup calls s f good 0 slot []
           (let size = length-map all (λ (it : AnsweredCall). it.call) in omega (arith, few, size))
-          (first_holds is_own_port second_part second_numbers spec contains own numbers (second_back (first_numbers files) (numbers_of 0 no_message)) slot) in
+          (first_holds is_own_port second_part second_numbers spec contains setup.own numbers
+          (second_back (first_numbers files) (numbers_of 0 no_message)) slot) in
           ap (λ (x : Connection). messages_text x.part.snapshots)
           (sym (view_own is_own_port second_part second_numbers c (ap is_own_port (ends.at_port slot) ∙ mine))) ∙ has.text_is);
-      home = λ six. program_goes_home both_program spec is_both_port (interface_at own mac network) (both_rules key) own six calls s tt;
+      home = λ six. program_goes_home both_program spec is_both_port (interface_by setup) (both_rules (key_by setup)) setup.own six calls s tt;
     }
 
 -- the calls that are not dropped are of bytes too
@@ -243,6 +244,6 @@ calls_of_bytes ports (it ∷ all) are =
     (calls_of_bytes next all (All-tail IsCallOfBytes it.call (program_calls all) are))
 
 pub calls_conform : BothCallsConform
-calls_conform image own is mac network secret all bytes closed opened old new opens protects did =
-    undropped_conform image own is mac network secret (undropped [] all) (calls_of_bytes [] all bytes) closed opened old new opens protects
-    (did_undropped (files_of opens.site) own mac network secret all closed opened old new (opens.opened, protects) did).0
+calls_conform image setup is all bytes closed opened old new opens protects did =
+    undropped_conform image setup is (undropped [] all) (calls_of_bytes [] all bytes) closed opened old new opens protects
+    (did_undropped (files_of opens.site) setup all closed opened old new (opens.opened, protects) did).0

@@ -42,6 +42,6 @@ pub both_given : (number : ℕ) (text : List ℕ) (d : BothEther) (node : BothNo
     → ChangesNumbers both ether_link (change_own false (write_value number text)) d (record d { node = node })
 both_given number text d node changes = record {
   kept = changes.kept;
-  rules = refl;
+  guard = refl;
   each = λ k m own s here. record { represented = changes.represented m own s.node here.represented; acted = here.acted };
 }

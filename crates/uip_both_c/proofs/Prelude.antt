@@ -3,6 +3,7 @@ pub use Rattle.app_events.specs.Prelude.{AppState, AppSpec, IsAddr, IsPrefixOf, 
 pub use Rattle.app_events.specs.declared.row.Row.{Row}
 pub use Rattle.app_pair.specs.Lemmas.NumberLaws.{first_back, first_kept, others_stay, own_u32, pair_u32, second_back, with_own_u32}
 pub use Rattle.app_pair.specs.PairNumbers.{change_own, numbers_of_first, pair_numbers, with_own, own_numbers}
+pub use Rattle.c_calls.proofs.Handles.{of_kept}
 pub use Rattle.c_calls.specs.Prelude.{HasOne, flag_of}
 pub use Rattle.c_pages.specs.Prelude.{ReportsRow}
 pub use Rattle.device_values.specs.Prelude.{value_given, words, words_bytes, words_short}
@@ -12,14 +13,19 @@ pub use Rattle.file_tree.specs.Prelude.{AreApart, files_of}
 pub use Rattle.file_tree.specs.declared.file_id.FileId.{FileId}
 pub use Rattle.frame_device.proofs.ProgramLaws.{IsOfLine, at_end, call_few, each_by, each_with, events_of_call, program_goes_home}
 pub use Rattle.frame_device.proofs.ProgramLaws.{node_of_call, periodic_events, program_conforms, all_exact}
+pub use Rattle.frame_device.proofs.StationLaws.{answered_at, changed_at, guard_by, shared_at}
 pub use Rattle.frame_device.specs.FrameCalls.{station_after_frame_call as station_after_frame}
+pub use Rattle.guarded_node.specs.Counts.{fresh_guard}
+pub use Rattle.guarded_node.specs.declared.guard.Guard.{Guard}
+pub use Rattle.guarded_node.specs.declared.guard.GuardCounts.{GuardCounts}
 pub use Rattle.guarded_node.specs.declared.guard.Rules.{Rules}
 pub use Rattle.sip_hash.specs.SipHash.{key_of}
-pub use Rattle.sip_hash.specs.declared.key.Key.{Key}
 pub use Rattle.frame_device.specs.Prelude.{AnswersFrame, CallsSlot, DoesNothing, FrameCall, GuardedLink, InputsFrame, RepresentsStation}
 pub use Rattle.frame_device.specs.Prelude.{ether_frames, guarded_link, output_of_call, IsFrameOfBytes, Makes, acts_before}
-pub use Rattle.frame_device.specs.Prelude.{ether_brings_bytes, interface_at, station_events_by, ChangesNumbers, IsFreshFrameDevice}
-pub use Rattle.frame_device.specs.ProgramCalls.{DidInTurn, program_calls, before_program_call, program_frame}
+pub use Rattle.frame_device.specs.Prelude.{ether_brings_bytes, interface_at, station_events_by, ChangesNumbers, IsFreshFrameDevice, Setup}
+pub use Rattle.frame_device.specs.Prelude.{interface_by, key_by}
+pub use Rattle.frame_device.specs.FrameCalls.{counts_by_call, with_secret}
+pub use Rattle.frame_device.specs.ProgramCalls.{DidInTurn, counts_by_program_call, program_calls, before_program_call, program_frame}
 pub use Rattle.frame_device.specs.declared.ether.Ethernet.{Ethernet}
 pub use Rattle.frame_device.specs.declared.network.Network.{Network}
 pub use Rattle.httpd.proofs.Finding.{found_place}
@@ -37,7 +43,7 @@ pub use Rattle.std.proofs.lemmas.Bool.{false≢true}
 pub use Rattle.std.proofs.lemmas.Grind.{get_or_default_zero}
 pub use Rattle.std.proofs.lemmas.List.{get_or_append_left, length-map}
 pub use Rattle.std.specs.Prelude.{if◌then◌else◌, All, is_some, true}
-pub use Rattle.uip_both_c.specs.Prelude.{OpensAndProtects, ProtectsBoth, both_rules, key_by, AnsweredCall, BothAnswers, BothApps}
+pub use Rattle.uip_both_c.specs.Prelude.{IsFreshBothEther, OpensAndProtects, ProtectsBoth, both_rules, AnsweredCall, BothAnswers, BothApps}
 pub use Rattle.uip_both_c.specs.Prelude.{BothAtStation, BothCall, BothEther, BothGives, BothListens, BothNode, BothShared, BothInputs}
 pub use Rattle.uip_both_c.specs.Prelude.{BothWrites, Calls, CallsAreExact, CouldWrite, DeviceRow, DidCall, DidCalls, Gives, IsExact}
 pub use Rattle.uip_both_c.specs.Prelude.{IsOpenedBoth, Kept, Listens, OpensBothAs, Writes, both, both_spec, call_at, first_both_numbers}

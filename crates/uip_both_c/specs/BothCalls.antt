@@ -1,27 +1,25 @@
 -- Calls on a handle, one after the other, and what the definition of the node and its link gives for them.
-use Rattle.std.specs.Prelude.{◌≡◌, ℕ, Bool, List, [], ◌∷◌, false, if◌then◌else◌, map, Option, true, ⊤}
-use Rattle.sip_hash.specs.declared.key.Key.{Key}
+use Rattle.std.specs.Prelude.{◌≡◌, ℕ, Bool, List, [], ◌∷◌, false, if◌then◌else◌, map, true, ⊤}
 use Rattle.c_calls.specs.Prelude.{HasOne}
 use Rattle.app_pair.specs.PairNumbers.{change_own}
 use Rattle.ethernet_arp.specs.Prelude.{Act}
-use Rattle.ethernet_arp.specs.declared.mac.Mac.{Mac}
 use Rattle.file_tree.specs.Prelude.{files_of}
 use Rattle.frame_device.specs.Prelude.{CallsSlot, DoesNothing, FrameCall, GuardedLink, InputsFrame, RepresentsStation, guarded_ether}
-use Rattle.frame_device.specs.Prelude.{interface_at}
+use Rattle.frame_device.specs.Prelude.{Setup, guard_with, interface_by, key_by}
 use Rattle.frame_device.specs.ProgramCalls.{AnsweredBy, DidInTurn, OfEach, Program, after_program_call, after_program_calls}
-use Rattle.frame_device.specs.ProgramCalls.{program_calls, program_frames}
+use Rattle.frame_device.specs.ProgramCalls.{counts_after_program_calls, program_calls, program_frames}
 use Rattle.frame_device.specs.contracts.ether.EthernetFrames.TheImpl.{ghosts as ether_link}
-use Rattle.frame_device.specs.declared.network.Network.{Network}
+use Rattle.guarded_node.specs.Counts.{fresh_guard}
+use Rattle.guarded_node.specs.declared.guard.GuardCounts.{GuardCounts}
 use Rattle.own_app.specs.Prelude.{with_port, write_message}
 use Rattle.own_node.specs.Prelude.{AreAtOpenPorts, can_write_at, next_message_at}
 use Rattle.serve_loop.specs.Prelude.{Station, initial_station}
 use Rattle.site_image.specs.Prelude.{File}
 use Rattle.uip_both_c.specs.BothSpec.{both, both_spec, first_both_numbers, is_both_port, own_in, site_of}
-use Rattle.uip_both_c.specs.Handles.{BothAnswers, BothGives, BothWrites, OpensBothAs, ProtectsBoth, both_rules, key_by}
+use Rattle.uip_both_c.specs.Handles.{BothAnswers, BothGives, BothWrites, OpensBothAs, ProtectsBoth, both_rules}
 use Rattle.uip_both_c.specs.Kept.{BothEther, Kept}
 use Rattle.uip_both_c.specs.Ports.{BothListens, BothInputs, is_dropped, ports_of}
 use Rattle.uip_device.specs.Prelude.{write_value}
-use Rattle.uip_wire.specs.declared.addr.Addr.{Addr}
 use Rattle.uip_wire.specs.declared.port.TheConstants.{WEB_PORT}
 
 -- `Calls`: a frame is received, or a slot is called. A call that is refused or that reads is `Calls DoesNothing`. `Gives`: a value is set.
@@ -71,8 +69,8 @@ undropped ports (it ∷ all) =
 -- ---- by definition
 
 -- The link of a device, with its guard under this key.
-abbrev pub link_of : Addr → Mac → Network → Option Key → GuardedLink Act
-link_of own mac network key = guarded_ether (interface_at own mac network) (both_rules key)
+abbrev pub link_of : Setup → GuardedLink Act
+link_of setup = guarded_ether (interface_by setup) (both_rules (key_by setup))
 
 -- A call that writes a message first puts it in the place of the newest, and then makes the call of the slot. A call that sets a value or
 -- opens a port makes no call of the device.
@@ -99,54 +97,61 @@ CouldWrite (Writes slot taken text last) s = can_write_at taken (own_in slot s.n
 CouldWrite (Gives number text) s = ⊤
 CouldWrite (Listens port) s = ⊤
 
-module _ (files : List File) (own : Addr) (mac : Mac) (network : Network) (key : Option Key) where
+module _ (files : List File) (setup : Setup) where
   abbrev pub station_after_call : BothCall → Station Act → Station Act
-  station_after_call call s = after_program_call both_program (both_spec files) is_both_port (link_of own mac network key) own call s
+  station_after_call call s = after_program_call both_program (both_spec files) is_both_port (link_of setup) setup.own call s
 
   abbrev pub station_after_calls : List BothCall → Station Act → Station Act
-  station_after_calls calls s = after_program_calls both_program (both_spec files) is_both_port (link_of own mac network key) own calls s
+  station_after_calls calls s = after_program_calls both_program (both_spec files) is_both_port (link_of setup) setup.own calls s
 
   -- P holds of each call, and of the station at which it is made.
   abbrev pub OfEachCall : (BothCall → Station Act → Type 0) → List BothCall → Station Act → Type 0
-  OfEachCall P calls s = OfEach both_program (both_spec files) is_both_port (link_of own mac network key) own P calls s
+  OfEachCall P calls s = OfEach both_program (both_spec files) is_both_port (link_of setup) setup.own P calls s
 
 -- ---- the law
 
-abbrev pub first_station : List File → Addr → Station Act
-first_station files own = initial_station own (first_both_numbers files)
+abbrev pub first_station : List File → Setup → Station Act
+first_station files setup = initial_station setup.own (first_both_numbers files)
 
--- The device serves these files and represents this station: an abstract node, and the events of ARP so far.
-pub record BothAtStation (files : List File) (own : Addr) (mac : Mac) (network : Network) (key : Option Key) (d : BothEther) (s : Station Act) : Type 0 where
+-- What the guard of a device that was just opened counted after calls.
+abbrev pub counts_after_calls : List File → Setup → List BothCall → GuardCounts
+counts_after_calls files setup calls =
+    counts_after_program_calls both_program (both_spec files) is_both_port (link_of setup) setup.own calls (first_station files setup)
+    (fresh_guard (both_rules (key_by setup))).counts
+
+-- The device serves these files and represents this station: an abstract node, and the events of ARP so far. Its guard has the secret, and
+-- counted this.
+pub record BothAtStation (files : List File) (setup : Setup) (d : BothEther) (s : Station Act) (counts : GuardCounts) : Type 0 where
   pub files_are : files_of (site_of d.node) ≡ files
-  pub station : RepresentsStation both ether_link (interface_at own mac network) (both_spec files) own d s
-  pub rules_are : d.guard.rules ≡ both_rules key
+  pub station : RepresentsStation both ether_link (interface_by setup) (both_spec files) setup.own d s
+  pub guard_is : d.guard ≡ guard_with (both_rules (key_by setup)) counts
 
 -- Each call wrote exactly the frame of the definition, or none. Each message was written to a connection that could capture it. The device
--- represents the station after all calls.
-pub record IsExact (files : List File) (own : Addr) (mac : Mac) (network : Network) (key : Option Key) (all : List AnsweredCall) (new : Kept) : Type 0 where
+-- represents the station after all calls, and its guard counted its verdicts.
+pub record IsExact (files : List File) (setup : Setup) (all : List AnsweredCall) (new : Kept) : Type 0 where
   pub frames : map (λ it. it.handed) all
-      ≡ program_frames both_program (both_spec files) is_both_port (link_of own mac network key) own (program_calls all)
-      (first_station files own)
-  pub could : OfEachCall files own mac network key CouldWrite (program_calls all) (first_station files own)
-  pub represents : HasOne BothEther (λ d. BothAtStation files own mac network key d
-      (station_after_calls files own mac network key (program_calls all) (first_station files own))) new
+      ≡ program_frames both_program (both_spec files) is_both_port (link_of setup) setup.own (program_calls all)
+      (first_station files setup)
+  pub could : OfEachCall files setup CouldWrite (program_calls all) (first_station files setup)
+  pub represents : HasOne BothEther (λ d. BothAtStation files setup d
+      (station_after_calls files setup (program_calls all) (first_station files setup))
+      (counts_after_calls files setup (program_calls all))) new
 
 -- The open ports of the device are those that the calls opened. Each connection that is not CLOSED is at one of them, or at that of the
 -- pages.
-pub record HasOpenPorts (files : List File) (own : Addr) (mac : Mac) (network : Network) (key : Option Key) (all : List AnsweredCall) (new : Kept)
-    : Type 0 where
+pub record HasOpenPorts (files : List File) (setup : Setup) (all : List AnsweredCall) (new : Kept) : Type 0 where
   pub ports : HasOne BothEther (λ d. ports_of d ≡ ports_after (program_calls all) []) new
   pub connections : AreAtOpenPorts (WEB_PORT ∷ ports_after (program_calls all) [])
-      (station_after_calls files own mac network key (program_calls (undropped [] all)) (first_station files own)).node
+      (station_after_calls files setup (program_calls (undropped [] all)) (first_station files setup)).node
 
 -- The handle was opened, and then protected by this secret, or not.
-abbrev pub OpensAndProtects : List File → Addr → Mac → Network → Option (List ℕ) → Kept → Kept → Kept → Type 0
-OpensAndProtects files own mac network secret closed opened old = OpensBothAs files own mac network closed opened × ProtectsBoth secret opened old
+abbrev pub OpensAndProtects : List File → Setup → Kept → Kept → Kept → Type 0
+OpensAndProtects files setup closed opened old =
+    OpensBothAs files setup.own setup.mac setup.network closed opened × ProtectsBoth setup.secret opened old
 
 -- So is every sequence of calls on a handle that was just opened, and protected or not, without the frames that are dropped.
 abbrev pub CallsAreExact : Type 0
 CallsAreExact =
-    (files : List File) (own : Addr) (mac : Mac) (network : Network) (secret : Option (List ℕ)) (all : List AnsweredCall)
-    (closed opened old new : Kept)
-    → OpensAndProtects files own mac network secret closed opened old → DidCalls all old new
-    → IsExact files own mac network (key_by secret) (undropped [] all) new × HasOpenPorts files own mac network (key_by secret) all new
+    (files : List File) (setup : Setup) (all : List AnsweredCall) (closed opened old new : Kept)
+    → OpensAndProtects files setup closed opened old → DidCalls all old new
+    → IsExact files setup (undropped [] all) new × HasOpenPorts files setup all new

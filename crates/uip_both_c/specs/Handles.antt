@@ -1,10 +1,10 @@
 -- What a call does to what a handle keeps.
-use Rattle.std.specs.Prelude.{◌≡◌, ◌||◌, [], Bool, false, is_some, List, None, Option, option_map, Some, true, ℕ}
+use Rattle.std.specs.Prelude.{◌≡◌, ◌||◌, [], Bool, false, is_some, List, None, Option, Some, true, ℕ}
 use Rattle.app_pair.specs.PairNumbers.{change_own}
-use Rattle.c_calls.specs.Prelude.{HasOne, ReadsConnection, StillHas}
+use Rattle.c_calls.specs.Prelude.{HasOne, ReadsConnection, StillHas, guard_count}
 use Rattle.c_calls.specs.declared.received.UipReceived.{UipReceived}
 use Rattle.ethernet_arp.specs.declared.mac.Mac.{Mac}
-use Rattle.frame_device.specs.Prelude.{AnswersFrame, CallsSlot, ChangesNumbers, FrameCall, IsFreshFrameDevice, interface_at, with_secret}
+use Rattle.frame_device.specs.Prelude.{AnswersFrame, CallsSlot, ChangesNumbers, FrameCall, GainsSecret, IsFreshFrameDevice, interface_at}
 use Rattle.frame_device.specs.contracts.ether.EthernetFrames.TheImpl.{ghosts as ether_link}
 use Rattle.frame_device.specs.declared.network.Network.{Network}
 use Rattle.file_tree.specs.Prelude.{files_of}
@@ -24,33 +24,31 @@ use Rattle.guarded_node.specs.declared.guard.Rules.{Rules}
 abbrev pub both_rules : Option Key → Rules
 both_rules key = record { key = key; pages = Some (record { 0 = WEB_PORT }) }
 
-abbrev pub key_by : Option (List ℕ) → Option Key
-key_by secret = option_map key_of secret
-
 -- It serves these files and represents the initial node at this address, and a link with this hardware address, on this network, that has
 -- learned nothing. No port of the program's application is open, and the guard has no secret.
 pub record IsFreshBothEther (files : List File) (own : Addr) (mac : Mac) (network : Network) (d : BothEther) : Type 0 where
   pub files_are : files_of (site_of d.node) ≡ files
-  pub fresh : IsFreshFrameDevice both ether_link (interface_at own mac network) (both_spec files) (first_both_numbers files) (both_rules None) own d
+  pub fresh : IsFreshFrameDevice both ether_link (interface_at own mac network) (both_spec files) (first_both_numbers files)
+      (both_rules None) own d
   pub ports : ports_of d ≡ []
 
 -- There was no device, and there is a fresh one with these files at this address and hardware address, on this network.
 abbrev pub OpensBothAs : List File → Addr → Mac → Network → Kept → Kept → Type 0
 OpensBothAs files own mac network old new = (old ≡ None) × HasOne BothEther (IsFreshBothEther files own mac network) new
 
--- Its guard has this secret now, and nothing else changed.
-abbrev pub HasSecret : List ℕ → BothEther → BothEther → Type 0
-HasSecret secret old new = new ≡ with_secret (key_of secret) old
-
--- There was a device and there still is one, whose guard was given this secret; or none was given, and nothing changed.
+-- There was a device and there still is one, whose guard gained this secret; or none was given, and nothing changed.
 abbrev pub ProtectsBoth : Option (List ℕ) → Kept → Kept → Type 0
 ProtectsBoth None old new = new ≡ old
-ProtectsBoth (Some secret) old new = StillHas Some (λ before after. HasSecret secret before after) old new
+ProtectsBoth (Some secret) old new = StillHas Some (λ before after. GainsSecret (key_of secret) before after) old new
 
 -- There is a device for which a secret comes too late.
 abbrev pub is_late : Kept → Bool
 is_late None = false
 is_late (Some d) = d.is_used || is_some d.guard.rules.key
+
+-- There is a device, and this is the count of its guard with this number.
+abbrev pub ReadsGuard : ℕ → ℕ → Kept → Type 0
+ReadsGuard number read kept = HasOne BothEther (λ d. read ≡ guard_count number d.guard.counts) kept
 
 -- There was a device and there still is one, and the call wrote this frame, or no bytes.
 abbrev pub BothAnswers : FrameCall → Kept → Kept → List ℕ → Type 0
@@ -71,7 +69,7 @@ pub record BothWrites (slot taken : ℕ) (text : List ℕ) (last : Bool) (old ne
   pub is : new ≡ Some after
   pub could : OfBoth before (λ n. can_write_at taken (own_in slot n) ≡ true)
   pub link : between.frames ≡ before.frames
-  pub guarded : between.guard.rules ≡ before.guard.rules
+  pub guarded : between.guard ≡ before.guard
   pub writes : WritesMessageWith both seen_in_pair (change_own true) slot taken text last before.node between.node
   pub answers : AnswersFrame both ether_link (CallsSlot slot) between after handed
 

@@ -1,5 +1,5 @@
 -- The open ports of a device: a port is opened, and a frame for one that is not open is dropped.
-use Rattle.std.specs.Prelude.{◌≡◌, ◌∷◌, [], Bool, false, List, None, not, Some, true, ℕ}
+use Rattle.std.specs.Prelude.{◌≡◌, ◌∷◌, Bool, false, List, None, not, Some, ℕ}
 use Rattle.c_calls.specs.Prelude.{DropsOr, StillHas}
 use Rattle.frame_device.specs.Prelude.{AnswersFrame, InputsFrame}
 use Rattle.frame_device.specs.contracts.ether.EthernetFrames.TheImpl.{ghosts as ether_link}

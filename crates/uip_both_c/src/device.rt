@@ -1,8 +1,8 @@
 //! The calls of a device, by the definitions of both applications.
 
-ghost use Rattle.std.specs.Prelude.{◌≡◌, ◌<◌, ◌≤◌, ◌||◌, false, is_some, length, not, take, true};
+ghost use Rattle.std.specs.Prelude.{◌≡◌, ◌<◌, ◌≤◌, false, length, take, true};
 ghost use Rattle.app_pair.specs.PairNumbers.{change_own};
-ghost use Rattle.frame_device.specs.Prelude.{AnswersFrame, CallsSlot, ChangesNumbers, InputsFrame, with_secret};
+ghost use Rattle.frame_device.specs.Prelude.{AnswersFrame, CallsSlot, ChangesNumbers, InputsFrame};
 ghost use Rattle.frame_device.specs.contracts.ether.EthernetFrames.TheImpl.{ghosts as ether_link};
 ghost use Rattle.own_app.specs.Prelude.{can_listen};
 ghost use Rattle.own_node.specs.Prelude.{WritesMessageWith, can_write_at, is_ready_at, pending_at, seen_in_pair};
@@ -14,7 +14,6 @@ use crate::pages::set_page_value;
 use frame_device::LARGEST_OUT;
 use own_app::MESSAGE_ROOM;
 use own_node::is_for_closed_port_of_pair;
-use sip_hash::Key;
 
 /// Receives the frame of `len` bytes at the start of a buffer, unless it is for a port that is not open. Writes the frame that is sent, if
 /// there is one, to the same place. Returns its length.
@@ -114,13 +113,4 @@ pub(crate) fn write(
     ensures refused { result ≡ false → device.new ≡ device.old }
 {
     own_node::write(&mut device.node, slot, taken, text, last)
-}
-
-/// Gives the guard a secret. Returns false and changes nothing if that is too late.
-pub(crate) fn protect(device: &mut BothEther, key: Key) -> bool
-    ensures may { result ≡ not (device.old.is_used || is_some device.old.guard.rules.key) }
-    ensures set { result ≡ true → device.new ≡ with_secret key device.old }
-    ensures refused { result ≡ false → device.new ≡ device.old }
-{
-    device.protect(key)
 }

@@ -1,20 +1,18 @@
 //! Opening and closing a device.
 
-ghost use Rattle.std.specs.Prelude.{◌≡◌, ◌==◌, ◌⊎◌, None, Some, is_some, replicate};
-ghost use Rattle.c_calls.specs.Prelude.{ClosesHandle, IsCallStatus};
+ghost use Rattle.std.specs.Prelude.{◌≡◌, ◌==◌, ◌⊎◌, None, is_some, replicate};
+ghost use Rattle.c_calls.specs.Prelude.{ClosesHandle};
 ghost use Rattle.c_pages.specs.Prelude.{ReportsFault};
-ghost use Rattle.uip_both_c.specs.Prelude.{OpensBoth, OpensBothEther, ProtectsBoth, is_late};
+ghost use Rattle.uip_both_c.specs.Prelude.{OpensBoth, OpensBothEther};
 
-use crate::device::protect;
 use crate::handle::{UipDevice, put_in, take_out};
 use crate::held::BothEther;
 use app_pair::PairShared;
-use c_calls::{BAD_ARGUMENT, BAD_IMAGE, HAS_DEVICE, NO_DEVICE, NO_MEMORY, OK, free};
+use c_calls::{BAD_IMAGE, HAS_DEVICE, NO_MEMORY, OK, free};
 use c_pages::{UipOpened, open_device, plain};
 use ethernet_arp::Mac;
 use frame_device::{Ethernet, FrameDevice, Network};
 use own_app::OwnShared;
-use sip_hash::Key;
 use std::alloc::Global;
 use uip_device::{OpenFault, open_shared};
 use uip_edge::NoMemory;
@@ -80,24 +78,6 @@ pub extern "C" fn uip_open_ether(
     };
     let made = open_ether(alloc, image, Addr(*own), Mac(*mac), network);
     open_device!(alloc, device, made => put_in)
-}
-
-/// Gives the guard of a device a secret of 16 random bytes, before the first frame and the first periodic call. It is refused later, and
-/// if there is a secret.
-#[unsafe(no_mangle)]
-pub extern "C" fn uip_protect(alloc: Global, device: &mut UipDevice, secret: &[u8; 16]) -> u32
-    ensures known { IsCallStatus result }
-    ensures fine { result ≡ OK → ProtectsBoth (Some secret.now) device.old.held.device device.new.held.device }
-    ensures no_device { result ≡ NO_DEVICE → device.old.held.device ≡ None }
-    ensures late { (result == BAD_ARGUMENT) ≡ is_late device.old.held.device }
-    ensures refused { (result ≡ OK → ⊥) → device.new.held.device ≡ device.old.held.device }
-{
-    let Some(mut opened) = take_out(alloc, device) else {
-        return NO_DEVICE;
-    };
-    let is_set = protect(&mut opened, Key::new(secret));
-    put_in(device, opened);
-    if is_set { OK } else { BAD_ARGUMENT }
 }
 
 /// Closes the handle's device and frees its memory.

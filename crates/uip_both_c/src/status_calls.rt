@@ -13,8 +13,8 @@ ghost use Rattle.uip_both_c.specs.Prelude.{BothEther, BothGives, HasAbstractNode
 use crate::device::give;
 use crate::handle::{UipDevice, put_in, take_out};
 use crate::pages::{page_hits, page_query};
-use c_calls::{BAD_ARGUMENT, NO_DEVICE, OK, flag, read_device};
-use c_pages::{UipNumber, UipQuery, UipRow};
+use c_calls::{BAD_ARGUMENT, NO_DEVICE, OK, UipNumber, flag, read_device};
+use c_pages::{UipQuery, UipRow};
 use device_values::{LONGEST_VALUE, MOST_VALUES};
 use std::alloc::Global;
 use uip_device::{LONGEST_QUERY, is_node_idle, node_counter, node_row, node_ticks};

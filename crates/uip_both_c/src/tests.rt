@@ -3,14 +3,16 @@
 ghost use Rattle.std.specs.Prelude.{◌≡◌, None};
 
 use crate::calls::{uip_input_frame_area, uip_listen, uip_periodic_frame, uip_read, uip_write};
+use crate::guard_calls::{uip_guard_counter, uip_protect};
 use crate::handle::UipDevice;
 use crate::held::Held;
-use crate::open_close::{uip_close, uip_open_ether, uip_protect};
+use crate::open_close::{uip_close, uip_open_ether};
 use crate::status_calls::{
     uip_connection, uip_counter, uip_hits, uip_is_idle, uip_query, uip_set_value, uip_ticks,
 };
 use c_calls::{
-    BAD_ARGUMENT, BAD_IMAGE, HAS_DEVICE, NO_DEVICE, NOT_READY, OK, UipReceived, UipResult,
+    BAD_ARGUMENT, BAD_IMAGE, HAS_DEVICE, NO_DEVICE, NOT_READY, OK, UipNumber, UipReceived,
+    UipResult,
 };
 use c_pages::{UipOpened, UipQuery};
 use frame_device::LARGEST_OUT;
@@ -40,6 +42,12 @@ const HEADER: [u8; 14] = [2, 0, 0, 0, 0, 1, 2, 0, 0, 0, 0, 2, 8, 0];
 const WEB_SYN: &[u8] = &[
     69, 0, 0, 40, 0, 1, 0, 0, 64, 6, 102, 205, 10, 0, 0, 2, 10, 0, 0, 1, 4, 1, 0, 80, 0, 0, 3, 232,
     0, 0, 0, 0, 80, 2, 32, 0, 115, 167, 0, 0,
+];
+
+/// The same from the own address of the node.
+const FOREIGN: &[u8] = &[
+    69, 0, 0, 40, 0, 1, 0, 0, 64, 6, 102, 206, 10, 0, 0, 1, 10, 0, 0, 1, 4, 1, 0, 80, 0, 0, 3, 232,
+    0, 0, 0, 0, 80, 2, 32, 0, 115, 168, 0, 0,
 ];
 
 /// The peer's request of `/v.shtml?lamp=1`, which acknowledges the SYN of the node.
@@ -180,6 +188,20 @@ fn a_secret_is_set_once_and_in_time(rt: HostRuntime) {
 }
 
 #[test]
+fn what_the_guard_drops_is_counted(rt: HostRuntime) {
+    let alloc = rt.alloc();
+    let mut device = opened(&rt, alloc);
+    check_datagram(&rt, alloc, &mut device, FOREIGN, 0);
+    for (number, count) in [(1, 1), (2, 0)] {
+        assert_eq!(rt;
+            uip_guard_counter(alloc, &mut device, number),
+            UipNumber::read(count)
+        );
+    }
+    close(&rt, alloc, device);
+}
+
+#[test]
 fn a_handle_without_a_device_refuses_all(rt: HostRuntime) {
     let alloc = rt.alloc();
     let mut device = no_device(alloc);
@@ -188,6 +210,7 @@ fn a_handle_without_a_device_refuses_all(rt: HostRuntime) {
     assert_eq!(rt; uip_read(alloc, &mut device, 0, &mut []).status, NO_DEVICE);
     assert_eq!(rt; uip_ticks(alloc, &mut device).status, NO_DEVICE);
     assert_eq!(rt; uip_counter(alloc, &mut device, 20).status, NO_DEVICE);
+    assert_eq!(rt; uip_guard_counter(alloc, &mut device, 1).status, NO_DEVICE);
     assert_eq!(rt; uip_is_idle(alloc, &mut device).status, NO_DEVICE);
     assert_eq!(rt; uip_hits(alloc, &mut device, b"/v.shtml").status, NO_DEVICE);
     assert_eq!(rt; uip_connection(alloc, &mut device, 9).status, NO_DEVICE);
@@ -360,6 +383,12 @@ fn a_bad_argument_is_refused(rt: HostRuntime) {
     );
     assert_eq!(rt; uip_counter(alloc, &mut device, 0).status, BAD_ARGUMENT);
     assert_eq!(rt; uip_counter(alloc, &mut device, 21).status, BAD_ARGUMENT);
+    for number in [0, 3] {
+        assert_eq!(rt;
+            uip_guard_counter(alloc, &mut device, number),
+            UipNumber::unread(BAD_ARGUMENT)
+        );
+    }
     assert_eq!(rt; uip_connection(alloc, &mut device, 10).status, BAD_ARGUMENT);
     assert_eq!(rt;
         uip_query(alloc, &mut device, b"/v.shtml", &mut [0; 63]).status,

@@ -40,7 +40,7 @@ given number text d (OnEther x) gives = (x, refl, gives)
 
 -- a call that did nothing answers so
 nothing_answered : (d : EtherWeb) → AnswersFrame ghosts ether_link DoesNothing d d []
-nothing_answered d = record { kept = refl; rules = refl; each = λ k m own s here. (here, refl) }
+nothing_answered d = record { kept = refl; rules = refl; each = λ k m own s here. (here, refl); counts = λ k m own s here. refl }
 
 did_device : (move : FrameMove) (d : EtherWeb) (a b : Kept) (handed : List ℕ) → a ≡ OnEther d → DidFrame move a b handed → OnDevice move d b handed
 did_device (Makes (InputsFrame frame)) d a b handed is it = on_device (InputsFrame frame) d a b handed is it

@@ -26,6 +26,6 @@ pub ether_given : (number : ℕ) (text : List ℕ) (d : EtherWeb) (node : WebNod
     → ChangesNumbers ghosts ether_link (write_value number text) d (record d { node = node })
 ether_given number text d node changes = record {
   kept = changes.kept;
-  rules = refl;
+  guard = refl;
   each = λ k m own s here. record { represented = changes.represented m own s.node here.represented; acted = here.acted };
 }

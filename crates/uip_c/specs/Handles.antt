@@ -1,14 +1,13 @@
 -- What a call does to what a handle keeps. Calls over Ethernet: `specs/FrameHandles.antt`.
-use Rattle.std.specs.Prelude.{◌≡◌, ◌==◌, ◌⊎◌, ◌∷◌, [], if◌then◌else◌, Bool, is_some, List, None, Option, Some, true, ℕ}
+use Rattle.std.specs.Prelude.{◌≡◌, ◌⊎◌, ◌∷◌, [], Bool, is_some, List, None, Option, Some, true, ℕ}
 use Rattle.site_image.specs.Prelude.{File}
-use Rattle.frame_device.specs.Prelude.{ChangesNumbers, with_secret}
+use Rattle.frame_device.specs.Prelude.{ChangesNumbers, GainsSecret}
 use Rattle.frame_device.specs.contracts.ether.EthernetFrames.TheImpl.{ghosts as ether_link}
 use Rattle.uip_device.specs.contracts.value_pages.ValuePagesApp.TheImpl.{ghosts}
 use Rattle.uip_wire.specs.declared.addr.Addr.{Addr}
 use Rattle.uip_device.specs.Prelude.{Call, DoesNothing, Answered, Answers, AnswersOver, Changes, left_text_of}
 use Rattle.uip_device.specs.Prelude.{Move, Gives, Makes, IsFreshWebDevice, IsProtected, write_value}
 use Rattle.sip_hash.specs.declared.key.Key.{Key}
-use Rattle.guarded_node.specs.declared.guard.GuardCounts.{GuardCounts}
 use Rattle.c_calls.specs.Prelude.{StillHas}
 use Rattle.c_calls.specs.declared.status.TheConstants.{OK}
 use Rattle.uip_c.specs.Kept.{IsLine, Kept, NoDevice, OnEther, OnLine}
@@ -21,12 +20,13 @@ IsReady files own key kept = IsLine (IsFreshWebDevice files own key) kept
 abbrev pub OpensAs : List File → Addr → Kept → Kept → Type 0
 OpensAs files own old new = (old ≡ NoDevice) × IsReady files own None new
 
--- There was a device for a line without a secret, or one on Ethernet, and there still is one, which has this secret. All else is as it was.
+-- There was a device for a line without a secret, or one on Ethernet, and there still is one, which has this secret. All else is as it
+-- was.
 abbrev pub ProtectsLine : Key → Kept → Kept → Type 0
 ProtectsLine key old new = StillHas OnLine (IsProtected key) old new
 
 abbrev pub ProtectsEther : Key → Kept → Kept → Type 0
-ProtectsEther key old new = StillHas OnEther (λ before after. after ≡ with_secret key before) old new
+ProtectsEther key old new = StillHas OnEther (GainsSecret key) old new
 
 abbrev pub HandleProtects : Key → Kept → Kept → Type 0
 HandleProtects key old new = ProtectsLine key old new ⊎ ProtectsEther key old new
@@ -56,10 +56,6 @@ abbrev pub Did : Move → Kept → Kept → List ℕ → Type 0
 Did (Makes DoesNothing) old new handed = (new ≡ old) × (handed ≡ [])
 Did (Makes call) old new handed = HandleAnswers call old new handed
 Did (Gives number text) old new handed = HandleGives number text old new × (handed ≡ [])
-
--- What the guard counted, by the numbers of the call: what it dropped, and what it gave up.
-abbrev pub guard_count : ℕ → GuardCounts → ℕ
-guard_count number counts = if number == 1 then counts.dropped else counts.displaced
 
 -- Moves one after the other, on a handle that nothing else touches.
 abbrev pub DidAll : List Answered → Kept → Kept → Type 0

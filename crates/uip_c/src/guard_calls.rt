@@ -2,16 +2,15 @@
 
 ghost use Rattle.std.specs.Prelude.{◌≡◌, ◌==◌, ◌||◌, nat_lt, true};
 ghost use Rattle.sip_hash.specs.SipHash.{key_of};
-ghost use Rattle.c_calls.specs.Prelude.{IsCallStatus, IsLinkStatus};
+ghost use Rattle.c_calls.specs.Prelude.{IsCallStatus, IsLinkStatus, guard_count};
 ghost use Rattle.c_calls.specs.declared.status.TheConstants.{NO_DEVICE, WRONG_LINK};
 ghost use Rattle.uip_c.specs.Prelude.{EtherReadies, HandleProtects, HasCounts, NoDevice, ProtectsEther, ProtectsLine, Readies};
-ghost use Rattle.uip_c.specs.Prelude.{counts_of, guard_count, is_on_ether, is_on_line};
+ghost use Rattle.uip_c.specs.Prelude.{counts_of, is_on_ether, is_on_line};
 
 use crate::handle::{
     AnyDevice, ON_ETHER, UipDevice, put_ether, put_in, put_line, take_ether, take_line, take_out,
 };
-use c_calls::{BAD_ARGUMENT, NO_DEVICE, OK, read_device};
-use c_pages::UipNumber;
+use c_calls::{BAD_ARGUMENT, NO_DEVICE, OK, UipNumber, guard_count, read_device};
 use guarded_node::GuardCounts;
 use sip_hash::Key;
 use std::alloc::Global;
@@ -81,17 +80,6 @@ fn counts_of(opened: &AnyDevice) -> GuardCounts
     }
 }
 
-/// Returns a count of a guard.
-fn count(counts: GuardCounts, number: usize) -> u32
-    ensures { result ≡ guard_count number counts }
-{
-    if number == 1 {
-        counts.dropped
-    } else {
-        counts.displaced
-    }
-}
-
 /// Returns what the guard counted, modulo 2^32: with 1 the datagrams that it dropped, with 2 the connections that it gave up for another.
 #[unsafe(no_mangle)]
 pub extern "C" fn uip_guard_counter(
@@ -109,5 +97,5 @@ pub extern "C" fn uip_guard_counter(
     if number == 0 || number > 2 {
         return UipNumber::unread(BAD_ARGUMENT);
     }
-    read_device!(UipNumber, alloc, device, opened => count(counts_of(&opened), number))
+    read_device!(UipNumber, alloc, device, opened => guard_count(counts_of(&opened), number))
 }

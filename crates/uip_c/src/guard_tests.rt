@@ -6,8 +6,7 @@ use crate::frame_tests::{MAC, MASK, ROUTER};
 use crate::guard_calls::{uip_guard_counter, uip_protect};
 use crate::open_close::uip_open;
 use crate::tests::{IMAGE, OWN, SYN, answer, close, made, no_device};
-use c_calls::{BAD_ARGUMENT, NO_DEVICE, OK};
-use c_pages::UipNumber;
+use c_calls::{BAD_ARGUMENT, NO_DEVICE, OK, UipNumber};
 use uip_device::LARGEST_TEXT;
 
 const SECRET: &[u8; 16] = &[0, 1, 2, 3, 4, 5, 6, 7, 8, 9, 10, 11, 12, 13, 14, 15];

@@ -10,8 +10,8 @@ ghost use Rattle.c_pages.specs.Prelude.{IsNoRow, ReportsRow};
 ghost use Rattle.uip_c.specs.Prelude.{HandleGives, HasAbstractNode, HasNode, NoDevice};
 
 use crate::handle::{UipDevice, give, node_of, put_in, take_out};
-use c_calls::{BAD_ARGUMENT, NO_DEVICE, OK, flag, read_device};
-use c_pages::{UipNumber, UipQuery, UipRow};
+use c_calls::{BAD_ARGUMENT, NO_DEVICE, OK, UipNumber, flag, read_device};
+use c_pages::{UipQuery, UipRow};
 use device_values::{LONGEST_VALUE, MOST_VALUES};
 use std::alloc::Global;
 use uip_device::{

@@ -2,5 +2,4 @@ use Rattle.uip_both_c.proofs.BothKeepLaws.{calls_conform}
 use Rattle.uip_both_c.proofs.laws.both_calls_keep_the_promise.Goals as goal
 
 pub returns : goal.returns
-returns c = λ image own is mac network secret all bytes closed opened old new opens protects did.
-    calls_conform image own is mac network secret all bytes closed opened old new opens protects did
+returns c = calls_conform

@@ -1,5 +1,5 @@
 use Rattle.uip_both_c.proofs.Prelude.{File, List, ap, hits_of, numbers_of_first, ◌∙◌}
-use Rattle.uip_both_c.proofs.Taking.{read_out}
+use Rattle.c_calls.proofs.Handles.{read_out}
 use Rattle.uip_both_c.proofs.status_calls.uip_hits.Goals as goal
 
 pub returns-in-Some-read_device-clause-fine : goal.returns-in-Some-read_device-clause-fine

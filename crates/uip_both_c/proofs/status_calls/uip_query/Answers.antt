@@ -1,4 +1,4 @@
-use Rattle.uip_both_c.proofs.Taking.{read_out}
+use Rattle.c_calls.proofs.Handles.{read_out}
 use Rattle.uip_both_c.proofs.status_calls.uip_query.Goals as goal
 
 pub returns-in-Some-read_device-clause-fine : goal.returns-in-Some-read_device-clause-fine

@@ -1,5 +1,6 @@
-use Rattle.frame_device.proofs.Prelude.{ℕ, ◌+◌, ◌-◌, ◌∷◌, ◌∙◌, [], ap, arith, refl, drop, take, Datagram, guarded_link, leaving}
-use Rattle.frame_device.proofs.HereLaws.{brings_datagram, brings_own, brings_silent}
+use Rattle.frame_device.proofs.Prelude.{ℕ, ◌+◌, ◌-◌, ◌∷◌, ◌∙◌, [], ap, arith, refl, sym, drop, take, Datagram, counts_by_inputs}
+use Rattle.frame_device.proofs.Prelude.{guarded_link, leaving}
+use Rattle.frame_device.proofs.HereLaws.{brings_datagram, brings_own, brings_silent, silent_counts}
 use Rattle.frame_device.proofs.device.FrameDevice.input.Goals as goal
 
 pub returns-in-Nothing-clause-answers : goal.returns-in-Nothing-clause-answers
@@ -11,6 +12,10 @@ returns-in-Nothing-clause-answers g c = record {
       (λ acts. g.M.Frames.did c.take.new.self k acts) c.args.self.now.node
       ((g.M.Frames.spec k).decodes (take c.args.len c.args.buf.now)) (rw c.in-Nothing.is at (c.take.ensures.reported k s.acts here.acted)) here.represented
       (c.take.ensures.did k s.acts here.acted);
+  counts = λ k m own s here.
+      silent_counts (g.M.Frames.spec k) c.args.self.now.guard.rules g.A.App.served s.node
+      ((g.M.Frames.spec k).decodes (take c.args.len c.args.buf.now)) c.args.self.now.guard.counts
+      (rw c.in-Nothing.is at (c.take.ensures.reported k s.acts here.acted));
 }
 
 pub returns-in-Own-clause-answers : goal.returns-in-Own-clause-answers
@@ -23,6 +28,9 @@ returns-in-Own-clause-answers g c = record {
       (λ acts. g.M.Frames.did c.take.new.self k acts) c.args.self.now.node
       ((g.M.Frames.spec k).decodes (take c.args.len c.args.buf.now)) reported.0 _ reported.1 reported.2 here.represented
       (c.take.ensures.did k s.acts here.acted);
+  counts = λ k m own s here.
+      let reported = rw c.in-Own.is at (c.take.ensures.reported k s.acts here.acted) in
+      ap (λ cs. counts_by_inputs c.args.self.now.guard.rules g.A.App.served s.node cs c.args.self.now.guard.counts) (sym reported.1);
 }
 
 pub returns-in-Datagram-clause-answers : goal.returns-in-Datagram-clause-answers
@@ -42,4 +50,9 @@ returns-in-Datagram-clause-answers g c =
           (reported ∙ ap (λ n. Datagram (datagram n) ∷ []) (omega arith)) c.guarded_input-sent.ensures.takes
           (λ acts replies did is. c.write_sent.ensures.text k acts (leaving w.rules.key) own replies did is) here.represented
           (c.take.ensures.did k s.acts here.acted);
+      counts = λ k m own s here.
+          let reported = rw c.in-Datagram.is at (c.take.ensures.reported k s.acts here.acted) in
+          c.guarded_input-sent.ensures.counts s.node here.represented.represented
+          ∙ ap (λ cs. counts_by_inputs c.args.self.now.guard.rules g.A.App.served s.node cs c.args.self.now.guard.counts)
+          (sym (reported ∙ ap (λ n. Datagram (datagram n) ∷ []) (omega arith)));
     }

@@ -6,6 +6,7 @@ pub returns-clause-answers : goal.returns-clause-answers
 returns-clause-answers g c = record {
   kept = c.guarded_periodic-sent.ensures.takes.same;
   rules = refl;
+  counts = λ k m own s here. refl;
   each = λ k m own s here.
       let w = guarded_link (g.M.Frames.spec k) c.args.self.now.guard.rules in
       calls_events g.A.App w m own s (λ acts. g.M.Frames.did c.begin_tick.new.frames k acts) c.args.self.now.node

@@ -2,7 +2,7 @@
 use Rattle.uip_both_c.proofs.Prelude.{◌≡◌, ap, true, DeviceRow, Kept, holds, is_some, gives_parts_well}
 use base.Logic.{emp, id⊢}
 use contract.Monad.{fact_i}
-use Rattle.uip_both_c.proofs.Taking.{some_of}
+use Rattle.c_calls.proofs.Handles.{some_of}
 use Rattle.uip_both_c.proofs.Words.{HeldRow, held_opened}
 use Rattle.uip_both_c.specs.contracts.held.Held.into_parts.{ended, clauses}
 use Rattle.uip_both_c.specs.contracts.held.Held.into_parts.Key.{name as #self}

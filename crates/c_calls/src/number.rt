@@ -2,7 +2,7 @@
 
 ghost use Rattle.std.specs.Prelude.{◌≡◌};
 
-use c_calls::OK;
+use crate::status::OK;
 
 /// A number that was read, with the status.
 #[repr(C)]
