@@ -77,8 +77,8 @@ app-asan)
     build fuzz_app_asan -O1 -fsanitize=address,undefined -fno-sanitize-recover=all $app
     exec "$out/fuzz_app_asan" 1000000 "${2:-1000000}" "${3:-1}";;
 app-planted)
-    calls="open protect listen input_frame_area periodic_frame read write close"
-    planted 70 "$app" app.c "node_writes node_listens $(printf 'uip_app_%s ' $calls)" 3000000 1;;
+    calls="open protect guard_counter listen input_frame_area periodic_frame read write close"
+    planted 71 "$app" app.c "node_writes node_listens $(printf 'uip_app_%s ' $calls)" 3000000 1;;
 both)
     # shellcheck disable=SC2086
     build fuzz_both -O2 $both
@@ -88,8 +88,9 @@ both-asan)
     build fuzz_both_asan -O1 -fsanitize=address,undefined -fno-sanitize-recover=all $both
     exec "$out/fuzz_both_asan" 1000000 "${2:-1000000}" "${3:-1}";;
 both-planted)
-    calls="open_ether protect listen input_frame_area periodic_frame read write close set_value hits query is_idle connection ticks counter"
-    planted 102 "$both" both.c "node_writes node_listens node_receives $(printf 'uip_%s ' $calls)" 3000000 1;;
+    calls="open_ether protect guard_counter listen input_frame_area periodic_frame read write close set_value hits query is_idle"
+    calls="$calls connection ticks counter"
+    planted 103 "$both" both.c "node_writes node_listens node_receives $(printf 'uip_%s ' $calls)" 3000000 1;;
 esac
 
 seconds=${1:-60}

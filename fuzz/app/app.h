@@ -41,6 +41,7 @@ typedef struct {
     size_t datagram_len, arrived_len;
     const byte *arrived;
     secret secret;
+    unsigned guard[3];    // by enum uip_guard_counter_id
     int is_used;    // a frame was received, or a slot was called: a secret would come too late
 } node;
 // Those with `sent` write the frame that is sent and return its length, or 0.
@@ -61,6 +62,7 @@ void call_open(device *d, const byte *own, const byte *mac, const byte *mask, co
 void call_close(device *d);
 int call_listen(device *d, unsigned port);    // 1 if the port was opened, or was open
 void call_secret(device *d);
+void call_guard_counter(device *d);
 void call_frame(device *d, const byte *frame, size_t len, size_t room, sent_frame *sent);
 void call_tick(device *d, size_t slot, size_t room, sent_frame *sent);
 uip_received call_read(device *d, size_t slot, size_t room, byte *bytes);

@@ -129,6 +129,17 @@ void call_secret(device *d) {
     end(d, status, wanted, NAMED(protect));
 }
 
+// Reads a counter of the guard: of a number that there is, or of none.
+void call_guard_counter(device *d) {
+    size_t number = chance(80) ? between(1, 2) : chance(50) ? 0 : 3 + random_next();
+    begin(d, 0, &guard, 0);
+    uip_number it = CALL(guard_counter)(&d->on.handle, number);
+    int is_read = end(d, it.status, foretold(d, number == 0 || number > 2), NAMED(guard_counter));
+    unsigned wanted = is_read ? d->node.guard[number] : 0;
+    WANT(it.number == wanted, NAMED(guard_counter) " returned %u, and %u was foretold", it.number, wanted);
+    is_untouched(d, 0, NAMED(guard_counter));
+}
+
 void call_frame(device *d, const byte *frame, size_t len, size_t room, sent_frame *sent) {
     begin(d, room, frame, len);
     uip_result done = CALL(input_frame)(&d->on.handle, out, len, room);
@@ -192,6 +203,7 @@ void wrong_call(device *d) {
     random_bytes(bytes, 300);
     if (serves_pages() && chance(30)) { pages_refuse(d); return; }
     if (chance(10) && (!d->on.is_open || d->node.is_used || d->node.secret.is_set)) { call_secret(d); return; }
+    if (chance(10)) { call_guard_counter(d); return; }
     switch (below(11)) {
     case 0: call_frame(d, bytes, below((unsigned)small + 1), small, &sent); break;
     case 1: call_frame(d, bytes, room + 1 + below(5000), room, &sent); break;

@@ -277,6 +277,7 @@ static int passes_guard(node *n) {
     }
     judgement by_guard = judge(&g, n->arrived, n->arrived_len);
     counts.dropped += by_guard.what == DROPS, counts.gave_up += by_guard.what == GIVES_UP;
+    n->guard[UIP_GUARD_DROPPED] += by_guard.what == DROPS, n->guard[UIP_GUARD_GAVE_UP] += by_guard.what == GIVES_UP;
     if (by_guard.what == GIVES_UP) closed(n->slots + by_guard.slot, NOTHING);
     pages_judged(n, by_guard);
     return by_guard.what != DROPS;

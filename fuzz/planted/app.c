@@ -185,6 +185,13 @@ unsigned JOIN(wrap, CALL(protect))(node_handle *d, const byte *secret) {
     return PLANT == SECRET + 3 && status == UIP_BAD_ARGUMENT ? UIP_OK : status;
 }
 
+// Fault SECRET + 4: the guard counts what it dropped as given up.
+uip_number REAL(guard_counter)(node_handle *d, size_t number);
+
+uip_number JOIN(wrap, CALL(guard_counter))(node_handle *d, size_t number) {
+    return REAL(guard_counter)(d, PLANT == SECRET + 4 && number == UIP_GUARD_GAVE_UP ? UIP_GUARD_DROPPED : number);
+}
+
 uip_received WRAP(read)(node_handle *d, size_t slot, void *bytes, size_t room) {
     byte *to = bytes;
     uip_received it = REAL(read)(d, slot, bytes, room);

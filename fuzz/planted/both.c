@@ -1,5 +1,5 @@
 // Faults between the harness and the library of include/uip_both.h, one for each number PLANT: the harness has to find each
-// (`sh fuzz/run.sh both-planted`). 1 to 67 are those of app.c, 68 to 85 those of reads.c, 100 to 102 are of the secret, and the others are
+// (`sh fuzz/run.sh both-planted`). 1 to 67 are those of app.c, 68 to 85 those of reads.c, 100 to 103 are of the guard, and the others are
 // of pages and messages side by side.
 #define INNER(name) JOIN(inner, CALL(name))
 #define WRAP INNER

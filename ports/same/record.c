@@ -126,9 +126,7 @@ uip_result __wrap_uip_input_frame_area(uip_device *d, unsigned char *out, size_t
     }
 NUMBERS(uip_ticks, TICKS, (uip_device *d), (d), 0, 0, 0)
 NUMBERS(uip_counter, COUNTER, (uip_device *d, size_t number), (d, number), number, 0, 0)
-#ifndef BOTH
 NUMBERS(uip_guard_counter, GUARD_COUNTER, (uip_device *d, size_t number), (d, number), number, 0, 0)
-#endif
 NUMBERS(uip_is_idle, IS_IDLE, (uip_device *d), (d), 0, 0, 0)
 NUMBERS(uip_hits, HITS, (uip_device *d, const void *name, size_t len), (d, name, len), 0, name, len)
 

@@ -22,6 +22,14 @@ unsigned __wrap_uip_app_protect(uip_app *d, const unsigned char secret[16]) {
     return status;
 }
 
+uip_number __real_uip_app_guard_counter(uip_app *d, size_t number);
+uip_number __wrap_uip_app_guard_counter(uip_app *d, size_t number) {
+    record r = begun(APP_GUARD_COUNTER, d, number, 0, 0, 0);
+    uip_number n = __real_uip_app_guard_counter(d, number);
+    returned(&r, n.status, n.number, 0, 0, 0);
+    return n;
+}
+
 // The frame lies at the start of `frame`, and what comes after it was filled.
 uip_result __real_uip_app_input_frame_area(uip_app *d, unsigned char *frame, size_t room, size_t len);
 uip_result __wrap_uip_app_input_frame_area(uip_app *d, unsigned char *frame, size_t room, size_t len) {

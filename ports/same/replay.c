@@ -58,7 +58,6 @@ static uip_result call(const record *r, const unsigned char *input, const unsign
     case DRAIN: return uip_drain(d, out, room);
     case INPUT: return uip_input(d, input, len, out, room);
     case PERIODIC_DATAGRAM: return uip_periodic_datagram(d, number, out, room);
-    case GUARD_COUNTER: return of_number(uip_guard_counter(d, number));
 #endif
 #ifndef SERIAL
     case OPEN_ETHER:
@@ -70,6 +69,7 @@ static uip_result call(const record *r, const unsigned char *input, const unsign
     case PROTECT: return of_status(uip_protect(d, input));
     case TICKS: return of_number(uip_ticks(d));
     case COUNTER: return of_number(uip_counter(d, number));
+    case GUARD_COUNTER: return of_number(uip_guard_counter(d, number));
     case IS_IDLE: return of_number(uip_is_idle(d));
     case CONNECTION: row = uip_connection(d, number); return of_row(left);
     case SET_VALUE: return of_status(uip_set_value(d, number, input, len));

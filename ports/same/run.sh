@@ -2,9 +2,9 @@
 # The same calls, for run.sh: the fuzzer runs on this machine with the library of the proof run, record.c writes each of its calls and
 # results to a pipe, and replay.c makes them again on the target. record_app.c and replay_app.c are those of uip_app.h. For uip_both.h the
 # first two are compiled with BOTH.
-RECORDED_BOTH="open_ether protect input_frame_area periodic_frame ticks counter is_idle connection set_value hits query close"
-RECORDED="open feed periodic drain input periodic_datagram guard_counter $RECORDED_BOTH"
-RECORDED_APP="open protect listen input_frame_area periodic_frame read write close"
+RECORDED_BOTH="open_ether protect guard_counter input_frame_area periodic_frame ticks counter is_idle connection set_value hits query close"
+RECORDED="open feed periodic drain input periodic_datagram $RECORDED_BOTH"
+RECORDED_APP="open protect guard_counter listen input_frame_area periodic_frame read write close"
 
 # The words for the linker that put the recorder between the fuzzer and these calls: wrapped PREFIX CALL ..
 wrapped() {

@@ -51,6 +51,13 @@ INLINE uip_result of_result(const u64 *words) {
 /* A call that returns a uip_result, with `d` among the arguments. */
 #define RESULT(call, arguments) u64 result[3]; BEGIN port_##call arguments; END return of_result(result);
 
+INLINE uip_number of_number(u64 both) {
+    uip_number number;
+    number.status = (u32)both;
+    number.number = (u32)(both >> 32);
+    return number;
+}
+
 #if !IS_APP
 INLINE uip_opened of_opened(const u64 *words) {
     const u8 *const from = (const u8 *)words;
@@ -61,24 +68,9 @@ INLINE uip_opened of_opened(const u64 *words) {
     for (at = 0; at < 8; at++) opened.word[at] = (char)from[8 + at];
     return opened;
 }
-
-INLINE uip_number of_number(u64 both) {
-    uip_number number;
-    number.status = (u32)both;
-    number.number = (u32)(both >> 32);
-    return number;
-}
 #endif
 
 #if IS_SERIAL || IS_WHOLE
-uip_number uip_guard_counter(uip_device *device, size_t number) {
-    u64 both;
-    BEGIN
-    both = port_uip_guard_counter(d, number);
-    END
-    return of_number(both);
-}
-
 uip_opened uip_open(uip_device *device, const unsigned char *image, size_t len, const unsigned char own[4]) {
     u64 opened[2];
     BEGIN
@@ -134,6 +126,14 @@ unsigned uip_protect(uip_device *device, const unsigned char secret[16]) {
     status = (unsigned)port_uip_protect(d, (u8 *)secret);
     END
     return status;
+}
+
+uip_number uip_guard_counter(uip_device *device, size_t number) {
+    u64 both;
+    BEGIN
+    both = port_uip_guard_counter(d, number);
+    END
+    return of_number(both);
 }
 
 uip_number uip_ticks(uip_device *device) {
@@ -263,6 +263,14 @@ unsigned uip_app_protect(uip_app *device, const unsigned char secret[16]) {
     status = (unsigned)port_uip_app_protect(d, (u8 *)secret);
     END
     return status;
+}
+
+uip_number uip_app_guard_counter(uip_app *device, size_t number) {
+    u64 both;
+    BEGIN
+    both = port_uip_app_guard_counter(d, number);
+    END
+    return of_number(both);
 }
 
 uip_result uip_app_input_frame_area(uip_app *device, unsigned char *frame, size_t room, size_t len) {
