@@ -483,9 +483,9 @@ value_pages_answer files request decided follows mss some low =
     )
 
 pub web_calls_arrive : WebCallsArrive
-web_calls_arrive files served gives numbers rules own all lefts conforms a p decided follows incarnation asks =
+web_calls_arrive files trace arrives a p decided follows incarnation asks =
     let syn = lossy_syn a p incarnation asks.lossy in
     let some : 0 < a.mss = (let l = mss_some syn.option in let e = syn.is in omega (arith, l, e)) in
     let low : a.mss ≤ 1460 = (let l = first_low syn.option in let e = syn.is in omega (arith, l, e)) in
     let answers = value_pages_answer files a.request decided follows a.mss some low in
-    conforms.arrives a p answers.0 answers.1.0 (texts_by words a.mss (answer_pieces words files (wanted a.request))) 19 answers.1.1 incarnation asks
+    arrives a p answers.0 answers.1.0 (texts_by words a.mss (answer_pieces words files (wanted a.request))) 19 answers.1.1 incarnation asks

@@ -1,6 +1,6 @@
 -- The pages of a device answer a request in a number of segments that its pieces give.
 use Rattle.std.specs.Int.{div_ceil}
-use Rattle.std.specs.Prelude.{◌≡◌, ◌≢◌, ◌<◌, ◌≤◌, ◌∷◌, ◌&&◌, [], Bool, false, flat_map, length, List, sum_by, true, ℕ}
+use Rattle.std.specs.Prelude.{◌≡◌, ◌≢◌, ◌<◌, ◌≤◌, ◌∷◌, ◌&&◌, [], Bool, false, length, List, sum_by, true, ℕ}
 use Rattle.app_events.specs.Prelude.{AppState}
 use Rattle.generators.specs.Prelude.{ScriptFunctions}
 use Rattle.site_image.specs.Prelude.{File}
@@ -9,13 +9,8 @@ use Rattle.device_values.specs.declared.word.Word.{Word}
 use Rattle.device_values.specs.declared.word.Word.TheVariants as word
 use Rattle.uip_node.specs.Prelude.{AnswersPolled}
 use Rattle.web_pages.specs.Prelude.{reply_pieces_by, ScriptPiece, Plain, Made, Wanted, wanted, Name, NotYet}
-use Rattle.uip_wire.specs.declared.addr.Addr.{Addr}
 use Rattle.tcp_machine.specs.Prelude.{Sockets}
-use Rattle.node_laws.specs.Prelude.{Asker, AsksOverLoss, Progresses, TraceEntry, exchanges_with}
-use Rattle.guarded_node.specs.declared.guard.Rules.{Rules}
-use Rattle.uip_device.specs.Devices.{Answered}
-use Rattle.uip_device.specs.Moves.{Writing}
-use Rattle.uip_device.specs.Keeping.{CallsConform}
+use Rattle.node_laws.specs.Prelude.{ArrivesIn, Asker, AsksOverLoss, Progresses, TraceEntry, exchanges_with}
 use Rattle.uip_device.specs.WebDevices.{value_pages, value_spec}
 
 -- the pieces of the reply to a request
@@ -66,14 +61,12 @@ ValuePagesAnswer =
     → (fine : ℕ → AppState → Bool) × ((left : AppState → ℕ)
     × AnswersPolled (value_spec files) request mss fine left (texts_by words mss (answer_pieces words files (wanted request))) 19)
 
--- The calls of a device that serves a site, one of whose results is `conforms`, bring a peer its page over a lossy link: from its whole
--- request on it has arrived or is on its way (`Progresses`). The request is decided, and is received whole before any slot is called twenty
--- times. Text follows each value of its page.
+-- In a trace of a device that serves a site, of calls or of frames (`arrives` of `CallsConform` and of `FramesConform`), the page of a peer
+-- arrives over a lossy link: from the whole request on it has arrived or is on its way (`Progresses`). The request is decided, and is
+-- received whole before any slot is called twenty times. Text follows each value of the page.
 abbrev pub WebCallsArrive : Type 0
 WebCallsArrive =
-    (files : List File) (served : ℕ → Bool) (gives : Writing) (numbers : List ℕ) (rules : Rules) (own : Addr)
-    (all : List Answered) (lefts : List (List ℕ))
-    → (conforms : CallsConform (value_spec files) (value_pages files) served gives numbers rules own all lefts) → (a : Asker) (p : Sockets)
+    (files : List File) (trace : List TraceEntry) → ArrivesIn (value_spec files) (value_pages files) trace → (a : Asker) (p : Sockets)
     → wanted a.request ≢ NotYet → text_follows_values (answer_pieces words files (wanted a.request)) ≡ true → (incarnation : List TraceEntry)
-    → AsksOverLoss a p 19 (flat_map (λ it. it.turns) conforms.moves) incarnation
+    → AsksOverLoss a p 19 trace incarnation
     → Progresses (value_pages files) a (texts_by words a.mss (answer_pieces words files (wanted a.request))) (exchanges_with p incarnation)

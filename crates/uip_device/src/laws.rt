@@ -45,7 +45,7 @@ pub fn value_pages_answer()
     ensures none { PagesWithoutValues }
 {}
 
-/// The page of a peer of a device that serves a site arrives over a lossy link, if text follows each value of the page.
+/// In a trace of a device, of calls or of frames, the page of a peer arrives over a lossy link, if text follows each value of the page.
 pub fn web_calls_arrive()
     ensures { WebCallsArrive }
 {}
