@@ -1,21 +1,20 @@
 -- The lens shifts by the pair of sockets, and back again.
-use Rattle.std.proofs.Common.{◌≡◌, ℕ, ◌+◌, ◌-◌, ◌<◌, ◌≤◌, ◌&&◌, ◌==◌, Bool, true, false, All, List, Option, Some, None, refl, sym, ap, ◌∙◌}
+use Rattle.std.proofs.Common.{◌≡◌, ℕ, ◌+◌, ◌-◌, ◌<◌, ◌≤◌, ◌&&◌, ◌==◌, true, List, Option, Some, None, refl, sym, ap, ◌∙◌}
 use Rattle.std.proofs.Common.{arith}
 use Rattle.std.specs.Prelude.{bytes_eq}
 use Rattle.std.proofs.lemmas.Bool.{and_parts, eqb-true}
 use Rattle.std.proofs.lemmas.Slice.Eq.{bytes_eq-Decides}
-use Rattle.uip_wire.specs.Prelude.{address_at, word_bytes, wrap}
+use Rattle.uip_wire.specs.Prelude.{wrap}
 use Rattle.uip_wire.specs.declared.addr.Addr.{Addr}
-use Rattle.app_events.specs.Prelude.{IsByte}
 use Rattle.sip_hash.specs.declared.key.Key.{Key}
 use Rattle.segment_guard.specs.Lens.{pair_shift}
 use Rattle.tcp_segment.specs.Prelude.{PlainSegment}
-use Rattle.tcp_machine.specs.Prelude.{Sockets, same_sockets}
+use Rattle.tcp_machine.specs.Prelude.{Sockets}
 use Rattle.uip_node.specs.Prelude.{Arrived, EchoAsked, Event, IcmpRefused, IpRefused, Overlong, Periodic, Reply, TcpRefused, event_of}
 use Rattle.uip_node.specs.Prelude.{reply_bytes}
 use Rattle.uip_node.specs.Events.Reply.{Echo, TcpReply}
 use Rattle.node_laws.proofs.Wire.{IsWire, bytes_wire}
-use Rattle.guarded_node.specs.Wire.{arriving, leaving, shift_for}
+use Rattle.guarded_node.specs.Wire.{shift_for}
 use Rattle.guarded_node.specs.WireLaws.{IsSendable, on_wire, received}
 use Rattle.guarded_node.proofs.Arriving.{arriving_is}
 use Rattle.guarded_node.proofs.Leaving.{leaving_is}

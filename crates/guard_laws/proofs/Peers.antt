@@ -1,5 +1,5 @@
 -- The next segment of a cooperating peer is the next one of its connection.
-use Rattle.std.proofs.Common.{◌≡◌, List, sym, ap, ◌∙◌}
+use Rattle.std.proofs.Common.{sym, ap, ◌∙◌}
 use Rattle.tcp_segment.specs.Prelude.{PlainSegment, has_ack, has_rst, has_syn}
 use Rattle.guarded_node.proofs.Honest.{next_passes}
 use Rattle.guard_laws.specs.Peers.{NextOfAskerPasses}

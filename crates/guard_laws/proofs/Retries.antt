@@ -1,19 +1,18 @@
 -- What is outstanding on the wire is outstanding at the node, and its retransmission is one on the wire.
-use Rattle.std.proofs.Common.{◌≡◌, ℕ, zero, suc, ◌+◌, ◌-◌, ◌<◌, ◌≤◌, ◌==◌, Bool, true, false, List, [], ◌∷◌, ◌++◌, length, map, take, All}
+use Rattle.std.proofs.Common.{◌≡◌, ℕ, zero, suc, ◌+◌, ◌≤◌, ◌==◌, false, List, [], ◌∷◌, ◌++◌, map, take, All}
 use Rattle.std.proofs.Common.{Option, Some, None, option_map, if◌then◌else◌, refl, sym, ap, ◌∙◌, subst, arith}
 use Rattle.std.specs.Prelude.{slice_get}
 use Rattle.std.specs.Option.{option_map_or}
 use Rattle.std.proofs.lemmas.List.Elements.{All-cons, All-head, All-nil, All-tail}
 use Rattle.uip_wire.specs.Prelude.{wrap}
-use Rattle.tcp_segment.specs.Prelude.{PlainSegment, has_ack, has_rst}
+use Rattle.tcp_segment.specs.Prelude.{PlainSegment}
 use Rattle.tcp_machine.specs.Prelude.{Sockets, occupies_sequence_space}
-use Rattle.uip_node.specs.Prelude.{Alike, Event, Reply, called_by}
+use Rattle.uip_node.specs.Prelude.{Event, called_by}
 use Rattle.uip_node.specs.Events.Event.{IpRefused, IcmpRefused, TcpRefused, EchoAsked, Arrived, Overlong, Periodic}
-use Rattle.uip_node.specs.Events.Reply.{Echo, TcpReply}
 use Rattle.node_laws.specs.Asked.{IsWithoutReset}
 use Rattle.node_laws.specs.HonestPeers.{calls_of}
 use Rattle.node_laws.specs.Promise.{sequence_length}
-use Rattle.node_laws.specs.Timers.{IsOutstanding, IsRetried, IsRetriedIn, RetriesIn}
+use Rattle.node_laws.specs.Timers.{IsOutstanding, IsRetried, RetriesIn}
 use Rattle.node_laws.specs.Timers.IsRetried.{given_up, sent_again}
 use Rattle.node_laws.specs.Traces.{Exchange, TraceEntry, exchanges_with, received_at, received_from, sent_at}
 use Rattle.guard_laws.specs.Shifted.{IsShift, entry_on_wire, event_on_wire, on_wire, received_shifted, reply_on_wire, sent_shifted}

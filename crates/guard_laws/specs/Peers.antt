@@ -2,7 +2,6 @@
 use Rattle.std.specs.Prelude.{ℕ, ◌≡◌, ◌+◌, ◌<◌, false, true, List}
 use Rattle.uip_wire.specs.Prelude.{wrap}
 use Rattle.app_events.specs.Prelude.{is_time_wait}
-use Rattle.tcp_segment.specs.Prelude.{PlainSegment}
 use Rattle.tcp_segment.specs.declared.segment.Segment.{Segment}
 use Rattle.tcp_machine.specs.Prelude.{Connection, plain, rcv_nxt, snd_una}
 use Rattle.node_laws.specs.HonestPeers.{Asker, SendsNext}

@@ -20,7 +20,7 @@ use Rattle.uip_node.proofs.SoundSegments.{IsSoundSegment}
 use Rattle.uip_node.specs.Laws.{SendsBytes}
 use Rattle.uip_node.specs.Prelude.{connection_in}
 use Rattle.uip_node.specs.Steady.{IsSteady}
-use Rattle.uip_device.proofs.SendLaws.{run_addr}
+use Rattle.uip_node.proofs.Addresses.{run_addr}
 
 bytes_low : (move : Move) → IsOfBytes move → All IsByte (bytes_of_move move)
 bytes_low (Makes (Feeds bytes)) is = is

@@ -3,12 +3,8 @@ use Rattle.uip_device.proofs.Prelude.{◌≡◌, ℕ, Bool, Buffer, List, [], �
 use Rattle.uip_device.proofs.Prelude.{subst, Ghosts, Addr, Node, seen, Event, Reply, AbstractNode, AppSpec, Ran, run, step, Represents}
 use Rattle.uip_device.proofs.Prelude.{IsNode, node_on, HandsOut, SendsOver, TookArrivals, datagram_sent, text_sent, Arrival, TooLong, Guard}
 use Rattle.uip_device.proofs.Prelude.{GuardCounts, Key, counted_at, events_at, guarded_run, IsSentOver, HasRun, TakesEvents, leaving}
-use Rattle.serve_loop.proofs.AddrLaws.{step-addr}
+use Rattle.uip_node.proofs.Addresses.{run_addr}
 use Rattle.uip_node.specs.Events.Event.{Overlong}
-
-pub run_addr : (m : AppSpec) (served : ℕ → Bool) (events : List Event) (n : AbstractNode) → (run m served events n).node.addr ≡ n.addr
-run_addr m served [] n = refl
-run_addr m served (e ∷ events) n = run_addr m served events (step m served n e).node ∙ step-addr m served n e
 
 -- nothing is sent
 pub silent_text : (key : Option Key) (own : Addr) (replies : List Reply) (sent : Option ℕ) (packet : Buffer) → sent ≡ None
