@@ -8,7 +8,7 @@ use Rattle.link_replay.proofs.Prelude.{numbered, posts, posts_reply, with_client
 use Rattle.link_replay.proofs.Prelude.{pair_at, WorldRepresents, LinkRepresents, IsLink, AreTo, IsTo, SocketPair, Link, CodeWorld}
 use Rattle.link_replay.proofs.Pairs.{left_is}
 use Rattle.link_replay.proofs.Replies.{SentTo, arrived_reply, periodic_reply}
-use Rattle.link_replay.proofs.Staying.{step_addr}
+use Rattle.uip_node.proofs.Addresses.{step_addr}
 
 reply_node : (w : World) (r : Option Reply) → (posts_reply w r).node ≡ w.node
 reply_node w None = refl

@@ -1,7 +1,7 @@
 use Rattle.link_replay.proofs.Prelude.{List, ◌∙◌, subst, World, PostsReply, LinkRepresents, link_of, CodeSent, CodeSide, NodeStep, step}
 use Rattle.link_replay.proofs.Answered.{left_by, loud, quiet}
 use Rattle.link_replay.proofs.Sending.{kept_posted}
-use Rattle.link_replay.proofs.Staying.{step_addr}
+use Rattle.uip_node.proofs.Addresses.{step_addr}
 use Rattle.link_replay.proofs.world.call_effects.tell.Goals as goal
 
 pub returns-in_err-post_reply-in-Some-clause-kept : goal.returns-in_err-post_reply-in-Some-clause-kept
