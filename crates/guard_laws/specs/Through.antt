@@ -1,13 +1,13 @@
 -- Arrival through the guard. On the wire is also what the guard drops. A cooperating client does not see whether the link lost a datagram
 -- or the guard dropped it.
-use Rattle.std.specs.Prelude.{ℕ, ◌≡◌, All, Bool, false, List, [], ◌∷◌, ◌++◌, None, ⊤}
+use Rattle.std.specs.Prelude.{ℕ, ◌≡◌, All, Bool, false, List, [], ◌∷◌, ◌++◌, None}
 use Rattle.uip_wire.specs.declared.addr.Addr.{Addr}
-use Rattle.app_events.specs.Prelude.{AppSpec, AppState, IsAddr, IsByte, IsPaged, IsU32, Pages}
+use Rattle.app_events.specs.Prelude.{AppSpec, AppState, IsAddr, IsPaged, IsU32, Pages}
 use Rattle.tcp_machine.specs.Prelude.{Sockets}
 use Rattle.uip_node.specs.Prelude.{AbstractNode, AnswersPolled, Event, Overlong, Periodic, event_of, initial_node, run}
 use Rattle.node_laws.specs.Prelude.{Asker, AsksOverLoss, Progresses, TraceEntry, exchanges_with, trace_of}
 use Rattle.segment_guard.specs.Verdict.{is_foreign}
-use Rattle.guarded_node.specs.Arrivals.{Arrival, events_at}
+use Rattle.guarded_node.specs.Arrivals.{Arrival, BringsBytes, events_at}
 use Rattle.guarded_node.specs.Arrivals.Arrival.{Due, Received, TooLong}
 use Rattle.guarded_node.specs.Guarded.{by_verdict}
 use Rattle.guarded_node.specs.Verdicts.{verdict_on}
@@ -34,11 +34,6 @@ abbrev pub wire_trace : Rules → AppSpec → (ℕ → Bool) → List Arrival �
 wire_trace rules m served [] n = []
 wire_trace rules m served (arrival ∷ arrivals) n =
     trace_at rules m served n arrival ++ wire_trace rules m served arrivals (run m served (events_at rules served n arrival) n).node
-
--- What is received consists of bytes.
-abbrev pub BringsBytes : Arrival → Type 0
-BringsBytes (Received bytes) = All IsByte bytes
-BringsBytes _ = ⊤
 
 -- Every cooperating peer with an address that a host may have progresses in this trace of the wire, as `ArrivesIn` states it of the events
 -- that the node takes.

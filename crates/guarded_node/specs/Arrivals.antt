@@ -1,7 +1,7 @@
 -- What arrives at a guarded node, the events that the node then takes, and what goes to the wire.
-use Rattle.std.specs.Prelude.{ℕ, Bool, List, [], ◌∷◌, ◌++◌, Option}
+use Rattle.std.specs.Prelude.{ℕ, All, Bool, List, [], ◌∷◌, ◌++◌, Option, ⊤}
 use Rattle.uip_wire.specs.declared.addr.Addr.{Addr}
-use Rattle.app_events.specs.Prelude.{AppSpec}
+use Rattle.app_events.specs.Prelude.{AppSpec, IsByte}
 use Rattle.sip_hash.specs.declared.key.Key.{Key}
 use Rattle.uip_node.specs.Prelude.{AbstractNode, Event, Overlong, Periodic, Ran, Reply, reply_bytes, run}
 use Rattle.guarded_node.specs.Counts.{counted}
@@ -16,6 +16,12 @@ pub data Arrival : Type 0 where
   Received : (bytes : List ℕ) → Arrival
   TooLong : Arrival
   Due : (slot : ℕ) → Arrival
+
+-- What is received consists of bytes.
+abbrev pub BringsBytes : Arrival → Type 0
+BringsBytes (Received bytes) = All IsByte bytes
+BringsBytes TooLong = ⊤
+BringsBytes (Due slot) = ⊤
 
 -- The events that the node takes for it.
 abbrev pub events_at : Rules → (ℕ → Bool) → AbstractNode → Arrival → List Event

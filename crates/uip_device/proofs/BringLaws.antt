@@ -11,6 +11,7 @@ use Rattle.app_events.specs.Prelude.{is_live}
 use Rattle.guarded_node.proofs.ArrivingBytes.{arriving_low}
 use Rattle.guarded_node.proofs.Resets.{there}
 use Rattle.guarded_node.proofs.Taken.{guarded_all}
+use Rattle.guarded_node.specs.Arrivals.{BringsBytes}
 use Rattle.guarded_node.specs.Guarded.{gives_up, reset_by}
 use Rattle.node_laws.proofs.PeerReads.{SoundAll, changed_sound, comes_on_line, live_fits, starts_sound, step_all}
 use Rattle.node_laws.proofs.Steps.{LineStep, OfNode, Changes as ChangesNumbers, IsStep, all_happen}
@@ -22,7 +23,7 @@ use Rattle.uip_node.specs.Prelude.{connection_in}
 use Rattle.uip_node.specs.Steady.{IsSteady}
 use Rattle.uip_node.proofs.Addresses.{run_addr}
 
-bytes_low : (move : Move) → IsOfBytes move → All IsByte (bytes_of_move move)
+pub bytes_low : (move : Move) → IsOfBytes move → All IsByte (bytes_of_move move)
 bytes_low (Makes (Feeds bytes)) is = is
 bytes_low (Makes (Calls slot)) is = All-nil IsByte
 bytes_low (Makes Drains) is = All-nil IsByte
@@ -33,43 +34,38 @@ bytes_low (Gives number text) is = All-nil IsByte
 
 -- ---- what comes consists of bytes
 
-abbrev IsComing : Arrival → Type 0
-IsComing (Received bytes) = All IsByte bytes
-IsComing TooLong = Unit {0}
-IsComing (Due slot) = Unit {0}
-
-frames_bring : (frames : List Frame) → All CarriesBytes (map came_by frames) → All IsComing (map arrival_of frames)
-frames_bring [] h = All-nil IsComing
+frames_bring : (frames : List Frame) → All CarriesBytes (map came_by frames) → All BringsBytes (map arrival_of frames)
+frames_bring [] h = All-nil BringsBytes
 frames_bring (Datagram bytes ∷ frames) h =
-    All-cons IsComing (Received bytes) (map arrival_of frames) (All-head CarriesBytes (came_by (Datagram bytes)) (map came_by frames) h)
+    All-cons BringsBytes (Received bytes) (map arrival_of frames) (All-head CarriesBytes (came_by (Datagram bytes)) (map came_by frames) h)
     (frames_bring frames (All-tail CarriesBytes (came_by (Datagram bytes)) (map came_by frames) h))
 frames_bring (Overlong ∷ frames) h =
-    All-cons IsComing TooLong (map arrival_of frames) tt (frames_bring frames (All-tail CarriesBytes (came_by Overlong) (map came_by frames) h))
+    All-cons BringsBytes TooLong (map arrival_of frames) tt (frames_bring frames (All-tail CarriesBytes (came_by Overlong) (map came_by frames) h))
 
-slots_bring : (slots : List ℕ) → All IsComing (map Due slots)
-slots_bring [] = All-nil IsComing
-slots_bring (s ∷ slots) = All-cons IsComing (Due s) (map Due slots) tt (slots_bring slots)
+slots_bring : (slots : List ℕ) → All BringsBytes (map Due slots)
+slots_bring [] = All-nil BringsBytes
+slots_bring (s ∷ slots) = All-cons BringsBytes (Due s) (map Due slots) tt (slots_bring slots)
 
-bytes_bring : (pace : ℕ) (before bytes : List ℕ) → All IsByte before → All IsByte bytes → All IsComing (arrivals_after pace before (map Byte bytes))
-bytes_bring pace before [] h are = All-nil IsComing
+bytes_bring : (pace : ℕ) (before bytes : List ℕ) → All IsByte before → All IsByte bytes → All BringsBytes (arrivals_after pace before (map Byte bytes))
+bytes_bring pace before [] h are = All-nil BringsBytes
 bytes_bring pace before (b ∷ bytes) h are =
     let behind : List ℕ = before ++ b ∷ [] in
     let frame : List Arrival = map arrival_of (completed before b) in
     let due : List Arrival = if is_beat pace (length before + 1) then tick_arrivals else [] in
-    All-append IsComing (frame ++ due) (arrivals_after pace behind (map Byte bytes))
-    (All-append IsComing frame due (frames_bring (completed before b) (slip_brings_bytes before b h (All-head IsByte b bytes are)))
-    (choose (λ (l : List Arrival). All IsComing l) (is_beat pace (length before + 1)) _ _
-    (λ e. slots_bring (0 ∷ 1 ∷ 2 ∷ 3 ∷ 4 ∷ 5 ∷ 6 ∷ 7 ∷ 8 ∷ 9 ∷ [])) (λ e. All-nil IsComing)))
+    All-append BringsBytes (frame ++ due) (arrivals_after pace behind (map Byte bytes))
+    (All-append BringsBytes frame due (frames_bring (completed before b) (slip_brings_bytes before b h (All-head IsByte b bytes are)))
+    (choose (λ (l : List Arrival). All BringsBytes l) (is_beat pace (length before + 1)) _ _
+    (λ e. slots_bring (0 ∷ 1 ∷ 2 ∷ 3 ∷ 4 ∷ 5 ∷ 6 ∷ 7 ∷ 8 ∷ 9 ∷ [])) (λ e. All-nil BringsBytes)))
     (bytes_bring pace behind bytes (All-append IsByte before (b ∷ []) h (All-cons IsByte b [] (All-head IsByte b bytes are)
     (All-nil IsByte))) (All-tail IsByte b bytes are))
 
-call_brings : (before : List ℕ) (call : Call) → IsOfBytes (Makes call) → All IsByte before → All IsComing (arrivals_by before call)
+pub call_brings : (before : List ℕ) (call : Call) → IsOfBytes (Makes call) → All IsByte before → All BringsBytes (arrivals_by before call)
 call_brings before (Feeds bytes) is h = bytes_bring 0 before bytes h is
 call_brings before (Calls slot) is h = slots_bring (slot ∷ [])
-call_brings before Drains is h = All-nil IsComing
-call_brings before (Inputs datagram) is h = All-cons IsComing (Received datagram) [] is (All-nil IsComing)
+call_brings before Drains is h = All-nil BringsBytes
+call_brings before (Inputs datagram) is h = All-cons BringsBytes (Received datagram) [] is (All-nil BringsBytes)
 call_brings before (CallsForDatagram slot) is h = slots_bring (slot ∷ [])
-call_brings before DoesNothing is h = All-nil IsComing
+call_brings before DoesNothing is h = All-nil BringsBytes
 
 reset_sound : (c : Connection) → IsSoundSegment (reset_by c)
 reset_sound c = record {
@@ -110,7 +106,7 @@ module _ (m : AppSpec) (steady : IsSteady m) (sends : SendsBytes m) (served : �
       comes_on_line own c.sockets (reset_by c) is_own (live_fits m steady sends n slot c st.sound (there n slot within) live) (reset_sound c)
 
   module _ (rules : Rules) where
-    arrival_happens : (n : AbstractNode) (arrival : Arrival) → Stands n → IsComing arrival → AllOf (events_at rules served n arrival)
+    arrival_happens : (n : AbstractNode) (arrival : Arrival) → Stands n → BringsBytes arrival → AllOf (events_at rules served n arrival)
     arrival_happens n (Received bytes) st low =
         guarded_all (IsOfLine own) rules served n bytes
         (of_bytes (arriving rules.key bytes) (arriving_low rules.key bytes low) (ap (λ (a : Addr). event_of a (arriving rules.key bytes)) st.addr))
@@ -118,14 +114,14 @@ module _ (m : AppSpec) (steady : IsSteady m) (sends : SendsBytes m) (served : �
     arrival_happens n TooLong st low = All-cons (IsOfLine own) _ [] (of_overlong refl) (All-nil (IsOfLine own))
     arrival_happens n (Due slot) st low = All-cons (IsOfLine own) (Periodic slot) [] (of_call slot refl) (All-nil (IsOfLine own))
 
-    all_arrive : (arrivals : List Arrival) (n : AbstractNode) → Stands n → All IsComing arrivals → AllOf (guarded_events rules m served arrivals n)
+    all_arrive : (arrivals : List Arrival) (n : AbstractNode) → Stands n → All BringsBytes arrivals → AllOf (guarded_events rules m served arrivals n)
     all_arrive [] n st low = All-nil (IsOfLine own)
     all_arrive (arrival ∷ arrivals) n st low =
         let first : List Event = events_at rules served n arrival in
-        let of : AllOf first = arrival_happens n arrival st (All-head IsComing arrival arrivals low) in
+        let of : AllOf first = arrival_happens n arrival st (All-head BringsBytes arrival arrivals low) in
         let mid : AbstractNode = (run m served first n).node in
         All-append (IsOfLine own) first (guarded_events rules m served arrivals mid) of
-        (all_arrive arrivals mid (stands_after first n of st) (All-tail IsComing arrival arrivals low))
+        (all_arrive arrivals mid (stands_after first n of st) (All-tail BringsBytes arrival arrivals low))
 
     -- a move is these steps: the events that the node takes for it, or a change of the numbers
     abbrev pub steps_of_move : Writing → List ℕ → Move → AbstractNode → List LineStep
