@@ -60,7 +60,7 @@ program() {
         return
     fi
     put bin crates/uipd/out/uipd
-    put share/man/man1 docs/uipd.1
+    put share/man/man1 crates/uipd/uipd.1
 }
 
 # The page without its tests; node.wasm and the site lie beside it.

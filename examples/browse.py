@@ -73,7 +73,7 @@ QUEUE = 16384      # bytes that may wait for the line before datagrams wait in t
 HELD = 0.1         # seconds for which a datagram is held that is to be reordered
 SOCKET_ROOM = 65536
 LINK_TYPES = {False: 101, True: 1}    # of a capture file: raw IP, and Ethernet
-# The exit statuses of uipd (docs/uipd.1).
+# The exit statuses of uipd (crates/uipd/uipd.1).
 STATUSES = {
     0: "the line ended",
     1: "the command line is unknown",

@@ -185,7 +185,7 @@ def addresses(trial):
 
 def statuses(trial):
     """Each status of the manual page has words."""
-    with open(os.path.join(HERE, "../docs/uipd.1"), encoding="utf8") as file:
+    with open(os.path.join(HERE, "../crates/uipd/uipd.1"), encoding="utf8") as file:
         listed = re.findall(r"^\.B (\d)$", file.read().partition(".SH EXIT STATUS")[2], re.M)
     trial.see(listed == list(map(str, browse.STATUSES)), f"the manual page lists the statuses {listed}")
 

@@ -35,6 +35,6 @@ install -d "$to/share/man/man3" &&
     python3 packaging/header.py man "$to/share/man/man3" "$version" include/uip.h >/dev/null || fail "no manual pages"
 if [ -x crates/uipd/out/uipd ]; then
     put 755 bin crates/uipd/out/uipd
-    put 644 share/man/man1 docs/uipd.1
+    put 644 share/man/man1 crates/uipd/uipd.1
 fi
 echo "Lowunbisa $version is in $to: cc main.c \$(pkg-config --cflags --libs uip_c); man 3 uip"

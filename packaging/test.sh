@@ -34,7 +34,7 @@ answers() { python3 examples/ping.py "$@" | grep -q 'checksums right'; }
 one_version() {
     short=${version%.*}
     grep -q "\"uipd $short\\\\n\"" crates/uipd/src/help.rt || { echo "crates/uipd/src/help.rt has not uipd $short"; return 1; }
-    grep -q "^\.TH UIPD 1 \"\" \"Lowunbisa $short" docs/uipd.1 || { echo "docs/uipd.1 has not $short"; return 1; }
+    grep -q "^\.TH UIPD 1 \"\" \"Lowunbisa $short" crates/uipd/uipd.1 || { echo "crates/uipd/uipd.1 has not $short"; return 1; }
     grep -q "^## .*$short" CHANGELOG.md || { echo "CHANGELOG.md has no heading with $short"; return 1; }
     for part in MAJOR MINOR PATCH; do
         [ "$(grep "UIP_VERSION_$part" include/uip.h)" = "$(grep "UIP_VERSION_$part" dist/uip.h)" ] || { echo "dist/uip.h differs"; return 1; }
