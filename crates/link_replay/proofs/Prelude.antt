@@ -17,7 +17,8 @@ pub use Rattle.link_client.specs.declared.client_state.ClientState.TheVariants.{
 pub use Rattle.link_client.specs.declared.setup.Setup.{Setup}
 pub use Rattle.link_replay.specs.Prelude.{AbortAndCloseApart, ActSteps, ActsEnd, AnswersTo, AppendsShown, AreFresh, AreTo, AreWorkedReplays}
 pub use Rattle.link_replay.specs.Prelude.{AreWorkedReports, AreWorkedSummaries, ClosesInTime, CodeSent, CodeSide, CodeWorld, DamageLoses}
-pub use Rattle.link_replay.specs.Prelude.{EndsReport, EndsWith, Follows, FromHere, HasReached, HitsAreCounted, HonestPages, HonestReplay}
+pub use Rattle.link_replay.specs.Prelude.{EndsReport, EndsWith, Follows, FromHere, HasReached, HitsAreCounted, HonestPages, LosingPages}
+pub use Rattle.link_replay.specs.Prelude.{HonestReplay}
 pub use Rattle.link_replay.specs.Prelude.{HonestWebPeer, LossyWebPeer, WebPeersArrive, IsAt, IsAtLast, IsFresh, IsHonest, IsLink}
 pub use Rattle.link_replay.specs.Prelude.{IsLoadText, IsPlayDue, IsReplayText, IsShort, IsTextDue, IsTo, KeepsPromises, LacksEither}
 pub use Rattle.link_replay.specs.Prelude.{LinesEnd, Link, LinkRepresents, LoadEnds, LoadIsReported, Matched, OnlyEpoch, OnlyFull}
@@ -63,6 +64,7 @@ pub use Rattle.link_world.proofs.Damages.{act_harmless}
 pub use Rattle.link_world.proofs.Doing.{damaged, goes_on_with, where_there, with_mark}
 pub use Rattle.link_world.proofs.Reception.{same_receiving}
 pub use Rattle.link_world.proofs.Honest.{honest_link}
+pub use Rattle.link_world.proofs.LosingRun.{losing_link}
 pub use Rattle.link_world.proofs.HonestNode.{mss_low}
 pub use Rattle.link_world.proofs.Lines.{line_acts, lines_are_acts, runs_joined, runs_mark}
 pub use Rattle.link_world.proofs.NodeRuns.{every}

@@ -2,7 +2,7 @@
 use Rattle.link_replay.proofs.Prelude.{◌≢◌, ℕ, ◌<◌, ◌≤◌, inl, List, [], ◌∷◌, length, refl, arith, div_ceil_times, AppSpec, Pages, first_mss}
 use Rattle.link_replay.proofs.Prelude.{File, files_of, offered, IsPlanned, IsServed, IsSchedulePlayed, prefix_and_whole, lines_are_acts}
 use Rattle.link_replay.proofs.Prelude.{honest_link, mss_low, first_low, wanted, NotYet, pages_of, web_spec, keeps_page_laws, made_of_bytes}
-use Rattle.link_replay.proofs.Prelude.{PagesAreReceived, HonestPages, parts_of, texts_of}
+use Rattle.link_replay.proofs.Prelude.{PagesAreReceived, HonestPages, LosingPages, losing_link, parts_of, texts_of}
 use Rattle.link_replay.proofs.Answering.{fine, left, answers}
 
 pub pages_are_received : PagesAreReceived
@@ -37,3 +37,13 @@ honest_pages site loaded served addr hits p a words plan port decided room =
     (fine files p.request decided mss some low 0) (left files p.request decided mss some low) (parts_of p) (texts_of files p)
     (answers files p.request decided mss some low 0 (omega arith))
     (has_come p.request decided) (div_ceil_times (length p.request) p.setup.seg planned.seg.0).0 room
+
+pub losing_pages : LosingPages
+losing_pages site loaded served addr hits p a words plan port decided one_part room =
+    let files : List File = files_of site in
+    let mss : ℕ = first_mss (offered p.setup.mss) in
+    let some : 0 < mss = mss_low (offered p.setup.mss) in
+    let low : mss ≤ 1460 = first_low (offered p.setup.mss) in
+    losing_link (web_spec files) (pages_of files) (keeps_page_laws site loaded) served addr hits p a words plan port
+    (fine files p.request decided mss some low 0) (left files p.request decided mss some low) (texts_of files p)
+    (answers files p.request decided mss some low 0 (omega arith)) (has_come p.request decided) one_part room

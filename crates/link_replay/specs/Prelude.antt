@@ -28,7 +28,7 @@ pub use Rattle.link_replay.specs.Shown.{AppendsShown, EndsReport, code_side_show
 pub use Rattle.link_replay.specs.State.{CodeWorld, Link, link_of}
 pub use Rattle.link_replay.specs.Summary.{summary_of, tally_line, tally_of}
 pub use Rattle.link_replay.specs.Reporting.{AnswersTo, AreTo, IsTo, client_reported, pair_at_side, sees}
-pub use Rattle.link_replay.specs.Web.{HonestPages, PagesAreReceived, most_of, parts_of, pieces_for, texts_for, texts_of}
+pub use Rattle.link_replay.specs.Web.{HonestPages, LosingPages, PagesAreReceived, most_of, parts_of, pieces_for, texts_for, texts_of}
 pub use Rattle.link_replay.specs.Worked.{AreWorkedReplays}
 pub use Rattle.link_replay.specs.WorkedReports.{AreWorkedReports}
 pub use Rattle.link_replay.specs.WorkedSummaries.{AreWorkedSummaries}

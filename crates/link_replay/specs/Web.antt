@@ -10,7 +10,7 @@ use Rattle.site_image.specs.Prelude.{File}
 use Rattle.file_tree.specs.Prelude.{SiteContent, IsLoaded, files_of}
 use Rattle.link_client.specs.Prelude.{offered}
 use Rattle.link_world.specs.Prelude.{World, Side, is_clean, Planned, IsPlan, Start, initial_world}
-use Rattle.link_world.specs.Prelude.{started, plays, OfLine, IsAct, IsServed, IsServedWhole}
+use Rattle.link_world.specs.Prelude.{started, plays, OfLine, IsAct, IsServed, IsServedWhole, ServesOverLoss}
 use Rattle.link_schedule.specs.declared.event.Event.{Event}
 use Rattle.link_schedule.specs.declared.event.Event.TheVariants.{Opens, Round}
 use Rattle.web_pages.specs.Prelude.{Wanted, wanted, NotYet, Refused, Name, ScriptPiece, reply_pieces, Plain, Made, pages_of, web_spec}
@@ -63,3 +63,12 @@ HonestPages =
     × (plays (web_spec (files_of site)) served (Opens 1 ∷ replicate (2 * parts_of p + 2 * texts_of (files_of site) p + 6) Round)
     (initial_world addr hits (p ∷ [])) ≡ Ok w)
     × IsServedWhole (pages_of (files_of site)) w
+
+-- Over a link that loses up to seven copies in a row of each segment of the node, and up to four of the SYN-ACK, a client that sends a
+-- decided request in one segment has its whole page.
+abbrev pub LosingPages : Type 0
+LosingPages =
+    (site : SiteContent) → IsLoaded site → (served : ℕ → Bool) (addr : Addr) (hits : List ℕ) (p : Planned)
+    → IsAddr addr → All IsU32 hits → IsPlan (p ∷ []) →
+    served p.setup.server_port.0 ≡ true → wanted p.request ≢ NotYet → length p.request ≤ p.setup.seg → 10 * texts_of (files_of site) p + 60 ≤ 65535 →
+    ServesOverLoss (web_spec (files_of site)) (pages_of (files_of site)) served (initial_world addr hits (p ∷ [])) (texts_of (files_of site) p)

@@ -1,11 +1,11 @@
 -- Whole schedules of the web server, worked by hand: what each client has at the end.
 -- [add: counter] The lists of counters.
 use Rattle.std.specs.Prelude.{◌≡◌, ℕ, ◌+◌, List, [], ◌∷◌, ◌++◌, codes, flat_map, length}
-use Rattle.std.specs.Prelude.{map, replicate, take, Option, Some, None, Result, Ok, Err}
+use Rattle.std.specs.Prelude.{map, replicate, Option, Some, None, Result, Ok, Err}
 use Rattle.site_image.specs.Prelude.{File}
 use Rattle.uip_node.specs.Prelude.{ticks_of}
 use Rattle.link_client.specs.declared.client_state.ClientState.TheVariants.{Opening, Opened, Closed, Reset}
-use Rattle.link_world.specs.Prelude.{World, Sent, numbered, Planned, initial_world, plays, BadLine}
+use Rattle.link_world.specs.Prelude.{World, Sent, numbered, Planned, initial_world, losing_lines, plays, BadLine}
 use Rattle.link_world.specs.Prelude.{ClientEnd, clean_end, end_of_client, text_of_content, worked_client}
 use Rattle.link_schedule.specs.declared.event.Event.{Event}
 use Rattle.link_schedule.specs.declared.event.Event.TheVariants.{Opens, Closes, Ping, Give, Tick, Round, Lose}
@@ -98,27 +98,15 @@ table_page =
     ++ waiting_row 5 (codes "30") ++ waiting_row 6 (codes "31") ++ waiting_row 7 (codes "32") ++ waiting_row 8 (codes "33")
     ++ waiting_row 9 (codes "34")
 
--- The node sends a segment again after 4 ticks, and then after 4, 7, 13, 25, 49 and 49 more. This many copies of it are lost, at most
--- seven, and the next one is delivered: two lines for each lost copy, and one more.
-abbrev pub losing : ℕ → List Event
-losing copies = flat_map (λ ticks. Lose ∷ Tick ticks ∷ []) (take copies (4 ∷ 4 ∷ 7 ∷ 13 ∷ 25 ∷ 49 ∷ 49 ∷ [])) ++ Round ∷ []
-
--- A segment of the client is delivered, and seven copies of the answer of the node are lost.
-abbrev pub losing_answer : List Event
-losing_answer = Round ∷ losing 7
-
--- Four copies of the SYN-ACK are lost, and seven of each text and of the FIN. The segments of the client are delivered between.
-abbrev pub losing_all : ℕ → List Event
-losing_all texts = Opens 1 ∷ Round ∷ losing 4 ++ flat_map (λ events. events) (replicate texts losing_answer) ++ losing_answer ++ Round ∷ []
-
 pub record AreWorkedReplays : Type 0 where
   -- a whole page
   pub page : ends_with hello_site (client 1000 1025 536 (get (codes "/")) ∷ []) (Opens 1 ∷ replicate 14 Round)
       ≡ ended (clean_end Closed (ok ++ as_html ++ codes "hello\n") ∷ []) 8
-  -- a whole page of two texts and a normal close, though each segment of the node is lost as often as arrival allows, in 60 lines
-  pub lossy : ends_with hits_site (client 1000 1025 536 (get (codes "/h.shtml")) ∷ []) (losing_all 2)
+  -- A whole page of two texts and a normal close in 60 lines, though four copies of the SYN-ACK are lost, and seven of each text and of the
+  -- FIN: each segment of the node is lost as often as arrival allows.
+  pub lossy : ends_with hits_site (client 1000 1025 536 (get (codes "/h.shtml")) ∷ []) (losing_lines 4 (7 ∷ 7 ∷ 7 ∷ []))
       ≡ Ok (record { clients = clean_end Closed (hit_page 49) ∷ []; ticks = 481; datagrams = 35 })
-  pub lossy_lines : length (losing_all 2) ≡ 60
+  pub lossy_lines : length (losing_lines 4 (7 ∷ 7 ∷ 7 ∷ [])) ≡ 60
   -- the second client sees the hit of the first
   pub hits : ends_with hits_site (client 1000 1025 536 (get (codes "/h.shtml")) ∷ client 2000 1026 536 (get (codes "/h.shtml")) ∷ [])
       (Opens 1 ∷ replicate 14 Round ++ Opens 2 ∷ replicate 14 Round)

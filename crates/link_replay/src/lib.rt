@@ -14,7 +14,7 @@ pub use commands::load_command::load;
 pub use commands::replay_command::replay;
 pub use commands::replay_end::ReplayEnd;
 pub use file_tree::{SiteError, SiteWhy};
-pub use headline::{honest_pages, pages_are_received, worked_replays};
+pub use headline::{honest_pages, losing_pages, pages_are_received, worked_replays};
 pub use laws::{
     abort_and_close_apart, damage_loses, hits_are_counted, honest_replay, honest_web_peer,
     load_is_reported, lossy_web_peer, only_full, replay_is_reported, worked_reports,

@@ -36,31 +36,37 @@ lines_of n = Opens 1 ∷ replicate n Round
 
 module _ (m : AppSpec) (pages : Pages) (lawful : IsPaged m pages) (served : ℕ → Bool) (addr : Addr) (numbers : List ℕ) (p : Planned) where
   -- the client opens
-  opening_line : plays_line m served (initial_world addr numbers (p ∷ [])) (Opens 1)
+  pub opening_line : plays_line m served (initial_world addr numbers (p ∷ [])) (Opens 1)
       ≡ Ok (under_way (initial_node addr numbers) (only_side (client_at p.setup p.request Is.Opening [] 0 0 FinAt.NotSent 0) None) []
       (by_client (ticks_of []) 0 (syn_of (client_at p.setup p.request Is.Opening [] 0 0 FinAt.NotSent 0))))
   unfolding opens_by
   opening_line = refl
 
   -- the world that is played is served
-  served_whole : (n : ℕ) → IsAddr addr → All IsU32 numbers → IsPlan (p ∷ []) → Ended (plays m served (lines_of n) (initial_world addr numbers (p ∷ []))) →
-      (w : World) × (plays m served (lines_of n) (initial_world addr numbers (p ∷ [])) ≡ Ok w) × IsServedWhole pages w
-  served_whole n a words plan e =
+  pub served_by : (lines : List Event) → All (OfLine IsAct) lines → All (OfLine IsPlainAct) lines → IsAddr addr → All IsU32 numbers → IsPlan (p ∷ [])
+      → Ended (plays m served lines (initial_world addr numbers (p ∷ []))) →
+      (w : World) × (plays m served lines (initial_world addr numbers (p ∷ [])) ≡ Ok w) × IsServedWhole pages w
+  served_by lines are_acts plain a words plan e =
       let w : World = e.world in
       let side : Side = only_side e.client e.opened in
       let there : slice_get w.sides 0 ≡ Some side = ap (λ (l : List Side). slice_get l 0) e.sides in
       let played : IsSchedulePlayed m pages w = record {
         served = served;
         start = record { addr = addr; is_addr = a; numbers = numbers; in_range = words; plan = p ∷ []; is_plan = plan };
-        lines = lines_of n;
-        are_acts = all_cons (OfLine IsAct) (Opens 1) (replicate n Round) tt (all_same (OfLine IsAct) Round n (λ k. tt));
-        bytes = inr (all_cons (OfLine IsPlainAct) (Opens 1) (replicate n Round) tt (all_same (OfLine IsPlainAct) Round n (λ k. tt)));
+        lines = lines;
+        are_acts = are_acts;
+        bytes = inr plain;
         accepted = e.is;
       } in
       let has : IsServed pages (record w { mark = 0 }) side = prefix_and_whole m pages lawful (record w { mark = 0 })
       (lines_are_acts m pages w played) 0 side there refl in
       let closed = ap Rattle.link_client.specs.Client.has_closed e.closed in
       (w, e.is, record { side = side; there = there; closed = e.closed; clean = refl; received = has.all closed; whole = has.whole closed })
+
+  served_whole : (n : ℕ) → IsAddr addr → All IsU32 numbers → IsPlan (p ∷ []) → Ended (plays m served (lines_of n) (initial_world addr numbers (p ∷ []))) →
+      (w : World) × (plays m served (lines_of n) (initial_world addr numbers (p ∷ [])) ≡ Ok w) × IsServedWhole pages w
+  served_whole n = served_by (lines_of n) (all_cons (OfLine IsAct) (Opens 1) (replicate n Round) tt (all_same (OfLine IsAct) Round n (λ k. tt)))
+      (all_cons (OfLine IsPlainAct) (Opens 1) (replicate n Round) tt (all_same (OfLine IsPlainAct) Round n (λ k. tt)))
 
   module _ (fine : AppState → Bool) (left : AppState → ℕ) (parts texts : ℕ)
       (answers : AnswersIn m p.request (first_mss (offered p.setup.mss)) fine left texts) where

@@ -32,16 +32,16 @@ mss_high (Some n) = choose (λ k. k ≤ 65535) (eqb n 0) _ _ (λ e. omega arith)
 least : (n : ℕ) → n ≤ 65535 → min n 65535 ≡ n
 least n h = omega arith
 
-and_no : (b : Bool) → b && false ≡ false
+pub and_no : (b : Bool) → b && false ≡ false
 and_no true = refl
 and_no false = refl
 
-three : (a b c : Bool) → a ≡ true → b ≡ true → c ≡ true → a && (b && c) ≡ true
+pub three : (a b c : Bool) → a ≡ true → b ≡ true → c ≡ true → a && (b && c) ≡ true
 three true true c e f g = g
 three true false c e f g = absurd (cc)
 three false b c e f g = absurd (cc)
 
-found_first : (p : Connection → Bool) (k : Connection) (rest : List Connection) → p k ≡ true → position p (k ∷ rest) ≡ Some 0
+pub found_first : (p : Connection → Bool) (k : Connection) (rest : List Connection) → p k ≡ true → position p (k ∷ rest) ≡ Some 0
 found_first p k rest e = position_from-zero p (k ∷ rest) ∙ ap (λ b. cond b (Some 0) (position_from p 1 rest)) e
 
 module _ (m : AppSpec) (pages : Pages) (lawful : IsPaged m pages) (served : ℕ → Bool) (addr : Addr) (setup : Setup) (request : List ℕ) where
@@ -74,10 +74,10 @@ module _ (m : AppSpec) (pages : Pages) (lawful : IsPaged m pages) (served : ℕ 
   abbrev pub answers_with : List ℕ → List HistoryEntry → Connection → ℕ → Bool → PlainSegment → NodeStep
   answers_with numbers history k id again t = record { node = node_at numbers history k; sent = Some (TcpReply sockets id again t); gone = None }
 
-  abbrev remembered : Event → Step → List HistoryEntry → List HistoryEntry
+  abbrev pub remembered : Event → Step → List HistoryEntry → List HistoryEntry
   remembered event step history = record { event = event; answer = Spoke (is_again step) } ∷ history
 
-  answered : (old k : Connection) (before numbers : List ℕ) (history : List HistoryEntry) (event : Event) (step : Step) (t : PlainSegment) →
+  pub answered : (old k : Connection) (before numbers : List ℕ) (history : List HistoryEntry) (event : Event) (step : Step) (t : PlainSegment) →
       k.sockets ≡ sockets → segment_of m k step ≡ Some t → is_live k.state ≡ true →
       happened m (node_at before history old) event 0 old (leaves k numbers step)
       ≡ answers_with numbers (remembered event step history) k (ident_of (remembered event step history)) (is_again step) t
@@ -120,7 +120,7 @@ module _ (m : AppSpec) (pages : Pages) (lawful : IsPaged m pages) (served : ℕ 
       }
 
   -- a segment at its number, and no RST, is handled by the row of the state
-  taken_in : (c : Connection) (numbers : List ℕ) (s : PlainSegment) → has_rst s.flags ≡ false → (occupies_sequence_space s ≡ true → s.seq ≡ rcv_nxt c) →
+  pub taken_in : (c : Connection) (numbers : List ℕ) (s : PlainSegment) → has_rst s.flags ≡ false → (occupies_sequence_space s ≡ true → s.seq ≡ rcv_nxt c) →
       on_segment m c numbers s ≡ by_state m c.state (is_acked c s) c numbers s
   unfolding on_segment
   taken_in c numbers s r h =
@@ -260,6 +260,8 @@ module _ (m : AppSpec) (pages : Pages) (lawful : IsPaged m pages) (served : ℕ 
       sends_text : (numbers : List ℕ) (history : List HistoryEntry) (id : ℕ) (p : AppState) (text : List ℕ) (len : ℕ) → length text ≡ len
           → 0 < len → Awaits p taken most len →
           All IsU32 numbers → FitConn (conn_at Established taken iss acked len p) →
+          segment_of m (conn_at Established taken iss acked len p) (Step.Text true)
+          ≡ Some (node_sends setup request (ACK + PSH) (wrap (iss + acked)) (wrap (setup.iss.0 + 1 + taken)) text) →
           r ≡ answers_with numbers history (conn_at Established taken iss acked len p) id false
           (node_sends setup request (ACK + PSH) (wrap (iss + acked)) (wrap (setup.iss.0 + 1 + taken)) text) →
           Says r taken iss acked most
@@ -307,7 +309,7 @@ module _ (m : AppSpec) (pages : Pages) (lawful : IsPaged m pages) (served : ℕ 
         ap (λ t. length (take len (drop q.acked t))) (lawful.output q) ∙ cut_length (pages.page q.input q.snapshots) q.acked len (omega (arith, may.1)) in
         let some : 0 < len = omega (arith, may.0, mss_low (offered setup.mss)) in
         sends_text numbers (remembered event (Step.Text false) history) (ident_of (remembered event (Step.Text false) history)) q text len
-        size some (awaits_text len some e g) n fit.conn
+        size some (awaits_text len some e g) n fit.conn refl
         (answered old k before numbers history event (Step.Text false) (node_sends setup request (ACK + PSH) (snd_una k) (rcv_nxt k) text) refl refl refl)
     by_want old before numbers history event fresh taken iss acked most q Nothing f e n may g fit =
         let k : Connection = conn_at Established taken iss acked 0 q in

@@ -216,7 +216,7 @@ module _ (m : AppSpec) (pages : Pages) (lawful : IsPaged m pages) (served : ℕ 
       (under_way next (only_side (open_with setup request received a o x) (Some 0)) all (by_node (ticks_of history) number t)))) (sym three)
       (ends_by_fin (n - 3) numbers history iss acked a o x (ticks_of history) number received p all ex (omega (arith, long, room, g)) (place + 1)))
   after_visit fuel n parts iss acked fewer below node a o x tick id received before s (sends_text numbers history number p text len size
-      some awaits words fits e) ex within f g parts_left room place =
+      some awaits words fits again e) ex within f g parts_left room place =
       let all : List Sent = before ++ by_client tick id s ∷ [] in
       let long : length all ≡ suc (length before) = one_longer before (by_client tick id s) in
       let next : AbstractNode = node_at m pages lawful served addr setup request numbers history

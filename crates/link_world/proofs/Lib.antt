@@ -38,6 +38,8 @@ pub mod Asking
 pub mod HonestClient
 pub mod HonestNode
 pub mod HonestRun
+pub mod LosingTicks
+pub mod LosingRun
 pub mod Honest
 pub mod Senders
 pub mod Reading

@@ -19,6 +19,7 @@ pub use Rattle.link_schedule.specs.declared.event.Event.TheVariants.{Round, Tick
 pub use Rattle.link_world.specs.Prelude.{AcknowledgedLater, AgainExactly, AgainExactlyPlainly, AsksRequest, BadLine, BytesAreRead}
 pub use Rattle.link_world.specs.Prelude.{CapturesFit, CleanParts, Content, CountsBy, DamageIsLoss, DamageIsLossThere, EpochsAreFew}
 pub use Rattle.link_world.specs.Prelude.{HasOneEpoch, HasTaken, HasTextNumbers, HonestLink, IsAct, IsExpired, IsInStep, IsLater, IsLoss}
+pub use Rattle.link_world.specs.Prelude.{LosingLink}
 pub use Rattle.link_world.specs.Prelude.{IsNumberOf, IsOfNode, IsPlainAct, IsPlan, IsPlanned, IsReached, IsReachedPlainly, IsRead}
 pub use Rattle.link_world.specs.Prelude.{IsSchedulePlayed, IsSentBy, IsServed, IsServedWhole, IsWholeDatagram, LinesAreActs, MarkIsLow}
 pub use Rattle.link_world.specs.Prelude.{MarksRepeats, NoneIsEmpty, OfEcho, OfLine, OfPing, OfSegment, OneConnection, OneRefusal}

@@ -7,6 +7,7 @@ pub mod History
 pub mod Headline
 pub mod Parts
 pub mod Honest
+pub mod Losing
 pub mod Reading
 pub mod Times
 pub mod Nodes

@@ -12,6 +12,7 @@ pub use Rattle.link_world.specs.Headline.{SameBytesPlainly, SendsAgain, Tick, is
 pub use Rattle.link_world.specs.History.{IsPlan, IsPlanned, Planned, Start, captures_of, era, fresh_side}
 pub use Rattle.link_world.specs.History.{initial_world, page_of, planned_of, sockets_in, started}
 pub use Rattle.link_world.specs.Honest.{HonestLink, IsServedWhole}
+pub use Rattle.link_world.specs.Losing.{LosingLink, ServesOverLoss, losing, losing_answers, losing_lines, lost_copies}
 pub use Rattle.link_world.specs.Nodes.{CapturesFit, HasTextNumbers, IsOfNode, TextNumbers, TextsAreShort}
 pub use Rattle.link_world.specs.Parts.{AsksRequest, CleanParts, HasOneEpoch, HasTaken, SendsPage}
 pub use Rattle.link_world.specs.Reading.{BytesAreRead, IsNumberOf, IsRead, IsSentBy, SentToClients}

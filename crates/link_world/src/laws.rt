@@ -5,7 +5,7 @@
 ghost use Rattle.link_world.specs.Prelude.{CleanParts, HonestLink, BytesAreRead, SentToClients, PrefixAndWhole, SameBytes};
 ghost use Rattle.link_world.specs.Prelude.{SameBytesPlainly, AgainExactly, AgainExactlyPlainly, Tick, DamageIsLoss, DamageIsLossThere};
 ghost use Rattle.link_world.specs.Prelude.{OneSegment, LinesAreActs, CapturesFit, TextNumbers, TextsAreShort, AcknowledgedLater};
-ghost use Rattle.link_world.specs.Prelude.{EpochsAreFew, MarkIsLow, NoneIsEmpty, OneConnection, SidesAsPlanned};
+ghost use Rattle.link_world.specs.Prelude.{EpochsAreFew, LosingLink, MarkIsLow, NoneIsEmpty, OneConnection, SidesAsPlanned};
 
 /// A clean client has received a prefix of its page, and the whole page if it accepted the server's FIN in sequence.
 pub fn prefix_and_whole()
@@ -122,4 +122,10 @@ pub fn texts_are_short()
 /// The clients of a world are those of its plan, in order, with their setups and requests.
 pub fn sides_as_planned()
     ensures { SidesAsPlanned }
+{}
+
+/// Over a link that loses up to seven copies in a row of each segment of the node, and four of its SYN-ACK, a client that sends its request
+/// in one segment has its whole page.
+pub fn losing_link()
+    ensures { LosingLink }
 {}

@@ -12,8 +12,9 @@ pub use act::Act;
 pub use laws::{
     acknowledged_later, again_exactly, again_exactly_plainly, bytes_are_read, captures_fit,
     clean_parts, damage_is_loss, damage_is_loss_there, epochs_are_few, honest_link, lines_are_acts,
-    mark_is_low, none_is_empty, one_connection, one_segment, prefix_and_whole, same_bytes,
-    same_bytes_plainly, sent_to_clients, sides_as_planned, text_numbers, texts_are_short, tick,
+    losing_link, mark_is_low, none_is_empty, one_connection, one_segment, prefix_and_whole,
+    same_bytes, same_bytes_plainly, sent_to_clients, sides_as_planned, text_numbers,
+    texts_are_short, tick,
 };
 pub use step_fault::StepFault;
 pub use who::Who;
