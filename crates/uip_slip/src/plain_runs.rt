@@ -33,11 +33,12 @@ pub fn copy_plain_by_words(out: &mut [u8], bytes: &[u8]) -> usize
     ensures rest { drop result out.new ≡ drop result out.old }
 {
     let mut at = 0;
-    'words: while let Some(word) = bytes[at..].first_chunk::<WORD>() {
-        if !is_plain_word(*word) {
+    'words: while let Some(chunk) = bytes[at..].first_chunk::<WORD>() {
+        let word = *chunk;
+        if !is_plain_word(word) {
             break;
         }
-        out[at..at + WORD].copy_from_slice(word);
+        out[at..at + WORD].copy_from_slice(&word);
         at += WORD;
     }
     'rest: while at < bytes.len() {

@@ -7,7 +7,7 @@ use Rattle.uip_slip.proofs.plain_runs.copy_plain_by_words.Goals as goal
 pub words-preserved : goal.words-preserved
 words-preserved c =
     let bytes = c.args.bytes.now in
-    let word = c.in-Some.word.now in
+    let word = c.in-Some.chunk.now in
     let at = c.words.at in
     let so_far = c.words.invariant in
     let chunk = c.in-Some.ensures.cases in
