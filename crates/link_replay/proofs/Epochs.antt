@@ -6,7 +6,7 @@ use Rattle.link_replay.proofs.Prelude.{length-map, length-take-le, take_all, tak
 use Rattle.link_replay.proofs.Prelude.{AbstractClient, Side, addressed, retires, retires_in, client_sockets, get_set, IsAtLast, OnlyEpoch}
 use Rattle.link_replay.proofs.Prelude.{buried, sockets_for, Matched, pair_at, sockets_at, SideRepresents, CodeSide, SocketPair}
 use Rattle.uip_node.proofs.Connections.{here, there}
-use Rattle.link_replay.proofs.Matching.{matched_cons, matched_head, matched_nil, matched_same, matched_tail}
+use Rattle.link_replay.proofs.Matching.{matched_cons, matched_head, matched_nil, matched_tail}
 
 -- a client of the code has the sockets of the one over plain data
 has_same : (p : Sockets) (x : CodeSide) (s : Side) → SideRepresents x s → same_sockets p (sockets_for x.client.setup) ≡ same_sockets p (client_sockets s)

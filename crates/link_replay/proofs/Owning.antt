@@ -1,5 +1,5 @@
 -- A client opens exactly if it is idle.
-use Rattle.link_replay.proofs.Prelude.{◌≡◌, ℕ, List, true, false, refl, sym, ap, ◌∙◌, subst, None, AbstractClient, ClientStep, keeps}
+use Rattle.link_replay.proofs.Prelude.{◌≡◌, ℕ, List, false, refl, sym, ap, ◌∙◌, subst, None, AbstractClient, ClientStep, keeps}
 use Rattle.link_replay.proofs.Prelude.{opens_by, client_opens, ClientState, Idle, is_idle, Side, CodeSide, SideRepresents, Stepped}
 
 rests : (st : ClientState) (c : AbstractClient) → is_idle st ≡ false → opens_by st c ≡ keeps c

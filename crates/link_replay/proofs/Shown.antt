@@ -1,6 +1,6 @@
 -- What a world shows by itself is what is shown of the world that it represents.
-use Rattle.link_replay.proofs.Prelude.{◌≡◌, ℕ, Bool, true, List, [], ◌++◌, Option, Result, Ok, Err, map, refl, sym, ap, ◌∙◌, subst}
-use Rattle.link_replay.proofs.Prelude.{append_assoc, OnOk, Appends, Appends-none, Appends-then, appends_by, AbstractClient, Side, World}
+use Rattle.link_replay.proofs.Prelude.{◌≡◌, ℕ, Bool, true, List, ◌++◌, Option, Result, Ok, Err, map, sym, ap, ◌∙◌, subst}
+use Rattle.link_replay.proofs.Prelude.{append_assoc, OnOk, Appends, Appends-then, appends_by, AbstractClient, Side, World}
 use Rattle.link_replay.proofs.Prelude.{Matched, CodeSide, ShownSide, lines_of_client, numbered_texts, side_shown, AppendsShown, EndsReport}
 use Rattle.link_replay.proofs.Prelude.{code_side_shown, LinkRepresents, SentRepresents, SideRepresents, Link, tally_of, Wrote}
 use Rattle.link_replay.proofs.Matching.{same_images}

@@ -1,8 +1,7 @@
 -- What a burial does to the clients' addresses and ports: nothing.
-use Rattle.link_replay.proofs.Prelude.{◌≡◌, ℕ, zero, suc, ◌&&◌, Bool, List, [], ◌∷◌, map, refl, Option, Some, None, slice_get, position}
-use Rattle.link_replay.proofs.Prelude.{PlainSegment, has_rst, AppSpec, Sockets, Connection, serves, same_sockets, is_plain_syn, Event}
-use Rattle.link_replay.proofs.Prelude.{IpRefused, IcmpRefused, TcpRefused, EchoAsked, Arrived, Overlong, Periodic, AbstractNode, NodeStep}
-use Rattle.link_replay.proofs.Prelude.{step, happened, opens, opens_in, for_no_connection, arrives_at, slot_for_syn, Side, retires}
+use Rattle.link_replay.proofs.Prelude.{◌≡◌, ℕ, zero, suc, List, [], ◌∷◌, map, refl, Option, Some, None, slice_get}
+use Rattle.link_replay.proofs.Prelude.{Connection, same_sockets}
+use Rattle.link_replay.proofs.Prelude.{Side, retires}
 use Rattle.link_replay.proofs.Prelude.{retires_in, client_sockets, choose}
 use Rattle.link_replay.proofs.Places.{Sames, SamePlaces, same_places}
 
