@@ -6,7 +6,7 @@
 #include "pages.h"
 
 enum { CLIENTS = 28, HTTP = 80 };
-typedef enum { IDLE, OPENING, OPEN, CLOSING, ENDED } state;
+typedef enum { IDLE, OPENING, OPEN, LINGERING, CLOSING, ENDED } state;    // LINGERING: the node has closed, and the client not yet
 
 typedef struct {
     state state;
@@ -25,7 +25,7 @@ static queue to_node, from_node;
 static const site *asked;
 static byte node[4];
 static unsigned next_port;
-static int may_be_overlong;
+static int may_be_overlong, are_few;    // `are_few`: all clients of the session are on three hosts
 
 static void say(client *c, unsigned flags, size_t at, size_t len) {
     byte datagram[LARGEST];
@@ -74,6 +74,7 @@ static void open_client(client *c) {
     memset(c, 0, offsetof(client, page));
     c->state = OPENING;
     memcpy(c->address, (byte[]){10, 1, (byte)random_next(), (byte)random_next()}, 4);
+    if (are_few) c->address[2] = 8, c->address[3] = (byte)below(3);
     c->port = next_port++;
     c->first = (unsigned)random_next();
     c->mss = chance(20) ? 0 : chance(5) ? between(1, 20) : between(40, 2000);
@@ -93,7 +94,7 @@ static void take_text(client *c, const segment *s) {
 
 static void take_end(client *c) {
     c->next++;
-    c->state = CLOSING;
+    c->state = chance(20) ? LINGERING : CLOSING;
     counts.pages++;
     if (!c->page.is_known || c->is_stale) return;
     WANT(c->page.is_whole && c->got == c->page.len, "%zu bytes of a page of %zu came before a plain close", c->got, c->page.len);
@@ -189,6 +190,8 @@ static void stranger_acts(void) {
                  .flags = chance(70) ? usual[below(10)] : below(64), .mss = chance(20) ? below(65536) : 0, .text = words};
     if (chance(20)) s.seq += below(40) - 20;
     if (chance(20)) s.ack += below(3000) - 1500;
+    if (chance(3)) s.ack -= between(65530, 65540);
+    if (chance(3)) s.seq += between(1458, 1464);
     if (chance(30)) s.len = (size_t)snprintf((char *)words, sizeof words, "GET /%u HTTP/1.0\r\n\r\n", below(30));
     else if (chance(20)) random_bytes(words, s.len = below(1400));
     memcpy(s.source, chance(95) ? k->address : node, 4), memcpy(s.target, chance(97) ? node : k->address, 4);
@@ -243,6 +246,7 @@ void clients_act(void) {
     else if (kind < 92) stranger_acts();
     else if (kind < 95) ping();
     else if (kind < 97) noise();
+    else if (chance(40)) forge_one();
     else if (c->state == OPEN && chance(3)) say(c, RST, 1 + c->acked, 0), c->state = ENDED;
 }
 
@@ -257,6 +261,8 @@ void clients_tick(void) {
         client *c = &clients[k];
         if (c->state == IDLE || c->state == ENDED || (c->wait && --c->wait)) continue;
         if (++c->retries > 60) c->state = ENDED;
+        else if (c->state == LINGERING && chance(90)) c->wait = between(2, 9);
+        else if (c->state == LINGERING) c->state = CLOSING, say_due(c, 0);
         else say_due(c, c->state == OPEN && chance(20));
     }
 }
@@ -265,7 +271,7 @@ void clients_begin(const site *s, const byte *own, int overlong) {
     memset(clients, 0, sizeof clients);
     memcpy(node, own, 4);
     to_node.count = from_node.count = 0;
-    asked = s, may_be_overlong = overlong, next_port = between(1024, 30000);
+    asked = s, may_be_overlong = overlong, are_few = chance(30), next_port = between(1024, 30000);
     for (unsigned k = 0; k < 8; k++) {
         memcpy(strangers[k].address, (byte[]){172, 16, (byte)k, (byte)random_next()}, 4);
         strangers[k].port = between(1, 65535);

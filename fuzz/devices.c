@@ -99,12 +99,11 @@ static int is_page_port(unsigned port) { return port == 80; }
 
 static int is_segment(const byte *datagram, size_t len) { return !fault_of(counted.own, datagram, len) && datagram[9] == 6; }
 
-// What the guard sees as a datagram arrives: the rows of the device by datagrams, and the numbers that follow from what it sent.
-static guard_view guard_now(const byte *datagram, size_t len) {
+// What the guard sees: the rows of the device by datagrams if it looks at them, and the numbers that follow from what that sent.
+static guard_view guard_now(int looks_at_rows) {
     guard_view g = {.secret = used, .has_pages = 1, .is_served = is_page_port};
     memcpy(g.own, counted.own, 4);
-    if (!is_segment(datagram, len)) return g;    // it looks at no connection
-    for (unsigned slot = 0; slot < UIP_SLOTS; slot++) {
+    for (unsigned slot = 0; looks_at_rows && slot < UIP_SLOTS; slot++) {
         uip_row row = uip_connection(&by_datagrams.handle, slot);
         held *c = g.slots + slot;
         c->state = row.state, c->port = row.port, c->own_port = 80, c->count = row.count, c->tries = row.tries;
@@ -151,7 +150,7 @@ static void text_with_ack_of_fin(const guard_view *g, const byte *datagram, size
 static void hear_one(const byte *datagram, size_t len) {
     static byte room[LARGEST];
     text sent = {room, 0};
-    guard_view g = guard_now(datagram, len);
+    guard_view g = guard_now(is_segment(datagram, len));
     judgement by_guard = judge(&g, datagram, len);
     model_judged(&counted, by_guard);
     if (by_guard.what != DROPS) model_hears(&counted, datagram, len);
@@ -268,7 +267,7 @@ void devices_hear(const byte *bytes, size_t len) {
 void devices_hear_datagram(const byte *datagram, size_t len) {
     static byte room[LARGEST];
     byte frame[2 * LARGEST + 2];
-    guard_view g = guard_now(datagram, len);
+    guard_view g = guard_now(is_segment(datagram, len));
     if (line_file && judge(&g, datagram, len).what != PASSES) return;    // uipd has no guard
     if (!how.is_mixed || has_open_frame() || chance(70)) {
         devices_hear(frame, write_frame(frame, datagram, len));
@@ -282,6 +281,13 @@ void devices_hear_datagram(const byte *datagram, size_t len) {
     said_whole.len += again.len ? write_frame(said_whole.bytes + said_whole.len, room, again.len) : 0;
     counts.calls--, counts.others++;
     compare();
+}
+
+void forge_one(void) {
+    byte datagram[LARGEST];
+    guard_view g = guard_now(1);
+    size_t len = forge(&g, datagram);
+    if (len) devices_hear_datagram(datagram, len);
 }
 
 // What a tick of a slot sends goes to the peer of its row, but for a RST, behind which the slot is CLOSED.

@@ -97,5 +97,6 @@ void clients_end(void);
 void heard_back(const byte *datagram, size_t len, int is_lost);            // what was sent, at times in no frame
 void devices_hear(const byte *line, size_t len);         // bytes of the line
 void devices_hear_datagram(const byte *datagram, size_t len);
+void forge_one(void);                                    // a segment in the name of a connection's peer (forged.c)
 
 #endif

@@ -92,6 +92,7 @@ typedef struct { secret secret; byte own[4]; int has_pages; int (*is_served)(uns
 typedef struct { enum { PASSES, DROPS, GIVES_UP } what; unsigned slot; } judgement;
 judgement judge(const guard_view *g, const byte *datagram, size_t len);
 const held *held_by(const guard_view *g, const segment *s);                 // the connection of a segment, or 0
+size_t forge(const guard_view *g, byte *to);       // forged.c: a segment in the name of a peer, which changes no connection; or 0
 unsigned shift_of(const secret *k, const byte *own, const byte *peer, unsigned port, unsigned own_port);
 
 #endif

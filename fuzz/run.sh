@@ -9,27 +9,34 @@
 #     sh fuzz/run.sh both CALLS SEED      CALLS calls of include/uip_both.h; both-asan and both-planted as above
 #
 # It needs a C compiler on Linux, the library as `rt lib` in crates/uip_c builds it (for app: in crates/uip_app_c, for both: in
-# crates/uip_both_c), and the program as `rt run` in crates/uipd does: what is not built there is not built here. CC names another
-# compiler, LIBRARY and UIPD another library and another program, and FAULTS single numbers of planted faults.
-case "$1" in -h|--help) sed -n '2,14s/^# \{0,1\}//p' "$0"; exit 0;; esac
+# crates/uip_both_c), and the program as `rt run` in crates/uipd does: what is not built there is not built here. With LIBRARY=c the
+# library is dist/uip.c, which needs no kit: SOURCE names another C file, LIBRARY_CC its compiler with all its words (cc -O2). CC names
+# another compiler, LIBRARY and UIPD another library and another program, OUT another folder than fuzz/out, and FAULTS single numbers of
+# planted faults.
+case "$1" in -h|--help) sed -n '2,16s/^# \{0,1\}//p' "$0"; exit 0;; esac
 here=$(cd "$(dirname "$0")" && pwd)
 top=$(cd "$here/.." && pwd)
-case "$1" in app*) name=uip_app_c;; both*) name=uip_both_c;; *) name=uip_c;; esac
+case "$1" in app*) name=uip_app_c set=-DUIP_APP;; both*) name=uip_both_c set=-DUIP_BOTH;; *) name=uip_c set='';; esac
 library=${LIBRARY:-$top/crates/$name/out/lib$name.a}
 uipd=${UIPD:-$top/crates/uipd/out/uipd}
 cc=${CC:-cc}
-out=$here/out
+out=${OUT:-$here/out}
 fail() { echo "fuzz: $1" >&2; exit 1; }
 command -v "$cc" >/dev/null || fail "no C compiler $cc here"
-[ -f "$library" ] || fail "no library at $library: \`rt lib\` in crates/$name builds it"
 mkdir -p "$out"
+if [ "$library" = c ]; then
+    library=$out/$name.o
+    # shellcheck disable=SC2086
+    ${LIBRARY_CC:-$cc -O2} $set -I"$top/dist" -c "${SOURCE:-$top/dist/uip.c}" -o "$library" || fail "the C file was not compiled"
+fi
+[ -f "$library" ] || fail "no library at $library: \`rt lib\` in crates/$name builds it"
 # The harness by its name and the compiler's words.
 words="-std=gnu11 -g -Wall -Wextra -I$top/include"
 # shellcheck disable=SC2086
 build() { built=$1; shift; "$cc" $words "$@" "$library" -o "$out/$built" || fail "no $built was built"; }
 # The sources of the harness for uip_app.h.
 app="$here/app/*.c"
-shared="random report areas heap wire link arp model guard"
+shared="random report areas heap wire link arp model guard forged"
 for part in $shared; do app="$app $here/$part.c"; done
 # And for uip_both.h: those with the pages, and the clients that request them.
 both="-DBOTH $here/both/pages.c"

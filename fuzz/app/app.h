@@ -53,6 +53,7 @@ int node_can_write(const node *n, unsigned slot, size_t taken);
 size_t node_writes(node *n, unsigned slot, size_t taken, const byte *text, size_t len, unsigned last, byte *sent);
 uip_received node_reads(const node *n, unsigned slot);    // the bytes are those of the slot
 uip_row node_row(const node *n, unsigned slot);
+guard_view node_guard(const node *n);
 
 // calls.c: single calls of a device, each as the node foretells it.
 typedef struct { opened on; node node; size_t blocks; } device;    // `blocks` of the heap

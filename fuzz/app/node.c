@@ -263,8 +263,7 @@ static int is_for_closed_port(const node *n, const byte *frame, size_t len) {
 
 static int is_any(unsigned port) { return port != 0; }    // no segment to a port that is not open comes so far
 
-// What the guard does with what arrived (../guard.c): 0 if it is dropped. A connection that is given up gets a RST of no peer.
-static int passes_guard(node *n) {
+guard_view node_guard(const node *n) {
     guard_view g = {.secret = n->secret, .has_pages = serves_pages(), .is_served = is_any};
     memcpy(g.own, n->host.own, 4);
     for (unsigned k = 0; k < UIP_SLOTS; k++) {
@@ -275,6 +274,12 @@ static int passes_guard(node *n) {
         h->una = c->una + shift_to(n, c->peer, c->port, c->own_port), h->out = c->len;
         memcpy(h->peer, c->peer, 4);
     }
+    return g;
+}
+
+// What the guard does with what arrived (../guard.c): 0 if it is dropped. A connection that is given up gets a RST of no peer.
+static int passes_guard(node *n) {
+    guard_view g = node_guard(n);
     judgement by_guard = judge(&g, n->arrived, n->arrived_len);
     counts.dropped += by_guard.what == DROPS, counts.gave_up += by_guard.what == GIVES_UP;
     n->guard[UIP_GUARD_DROPPED] += by_guard.what == DROPS, n->guard[UIP_GUARD_GAVE_UP] += by_guard.what == GIVES_UP;

@@ -25,6 +25,7 @@ static stranger strangers[STRANGERS];
 static queue to_node, from_node;
 static byte node_address[4];
 static unsigned next_port;
+static int are_few;    // all clients of the session are on three hosts
 
 // A byte that a client sends: one in sixteen is a line feed.
 static byte byte_of(const client *c, size_t at) {
@@ -68,6 +69,7 @@ static void open_client(client *c) {
     c->state = OPENING;
     memcpy(c->address, (byte[]){10, 1, (byte)random_next(), (byte)random_next()}, 4);
     if (chance(50)) memcpy(c->address, node_address, 3);
+    if (are_few) memcpy(c->address, (byte[]){10, 1, 9, (byte)below(3)}, 4);
     c->port = next_port++, c->own_port = some_port();
     c->is_early = !is_open_port(devices, c->own_port);
     if (serves_pages() && chance(40)) share_peer(c);
@@ -216,6 +218,8 @@ static void stranger_acts(void) {
     if (serves_pages() && chance(10)) s.to = chance(50) ? WEB_PORT : some_port(), s.flags = SYN;    // a second connection of the same port
     if (chance(20)) s.seq += below(40) - 20;
     if (chance(20)) s.ack += below(600) - 300;
+    if (chance(3)) s.ack -= between(65530, 65540);
+    if (chance(3)) s.seq += between(1458, 1464);
     if (chance(40)) random_bytes(words, s.len = below(130));
     else if (chance(10)) random_bytes(words, s.len = below(1400));
     else if (k->own_port == WEB_PORT && chance(30)) s.len = (size_t)snprintf((char *)words, sizeof words, "GET /?%u\r\n", below(30));
@@ -251,6 +255,7 @@ void peers_act(void) {
     else if (kind < 88) { if (c->state == IDLE || c->state == ENDED) open_client(c); }
     else if (kind < 96) stranger_acts();
     else if (kind < 98) ping();
+    else if (chance(40)) forge_one();
     else if (c->state == OPEN && chance(4)) send_segment(c, RST, 1 + c->sent, 0), c->state = ENDED;
     else if (c->state == OPEN && chance(c->has_last || c->got_fin ? 60 : 4)) c->state = CLOSING, say_due(c, 0);
 }
@@ -267,7 +272,7 @@ void peers_begin(const byte *own) {
     memset(clients, 0, sizeof clients);
     memcpy(node_address, own, 4);
     to_node.count = from_node.count = 0;
-    next_port = between(1024, 30000);
+    next_port = between(1024, 30000), are_few = chance(30);
     for (unsigned k = 0; k < STRANGERS; k++) {
         memcpy(strangers[k].address, (byte[]){172, 16, (byte)k, (byte)random_next()}, 4);
         if (chance(50)) memcpy(strangers[k].address, own, 3);

@@ -170,6 +170,13 @@ void receive_datagram(const byte *datagram, size_t len) {
     serve(devices + 1);
 }
 
+void forge_one(void) {
+    byte datagram[LARGEST];
+    guard_view g = node_guard(&devices->node);
+    size_t len = forge(&g, datagram);
+    if (len) receive_datagram(datagram, len);
+}
+
 // Noise in a frame to the first device, of IP, of ARP or of another type.
 void receive_noise(const byte *bytes, size_t len) {
     static byte frame[AREA];

@@ -35,7 +35,7 @@ recorder() {
         for part in sites values requests clients reads; do set -- "$@" "$top/fuzz/$part.c"; done;;
     esac
     if [ "$crate" != uip_c ]; then
-        for part in random report areas heap wire link arp model guard; do set -- "$@" "$top/fuzz/$part.c"; done
+        for part in random report areas heap wire link arp model guard forged; do set -- "$@" "$top/fuzz/$part.c"; done
     fi
     "${CC:-cc}" -std=gnu11 -O2 -I"$top/include" -I"$ports/same" -I"$top/fuzz" $wraps -Wl,--wrap=rattle_alloc -Wl,--wrap=rattle_dealloc \
         "$@" "$out/$crate.a" -o "$record" || fail "the recorder was not built"
