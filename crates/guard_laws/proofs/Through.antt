@@ -1,5 +1,5 @@
 -- Arrival through the guard: what the guard drops is never the next segment of a cooperating peer, so it is as if the link had lost it.
-use Rattle.std.proofs.Common.{◌≡◌, ℕ, Bool, false, All, List, [], ◌∷◌, ◌++◌, refl, sym, ap, ◌∙◌, subst, append_assoc, append-nil}
+use Rattle.std.proofs.Common.{◌≡◌, ℕ, Bool, false, All, List, [], ◌∷◌, ◌++◌, refl, sym, ap, ◌∙◌, subst}
 use Rattle.std.proofs.lemmas.List.Elements.{All-cons, All-head, All-nil, All-tail}
 use Rattle.uip_wire.specs.declared.addr.Addr.{Addr}
 use Rattle.app_events.specs.Prelude.{AppSpec, IsAddr}
@@ -11,11 +11,10 @@ use Rattle.node_laws.specs.Prelude.{Asker, AsksOverLoss, IsOfLine, TraceEntry, o
 use Rattle.node_laws.proofs.Arriving.{AreGuarded, IsLosable}
 use Rattle.node_laws.proofs.HonestPeers.{arrives_on_wire}
 use Rattle.node_laws.proofs.Paging.{acts_as_itself, anywhere}
-use Rattle.node_laws.proofs.Steps.{Drops, OnNode, WireStep, trace_on_wire}
+use Rattle.node_laws.proofs.Steps.{Drops, OnNode, Sets, WireStep, changed, trace_on_wire}
 use Rattle.segment_guard.specs.Verdict.{is_foreign}
-use Rattle.guarded_node.specs.Arrivals.{Arrival, BringsBytes, events_at, guarded_events, guarded_run}
+use Rattle.guarded_node.specs.Arrivals.{Arrival, BringsBytes, events_at}
 use Rattle.guarded_node.specs.Arrivals.Arrival.{Due, Received, TooLong}
-use Rattle.guarded_node.proofs.Taken.{run_then}
 use Rattle.guarded_node.specs.Guarded.{by_verdict, gives_up}
 use Rattle.guarded_node.specs.Verdicts.{verdict_on}
 use Rattle.guarded_node.specs.Wire.{arriving}
@@ -23,7 +22,7 @@ use Rattle.guarded_node.specs.declared.guard.Rules.{Rules}
 use Rattle.guarded_node.specs.declared.verdict.Verdict.{Verdict}
 use Rattle.guarded_node.specs.declared.verdict.Verdict.TheVariants.{Drop, Pass, Displace}
 use Rattle.guard_laws.specs.Peers.{IsAfter}
-use Rattle.guard_laws.specs.Through.{ArrivesThroughGuard, trace_at, trace_by, wire_trace}
+use Rattle.guard_laws.specs.Through.{ArrivesThroughGuard, Coming, Comes, FitsTypes, SetsNumbers, trace_at, trace_by, wire_trace}
 use Rattle.guard_laws.proofs.OfLine.{Ported, guarded_of_line, ported_on, ported_start}
 use Rattle.guard_laws.proofs.Passing.{next_is_passed}
 
@@ -45,20 +44,10 @@ module _ (m : AppSpec) (served : ℕ → Bool) (rules : Rules) where
   abbrev pub after : AbstractNode → Arrival → AbstractNode
   after n arrival = (run m served (events_at rules served n arrival) n).node
 
-  -- arrivals, and then other steps
-  abbrev pub wire_steps : List Arrival → List WireStep → AbstractNode → List WireStep
-  wire_steps [] rest n = rest
-  wire_steps (arrival ∷ arrivals) rest n = steps_at rules served n arrival ++ wire_steps arrivals rest (after n arrival)
-
-  abbrev pub after_all : List Arrival → AbstractNode → AbstractNode
-  after_all [] n = n
-  after_all (arrival ∷ arrivals) n = after_all arrivals (after n arrival)
-
-  pub reached : (arrivals : List Arrival) (n : AbstractNode) → (guarded_run rules m served arrivals n).node ≡ after_all arrivals n
-  reached [] n = refl
-  reached (arrival ∷ arrivals) n =
-      run_then m served (events_at rules served n arrival) (guarded_events rules m served arrivals (after n arrival)) n
-      ∙ reached arrivals (after n arrival)
+  abbrev pub wire_steps : List Coming → AbstractNode → List WireStep
+  wire_steps [] n = []
+  wire_steps (Comes arrival ∷ more) n = steps_at rules served n arrival ++ wire_steps more (after n arrival)
+  wire_steps (SetsNumbers change ∷ more) n = Sets change ∷ wire_steps more (changed change n)
 
   -- their trace is that of the wire
   trace_then : (n : AbstractNode) (event : Event) (v : Verdict) (rest : List WireStep)
@@ -76,15 +65,13 @@ module _ (m : AppSpec) (served : ℕ → Bool) (rules : Rules) where
   trace_at_then n TooLong rest = refl
   trace_at_then n (Due slot) rest = refl
 
-  pub trace_is : (arrivals : List Arrival) (rest : List WireStep) (n : AbstractNode) → trace_on_wire m served (wire_steps arrivals rest n) n
-      ≡ wire_trace rules m served arrivals n ++ trace_on_wire m served rest (after_all arrivals n)
-  trace_is [] rest n = refl
-  trace_is (arrival ∷ arrivals) rest n =
-      let next : AbstractNode = after n arrival in
-      trace_at_then n arrival (wire_steps arrivals rest next)
-      ∙ (ap (λ (l : List TraceEntry). trace_at rules m served n arrival ++ l) (trace_is arrivals rest next)
-      ∙ sym (append_assoc (trace_at rules m served n arrival) (wire_trace rules m served arrivals next)
-      (trace_on_wire m served rest (after_all arrivals next))))
+  trace_is : (comings : List Coming) (n : AbstractNode)
+      → trace_on_wire m served (wire_steps comings n) n ≡ wire_trace rules m served comings n
+  trace_is [] n = refl
+  trace_is (Comes arrival ∷ more) n =
+      trace_at_then n arrival (wire_steps more (after n arrival))
+      ∙ ap (λ (l : List TraceEntry). trace_at rules m served n arrival ++ l) (trace_is more (after n arrival))
+  trace_is (SetsNumbers change ∷ more) n = trace_is more (changed change n)
 
   -- ---- they are of a line, and what is dropped is not the next segment of the peer
 
@@ -111,11 +98,19 @@ module _ (m : AppSpec) (served : ℕ → Bool) (rules : Rules) where
     pub stands_after : (n : AbstractNode) (arrival : Arrival) → BringsBytes arrival → Stands n → Stands (after n arrival)
     stands_after n arrival low h = stands_over (events_at rules served n arrival) n (of_line n arrival low h) h
 
-    pub stands_all : (arrivals : List Arrival) (n : AbstractNode) → All BringsBytes arrivals → Stands n → Stands (after_all arrivals n)
-    stands_all [] n low h = h
-    stands_all (arrival ∷ arrivals) n low h =
-        stands_all arrivals (after n arrival) (All-tail BringsBytes arrival arrivals low)
-        (stands_after n arrival (All-head BringsBytes arrival arrivals low) h)
+    stands_changed : (n : AbstractNode) (change : List ℕ → List ℕ) → FitsTypes (SetsNumbers change) → Stands n → Stands (changed change n)
+    stands_changed n change low h =
+        let good = h.ported.good in
+        record {
+          addr = h.addr;
+          ported = record {
+            good = record {
+              single = good.single;
+              fit = record { size = good.fit.size; conns = good.fit.conns; numbers = low n.numbers good.fit.numbers };
+            };
+            ports = h.ported.ports;
+          };
+        }
 
     module _ (a : Asker) (p : Sockets) (home : is_foreign p.peer own ≡ false) where
       abbrev Guards : List WireStep → AbstractNode → Type 0
@@ -153,21 +148,22 @@ module _ (m : AppSpec) (served : ℕ → Bool) (rules : Rules) where
       guards_at n TooLong rest low h more = (of_overlong refl, more)
       guards_at n (Due slot) rest low h more = (of_call slot refl, more)
 
-      pub guards_all : (arrivals : List Arrival) (rest : List WireStep) (n : AbstractNode) → All BringsBytes arrivals → Stands n
-          → Guards rest (after_all arrivals n) → Guards (wire_steps arrivals rest n) n
-      guards_all [] rest n low h more = more
-      guards_all (arrival ∷ arrivals) rest n low h more =
-          let here : BringsBytes arrival = All-head BringsBytes arrival arrivals low in
-          guards_at n arrival (wire_steps arrivals rest (after n arrival)) here h
-          (guards_all arrivals rest (after n arrival) (All-tail BringsBytes arrival arrivals low) (stands_after n arrival here h) more)
+      guards_all : (comings : List Coming) (n : AbstractNode) → All FitsTypes comings → Stands n → Guards (wire_steps comings n) n
+      guards_all [] n low h = tt
+      guards_all (Comes arrival ∷ more) n low h =
+          let here : BringsBytes arrival = All-head FitsTypes (Comes arrival) more low in
+          guards_at n arrival (wire_steps more (after n arrival)) here h
+          (guards_all more (after n arrival) (All-tail FitsTypes (Comes arrival) more low) (stands_after n arrival here h))
+      guards_all (SetsNumbers change ∷ more) n low h =
+          let here : FitsTypes (SetsNumbers change) = All-head FitsTypes (SetsNumbers change) more low in
+          (here, guards_all more (changed change n) (All-tail FitsTypes (SetsNumbers change) more low) (stands_changed n change here h))
 
 pub arrives_through_guard : ArrivesThroughGuard
-arrives_through_guard m pages lawful served own is numbers words rules arrivals low a p fine left texts patience home answers incarnation asks =
+arrives_through_guard m pages lawful served own is numbers words rules comings low a p fine left texts patience home answers incarnation asks =
     let node : AbstractNode = initial_node own numbers in
     let steady : IsSteady m = steady_of m pages lawful in
     let start : Stands m served rules steady own is node = record { addr = refl; ported = ported_start own numbers words } in
-    arrives_on_wire m m pages anywhere steady lawful served own numbers words (wire_steps m served rules arrivals [] node) a p
-    (guards_all m served rules steady own is a p home arrivals [] node low start tt) (acts_as_itself m p.own_port.0) fine left texts patience answers
+    arrives_on_wire m m pages anywhere steady lawful served own numbers words (wire_steps m served rules comings node) a p
+    (guards_all m served rules steady own is a p home comings node low start) (acts_as_itself m p.own_port.0) fine left texts patience answers
     incarnation
-    (subst (λ (t : List TraceEntry). AsksOverLoss a p patience t incarnation) (sym (trace_is m served rules arrivals [] node
-    ∙ append-nil (wire_trace rules m served arrivals node))) asks)
+    (subst (λ (t : List TraceEntry). AsksOverLoss a p patience t incarnation) (sym (trace_is m served rules comings node)) asks)

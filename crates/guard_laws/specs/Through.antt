@@ -29,11 +29,22 @@ trace_at rules m served n (Received bytes) =
 trace_at rules m served n TooLong = trace_of m served (Overlong ∷ []) n
 trace_at rules m served n (Due slot) = trace_of m served (Periodic slot ∷ []) n
 
--- that of arrivals in order
-abbrev pub wire_trace : Rules → AppSpec → (ℕ → Bool) → List Arrival → AbstractNode → List TraceEntry
+-- What a guarded node gets: an arrival, or a change of the numbers of its application, as by a value that a caller sets.
+pub data Coming : Type 0 where
+  Comes : (arrival : Arrival) → Coming
+  SetsNumbers : (change : List ℕ → List ℕ) → Coming
+
+-- The trace of the wire for what comes in order.
+abbrev pub wire_trace : Rules → AppSpec → (ℕ → Bool) → List Coming → AbstractNode → List TraceEntry
 wire_trace rules m served [] n = []
-wire_trace rules m served (arrival ∷ arrivals) n =
-    trace_at rules m served n arrival ++ wire_trace rules m served arrivals (run m served (events_at rules served n arrival) n).node
+wire_trace rules m served (Comes arrival ∷ more) n =
+    trace_at rules m served n arrival ++ wire_trace rules m served more (run m served (events_at rules served n arrival) n).node
+wire_trace rules m served (SetsNumbers change ∷ more) n = wire_trace rules m served more (record n { numbers = change n.numbers })
+
+-- What is received consists of bytes, and numbers stay below 2^32.
+abbrev pub FitsTypes : Coming → Type 0
+FitsTypes (Comes arrival) = BringsBytes arrival
+FitsTypes (SetsNumbers change) = (numbers : List ℕ) → All IsU32 numbers → All IsU32 (change numbers)
 
 -- Every cooperating peer with an address that a host may have progresses in this trace of the wire, as `ArrivesIn` states it of the events
 -- that the node takes.
@@ -48,5 +59,5 @@ ArrivesOnWire m pages own trace =
 abbrev pub ArrivesThroughGuard : Type 0
 ArrivesThroughGuard =
     (m : AppSpec) (pages : Pages) → IsPaged m pages → (served : ℕ → Bool) (own : Addr) → IsAddr own → (numbers : List ℕ) → All IsU32 numbers
-    → (rules : Rules) (arrivals : List Arrival) → All BringsBytes arrivals
-    → ArrivesOnWire m pages own (wire_trace rules m served arrivals (initial_node own numbers))
+    → (rules : Rules) (comings : List Coming) → All FitsTypes comings
+    → ArrivesOnWire m pages own (wire_trace rules m served comings (initial_node own numbers))
