@@ -14,7 +14,11 @@ use Rattle.uip_device.specs.Moves.{Gives, Makes}
 use Rattle.uip_device.proofs.AnswerLaws.{same_kept}
 use Rattle.guard_laws.proofs.Lens.{lens_is_shift}
 use Rattle.guard_laws.proofs.Conforms.{wire_conforms}
+use Rattle.guard_laws.proofs.Through.{arrives_through_guard}
 use Rattle.guard_laws.specs.Lens.{lens}
+use Rattle.std.proofs.lemmas.List.Elements.{All-nil}
+use Rattle.uip_c.proofs.OnWire.{comings_fit}
+use Rattle.uip_c.specs.OnWire.{comings_of}
 use Rattle.node_laws.specs.Prelude.{at_every_port}
 use Rattle.sip_hash.specs.declared.key.Key.{Key}
 use Rattle.std.specs.List.{flat_map}
@@ -139,4 +143,7 @@ module _ (site : SiteContent) (loaded : IsLoaded site) (image : All IsByte site.
         calls = calls;
         wire = wire_conforms (at_every_port (value_pages files)) is_served (lens key own) (lens_is_shift.shift key own)
             (flat_map (λ it. it.turns) calls.moves) calls.keeps;
+        arrives = arrives_through_guard (value_spec files) (value_pages files) (keeps_page_laws_by words words_short site loaded sound)
+            is_served own is (first_numbers files) (first_words files) (web_rules key) (comings_of write_value [] (moves_of all))
+            (comings_fit write_value written_words [] (moves_of all) (All-nil IsByte) bytes);
       }

@@ -1,4 +1,5 @@
 pub mod FrameLaws
+pub mod OnWire
 pub mod HandleLaws
 pub mod Opened
 pub mod Taking

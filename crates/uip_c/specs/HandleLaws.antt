@@ -1,6 +1,6 @@
 -- The statements of the laws of any sequence of calls from C. Each speaks of a handle that was just opened. The calls may be refused, and
 -- values may be set between them.
-use Rattle.std.specs.Prelude.{◌≡◌, All, List, None, Option, flat_map, map, ℕ}
+use Rattle.std.specs.Prelude.{◌≡◌, [], All, List, None, Option, flat_map, map, ℕ}
 use Rattle.app_events.specs.Prelude.{IsAddr, IsByte}
 use Rattle.site_image.specs.Prelude.{File}
 use Rattle.device_values.specs.Prelude.{word_calls}
@@ -14,6 +14,7 @@ use Rattle.sip_hash.specs.declared.key.Key.{Key}
 use Rattle.node_laws.specs.Prelude.{TraceConforms, at_every_port}
 use Rattle.guard_laws.specs.Lens.{lens}
 use Rattle.guard_laws.specs.Shifted.{entry_on_wire}
+use Rattle.guard_laws.specs.Through.{ArrivesOnWire, wire_trace}
 use Rattle.frame_device.specs.Prelude.{AnsweredFrame, FramesConform, IsFrameOfBytes, frame_moves_of}
 use Rattle.uip_device.specs.Prelude.{Answered, Bring, CallsConform, IsOfBytes, LineIsServed, first_numbers, line_handed, moves_of}
 use Rattle.uip_device.specs.Prelude.{value_pages, value_spec, web_rules, write_value}
@@ -21,6 +22,8 @@ use Rattle.uip_c.specs.EtherWebs.{web_link, web_stations}
 use Rattle.uip_c.specs.FrameHandles.{DidFrames, IsEtherReady}
 use Rattle.uip_c.specs.Handles.{DidAll, IsReady, lefts_in}
 use Rattle.uip_c.specs.Kept.{IsLine, Kept}
+use Rattle.uip_c.specs.OnWire.{comings_of}
+use Rattle.uip_node.specs.Prelude.{initial_node}
 
 -- P holds of every good site, at every address.
 abbrev pub OfSites : (SiteContent → Addr → Type 0) → Type 0
@@ -28,11 +31,15 @@ OfSites P =
     (site : SiteContent) → IsLoaded site → All IsByte site.image → HasSoundScripts word_calls (files_of site)
     → (own : Addr) → IsAddr own → P site own
 
--- Calls conform to the pages of these files, and so does their trace in the numbers of the wire.
+-- Calls conform to the pages of these files, and so does their trace in the numbers of the wire. The page of each cooperating peer arrives,
+-- whatever the guard drops of what they bring.
 pub record ConformOnWire (files : List File) (own : Addr) (key : Option Key) (all : List Answered) (lefts : List (List ℕ)) : Type 0 where
   pub calls : CallsConform (value_spec files) (value_pages files) is_served write_value (first_numbers files) (web_rules key) own all lefts
   pub wire : TraceConforms (at_every_port (value_pages files)) is_served
       (map (entry_on_wire (lens key own)) (flat_map (λ it. it.turns) calls.moves))
+  pub arrives : ArrivesOnWire (value_spec files) (value_pages files) own
+      (wire_trace (web_rules key) (value_spec files) is_served (comings_of write_value [] (moves_of all))
+      (initial_node own (first_numbers files)))
 
 -- All calls conform to the pages of the site, for any bytes that they bring.
 abbrev pub CallsFromCConform : Type 0

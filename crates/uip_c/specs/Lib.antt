@@ -3,6 +3,7 @@ pub mod Holding
 pub mod Handles
 pub mod EtherWebs
 pub mod FrameHandles
+pub mod OnWire
 pub mod HandleLaws
 pub mod Opening
 pub mod Taking

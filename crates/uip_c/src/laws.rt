@@ -21,7 +21,8 @@ pub fn calls_from_c_are_reported()
 
 /// Holds for any bytes, any sequence of calls on a handle that was just opened with a good site, with a secret or none, and any values set
 /// between. Each call writes what is sent in the trace entries of the events that the guarded node takes. The trace satisfies the
-/// guarantee, for the pages of this site, in the numbers of the node and in those of the wire.
+/// guarantee, for the pages of this site, in the numbers of the node and in those of the wire. The page of each cooperating peer arrives,
+/// whatever the guard drops of what the calls bring.
 pub fn calls_from_c_keep_the_promise()
     ensures { CallsFromCConform }
 {}
