@@ -3,7 +3,7 @@
 
     python3 boards/planted_test.py [WORD ..]      all, or those whose name has one of the words
 
-First each test is run without a fault: it has to pass. Then it has to fail, and to report why. Needs what test.sh and examples/test_browse.py need.
+First each test is run without a fault: it has to pass. Then it has to fail, and to report why. Needs what test.sh and examples/test/test_browse.py need.
 The status is 0 if all were found.
 """
 import os
@@ -17,7 +17,7 @@ import tempfile
 TOP = os.path.join(os.path.dirname(os.path.abspath(__file__)), "..")
 COPIED = ("boards", "examples")
 PATIENCE = 600      # seconds for each test
-BROWSE = (sys.executable, "examples/test_browse.py")
+BROWSE = (sys.executable, "examples/test/test_browse.py")
 
 
 def board(name):

@@ -48,18 +48,18 @@ try() {
 
 cc=${CC:-cc}
 try 60 "the C file: it compiles, and answers a ping" "python3 make $cc" make answers CC="$cc"
-try 120 "the C file: recorded lines, terminals, the clock, make run" "python3 make $cc" python3 examples/test_serve.py
+try 120 "the C file: recorded lines, terminals, the clock, make run" "python3 make $cc" python3 examples/test/test_serve.py
 try 60 "the C file: as a library" "make $cc" make out/libuip_c.a CC="$cc"
 try 400 "the C file: the programs of examples/firmware, with Linux's TCP" "python3 $cc ip unshare" \
     env LIBRARY="$PWD/out/libuip_c.a" sh examples/firmware/run.sh
 try 300 "the packages" "python3 make $cc" sh packaging/test.sh
 try 120 "tools/pack.py, with planted faults" python3 python3 tools/pack_test.py
 try 30 "bench/peers: the figures in the documents, with planted faults" python3 python3 bench/peers/test.py
-try 150 "examples/browse.py with a small node" python3 python3 examples/test_browse.py
+try 150 "examples/browse.py with a small node" python3 python3 examples/test/test_browse.py
 try 300 "the page: its client, with the device inside" node \
     env INSIDE=1 node --test --test-force-exit --test-concurrency=1 web/test/wire.test.mjs web/test/sequence.test.mjs web/test/parts.test.mjs \
     web/test/inside.test.mjs
-try 200 "docs/UIPD.md: each command, if uipd is built" python3 python3 examples/test_uipd.py
+try 200 "docs/UIPD.md: each command, if uipd is built" python3 python3 examples/test/test_uipd.py
 try 120 "the documents against the sources" python3 python3 dev.py docs
 try 60 "dev.py finds what is planted" python3 python3 dev/test.py
 echo "tests without the kit: $passed passed, $failed failed, $skipped skipped in $(($(date +%s) - begun)) s"

@@ -74,7 +74,7 @@ program gcc_checked gcc $checked
 program clang_checked clang $checked
 }
 # shellcheck disable=SC2086
-[ -z "$programs" ] || try "lines: what each of these programs writes" python3 python3 "$top/examples/test_serve.py" --lines $programs
+[ -z "$programs" ] || try "lines: what each of these programs writes" python3 python3 "$top/examples/test/test_serve.py" --lines $programs
 
 # ---- firmware
 

@@ -1,7 +1,7 @@
 #!/bin/sh
 # Sends queries for names to a DNS server, dnsmasq, over a line, and prints the results.
 #
-#     sh examples/resolve.sh
+#     sh examples/test/resolve.sh
 #
 # It needs Linux, /dev/net/tun, `ip`, python3 and dnsmasq, and the built program: `rt run` in crates/uipd builds it.
 case "$1" in -h|--help) sed -n '2,6s/^# \{0,1\}//p' "$0"; exit 0;; esac

@@ -1,7 +1,7 @@
 #!/usr/bin/env python3
 """Sends queries for names to dnsmasq over a line.
 
-    python3 examples/resolve.py [UIPD]
+    python3 examples/test/resolve.py [UIPD]
 
 In a network namespace of its own it makes a TUN interface (10.0.0.2, the other end is 10.0.0.1), starts dnsmasq at 10.0.0.2 with two
 names, starts `UIPD resolve 10.0.0.1 10.0.0.2 1 NAME .. tty` on a pseudo terminal, and carries datagrams between the two as SLIP frames.
@@ -14,7 +14,8 @@ import subprocess
 import sys
 import time
 
-from browse import HERE, Slip, enter_namespace, fail, make_interface, start_server
+sys.path.insert(0, os.path.dirname(os.path.dirname(os.path.abspath(__file__))))
+from browse import HERE, Slip, enter_namespace, fail, make_interface, start_server  # noqa: E402
 
 NAMES = ["www.example.test", "MAIL.example.test", "missing.example.test"]
 RECORDS = ["--address=/www.example.test/192.0.2.7", "--address=/mail.example.test/192.0.2.25", "--local=/example.test/"]

@@ -1,7 +1,7 @@
 #!/usr/bin/env python3
 """Runs each command of docs/UIPD.md, and compares what it prints with what the page has.
 
-    python3 examples/test_uipd.py [PAGE]
+    python3 examples/test/test_uipd.py [PAGE]
 
 In a block of code a line that begins with `$ ` is a command, and the lines below it are its output; `..` is any number of lines. A block
 without such a line is not run. It needs the built program (`make build`): PROGRAM names another one than crates/uipd/out/uipd. Commands of
@@ -14,7 +14,7 @@ import subprocess
 import sys
 import tempfile
 
-TOP = os.path.join(os.path.dirname(os.path.abspath(__file__)), "..")
+TOP = os.path.join(os.path.dirname(os.path.abspath(__file__)), "../..")
 PROGRAM = os.environ.get("PROGRAM", os.path.join(TOP, "crates/uipd/out/uipd"))
 
 

@@ -2,11 +2,11 @@
 # Runs the built program, and compares what it writes to its real standard output and standard error: the query of `resolve` belongs
 # to the one, its report to the other. Then it runs a program whose two streams are exchanged, and fails if it does not find that.
 #
-#     sh examples/streams.sh
+#     sh examples/test/streams.sh
 #
 # It needs python3 and the built program: `rt run` in crates/uipd builds it. UIPD names another program.
 case "$1" in -h|--help) sed -n '2,7s/^# \{0,1\}//p' "$0"; exit 0;; esac
-here=$(cd "$(dirname "$0")" && pwd)
+here=$(cd "$(dirname "$0")/.." && pwd)
 uipd=${UIPD:-$here/../crates/uipd/out/uipd}
 [ -x "$uipd" ] || { echo "streams.sh: no program at $uipd: run \`rt run\` in crates/uipd" >&2; exit 1; }
 exec python3 - "$uipd" <<'PYTHON'

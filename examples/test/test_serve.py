@@ -1,8 +1,8 @@
 #!/usr/bin/env python3
 """Tests examples/serve.c, examples/ping.py and `make run`. It needs a C compiler and no kit.
 
-    python3 examples/test_serve.py [PROGRAM]              PROGRAM is a built examples/serve.c; out/uip, which make builds, if none is given
-    python3 examples/test_serve.py --lines PROGRAM ..     the recorded lines alone, to each of these programs
+    python3 examples/test/test_serve.py [PROGRAM]              PROGRAM is a built examples/serve.c; out/uip, which make builds, if none is given
+    python3 examples/test/test_serve.py --lines PROGRAM ..     the recorded lines alone, to each of these programs
 
 The replies on recorded lines are compared with those of the built `uipd` (UIPD names another one), or else, if node is here, with those
 of web/node.wasm.
@@ -27,7 +27,7 @@ import urllib.request
 
 import ping
 
-HERE = os.path.dirname(os.path.abspath(__file__))
+HERE = os.path.dirname(os.path.dirname(os.path.abspath(__file__)))      # the folder examples/
 TOP = os.path.join(HERE, "..")
 PATIENCE = int(os.environ.get("PATIENCE", "1"))       # for a busy machine
 UIPD = os.environ.get("UIPD", os.path.join(TOP, "crates/uipd/out/uipd"))

@@ -1,7 +1,7 @@
 #!/usr/bin/env python3
 """Tests browse.py: its framing, faults and capture file by hand, and whole runs with a small node in Python (web/test/by_uips_rules.py).
 
-    python3 examples/test_browse.py
+    python3 examples/test/test_browse.py
 
 Whole runs need `ip`, curl and /dev/net/tun; without them they are skipped, and a line says so. If tshark is here, it reads the captures.
 """
@@ -19,7 +19,7 @@ import tempfile
 import time
 import unittest.mock
 
-HERE = os.path.dirname(os.path.abspath(__file__))
+HERE = os.path.dirname(os.path.dirname(os.path.abspath(__file__)))      # the folder examples/
 sys.dont_write_bytecode = True
 sys.path.insert(0, HERE)
 import browse  # noqa: E402
