@@ -1,8 +1,8 @@
 #!/bin/sh
 # Proves a library for C and keeps the LLVM module from which it is compiled.
 #
-#     sh ports/module.sh [CRATE]     CRATE is uip_c, uip_app_c or uip_both_c; writes ports/out/CRATE.ll, the module as text, and ports/out/CRATE.a,
-#                                    the library for this machine
+#     sh ports/module.sh [CRATE]     CRATE is uip_c, uip_app_c or uip_both_c; writes ports/out/CRATE.ll, the module as text, ports/out/CRATE.json, what the
+#                                    proof says of it beside, and ports/out/CRATE.a, the library for this machine
 #
 # `rattle build --toolchain DIR` compiles the module with the clang of the directory DIR, as its help states. Here DIR is a directory of links
 # to the toolchain of the kit, with a clang of its own: it copies the module and its words, and then runs the kit's clang. `rt` has no option
@@ -87,4 +87,5 @@ lib "$out/kit/bin/rt"
 cp "$library" "$out/$crate.a" || exit 1
 compare_with_library
 "$real" -S -emit-llvm -Xclang -disable-llvm-passes -x ir "$kept/module.bc" -o "$out/$crate.ll" || fail "the module was not printed as text"
+python3 "$here/proved.py" "$kit" "$top/crates" "$out/$crate.ll" "$out/$crate.json" || fail "what the proof says of the module was not noted"
 tail -1 "$kept/lib.log"

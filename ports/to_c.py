@@ -1,7 +1,7 @@
 #!/usr/bin/env python3
 """Translates the library's LLVM modules into one file of C99, for any compiler and any processor with addresses of 32 or 64 bits.
 
-    python3 ports/to_c.py MODULES CLANG OUT.c       MODULES is the folder with uip_c.ll, uip_app_c.ll and uip_both_c.ll (module.sh)
+    python3 ports/to_c.py MODULES CLANG OUT.c       MODULES is the folder with uip_c.ll, uip_app_c.ll, uip_both_c.ll, and .json (module.sh)
     python3 ports/to_c.py --plain MODULE.ll OUT.c   one module as it is, without the calls of the headers (for the tests)
 
 CLANG is that of the kit: it optimises each module for size, before the translation.
@@ -17,12 +17,13 @@ The rule assumes that no object has 2^31 bytes or more.
 
 Each line of the module must match one of the forms of to_c/forms.py as a whole. The program stops at any other line and prints it.
 """
+import json
 import os
 import re
 import sys
 
 import scalar
-from to_c import prepare
+from to_c import prepare, proved
 from to_c.forms import Unsupported
 from to_c.module import Module
 from to_c.names import EXPORTS, Names, Quoted
@@ -59,7 +60,8 @@ def layers(crates):
 
 def prepared(folder, crate, left_out, clang):
     text = scalar.without_vectors(read(os.path.join(folder, f"{crate}.ll")), CRATES)
-    text = prepare.with_switches(prepare.without_addresses(text))
+    text = proved.noted(text, json.loads(read(os.path.join(folder, f"{crate}.json"))))
+    text = prepare.with_switches(prepare.without_addresses(text, True))
     return prepare.optimised(prepare.without_calls(text, left_out) if left_out else text, clang)
 
 

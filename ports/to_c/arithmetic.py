@@ -35,6 +35,7 @@ class Arithmetic(Memory):
             text = f"{condition.operand()} || {other.operand()}"
         else:
             text = f"{condition.operand()} ? {one.operand()} : {other.operand()}"
+        is_size = is_size and not (is_constant(it.one) and is_constant(it.other))    # two constants are an int
         self.give(it, "i64" if is_wide else it.kind, Text(text, False, reads_of(condition, one, other), is_size=is_size))
 
     def freeze(self, it):
@@ -50,7 +51,7 @@ class Arithmetic(Memory):
         if it.kind == "ptr" and (it.one in self.wide or it.other in self.wide):
             left, right = self.number_of(it.one), self.number_of(it.other)
         else:
-            left, right = self.value(it.one, it.kind), self.value(it.other, it.kind)
+            left, right = self.pair(it, is_signed)
         if is_signed:
             texts = [biased(name, text, bits(it.kind)) for name, text in ((it.one, left), (it.other, right))]
         elif it.kind == "ptr" and not is_equality:
@@ -59,6 +60,12 @@ class Arithmetic(Memory):
             texts = [left.operand(), self.compared(it, right)]
         self.give(it, "i1", Text(f"{texts[0]} {sign} {texts[1]}", False, reads_of(left, right),
                                  opposite=f"{texts[0]} {OPPOSITE[sign]} {texts[1]}"))
+
+    def pair(self, it, is_whole):
+        """The two operands, both as sizes if both are below 2^32 here."""
+        is_small = it.kind == "i64" and not is_whole and self.is_small(it, it.one) and self.is_small(it, it.other)
+        texts = [self.value(name, it.kind) for name in (it.one, it.other)]
+        return [text.size() for text in texts] if is_small else texts
 
     @staticmethod
     def compared(it, text):
@@ -102,7 +109,7 @@ class Arithmetic(Memory):
         self.give(it, it.new, Text(f"({new})(({wide.text} ^ {half}) - {half})", False, text.reads, is_unary=True))
 
     def binary(self, it):
-        left, right = self.value(it.one, it.kind), self.value(it.other, it.kind)
+        left, right = self.pair(it, it.result not in self.sized)
         if it.kind == "i1":
             text = self.logical(it, left, right)
         elif it.kind == "i128":

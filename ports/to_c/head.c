@@ -112,6 +112,18 @@ INLINE void put8u(u8 *at, u64 n) { put4u(at, (u32)n); put4u(at + 4, (u32)(n >> 3
 #define put8 put8u
 #endif
 
+#if defined(IS_GNU) && __SIZEOF_POINTER__ == 4    /* short clearings of an aligned address: by words where that is shorter than a call */
+INLINE void CLEAR16(u8 *at) { put4(at, 0); put4(at + 4, 0); put4(at + 8, 0); put4(at + 12, 0); }
+INLINE void CLEAR20(u8 *at) { CLEAR16(at); put4(at + 16, 0); }
+INLINE void CLEAR24(u8 *at) { CLEAR20(at); put4(at + 20, 0); }
+INLINE void CLEAR32(u8 *at) { CLEAR16(at); CLEAR16(at + 16); }
+#else
+#define CLEAR16(at) MEMSET(at, 0, 16)
+#define CLEAR20(at) MEMSET(at, 0, 20)
+#define CLEAR24(at) MEMSET(at, 0, 24)
+#define CLEAR32(at) MEMSET(at, 0, 32)
+#endif
+
 INLINE u8 *getp(const u8 *at) { return (u8 *)(size_t)get8(at); }
 INLINE u8 *getpu(const u8 *at) { return (u8 *)(size_t)get8u(at); }
 INLINE void putp(u8 *at, const u8 *to) { put8(at, (u64)(size_t)to); }
@@ -128,6 +140,7 @@ INLINE u128 add128(u128 n, u128 more) { return pair128(n.low + more.low, n.high 
 INLINE u128 or128(u128 n, u128 more) { return pair128(n.low | more.low, n.high | more.high); }
 INLINE u128 shift128(u128 n, unsigned by) { return pair128(n.low << by, n.high << by | n.low >> (64 - by)); }    /* 0 < by < 64 */
 
+typedef size_t u_size;
 #define SMALL(bits) \
     INLINE u##bits umin##bits(u##bits a, u##bits b) { return a < b ? a : b; } \
     INLINE u##bits umax##bits(u##bits a, u##bits b) { return a > b ? a : b; } \
@@ -137,6 +150,7 @@ SMALL(8)
 SMALL(16)
 SMALL(32)
 SMALL(64)
+SMALL(_size)
 INLINE u64 rotl64(u64 n, unsigned by) { return n << by | n >> (64 - by); }    /* by 1 to 63 */
 INLINE u16 bswap16(u16 n) { return (u16)(n << 8 | n >> 8); }
 INLINE u32 bswap32(u32 n) { return n << 24 | (n & 0xff00) << 8 | (n >> 8 & 0xff00) | n >> 24; }

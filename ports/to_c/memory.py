@@ -184,11 +184,11 @@ class Memory(Values):
     def intrinsic(self, it):
         if is_lifetime(it):
             return
-        texts = [self.value(value, kind) for kind, value in it.arguments]
         if found := PURE.match(it.callee):
-            text = f"{found[1].replace('.', '')}{bits(found[2])}({', '.join(text.text for text in texts)})"
-            self.give(it, found[2], Text(text, True, reads_of(*texts)))
-        elif it.callee == FUNNEL:
+            self.pure(it, found[1].replace(".", ""), found[2])
+            return
+        texts = [self.value(value, kind) for kind, value in it.arguments]
+        if it.callee == FUNNEL:
             (_, first), (_, second), (_, count) = it.arguments
             require(first == second and count.isdigit() and 0 < int(count) < 64, f"the intrinsic {it.callee} but for a rotation")
             self.give(it, "i64", Text(f"rotl64({texts[0].text}, {count})", True, reads_of(texts[0])))
@@ -199,11 +199,22 @@ class Memory(Values):
             require(found and len(texts) == 4 and it.arguments[3][1] == "false", f"the intrinsic {it.callee}")
             self.move(found[1].split(".")[0].upper(), it.aligned, *texts[:3])
 
+    def pure(self, it, how, kind):
+        """A function of numbers alone; of two numbers below 2^32 it is that of sizes."""
+        is_small = kind == "i64" and how in ("umin", "umax", "usubsat") and all(self.is_small(it, value) for _, value in it.arguments)
+        texts = [self.value(value, kind) for kind, value in it.arguments]
+        texts = [text.size() for text in texts] if is_small else texts
+        text = f"{how}{'_size' if is_small else bits(kind)}({', '.join(text.text for text in texts)})"
+        self.give(it, kind, Text(text, True, reads_of(*texts), is_size=is_small))
+
     def move(self, how, aligned, to, what, length):
         """A move or a clearing; one of fixed length says which addresses are aligned."""
         self.flush("*")
         if found := re.fullmatch(r"(\d+)ull", length.text):
             length = Text(found[1], True)
+            if how == "MEMSET" and what.text in ("0", "0u") and found[1] in ("16", "20", "24", "32") and aligned[0] >= 4:
+                self.line(f"CLEAR{found[1]}({to.text});")
+                return
             to = self.marked(to, aligned[0])
             what = self.marked(what, aligned[1]) if how != "MEMSET" else what
         else:

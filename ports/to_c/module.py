@@ -117,6 +117,18 @@ class Function:
                 raise Unsupported(f"{self.name}: {why}: {line}") from None
         self.skip_empty()
 
+    def forget_assumptions(self):
+        """Takes out what clang may assume, and the conditions that only that needs."""
+        unused = {it.arguments[0][1] for it in self.instructions() if it.form == "call" and it.callee == "@llvm.assume"}
+        for block in self.blocks.values():
+            block.body = [it for it in block.body if not (it.form == "call" and it.callee == "@llvm.assume")]
+        while unused:
+            unused -= {name for it in self.instructions() for name in it.operands()}
+            gone = [it for it in self.instructions() if it.result in unused and it.form in ("compare", "binary", "cast", "offset", "field")]
+            for block in self.blocks.values():
+                block.body = [it for it in block.body if it not in gone]
+            unused = {name for it in gone for name in it.operands()}
+
     def add(self, block):
         self.blocks[block.label] = block
         self.first = self.first or block.label

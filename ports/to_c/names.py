@@ -20,6 +20,7 @@ class Quoted:
         text = re.sub(r'(?<=[@%])"([^"]*)"', of, text)
         text = re.sub(r'^"([^"]*)"(?=:)', of, text, flags=re.M)
         text = re.sub(rf"inttoptr \(i64 ptrto(?:int|addr) \(ptr ({GLOBAL}) to i64\) to ptr\)", r"\1", text)
+        text = re.sub(rf"inttoptr \(i64 add {FLAGS}\(i64 ptrto(?:int|addr) \(ptr ({GLOBAL}) to i64\), i64 (\d+)\) to ptr\)", r"\1.plus.\2", text)
         # the address of a part of a constant becomes a name
         return re.sub(rf"getelementptr {FLAGS}\(i8, ptr ({GLOBAL}), i64 (\d+)\)", r"\1.plus.\2", text)
 

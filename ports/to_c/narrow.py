@@ -5,9 +5,10 @@ size_t. It comes from the operation, from the branches that lead to a place, and
 whose upper half no use needs may be cut: an offset of an address, a length of a move, and sums of such."""
 from .forms import bits, is_constant, parts_of
 from .module import is_lifetime
+from .prepare import ADDRESS
 
-FULL, SIZE, OBJECT = 2**64 - 1, 2**32 - 1, 2**31
-STEPS = (0, 1, 2**8 - 1, 2**16 - 1, OBJECT, SIZE, FULL)    # a bound that rises takes one of these
+FULL, SIZE, OBJECT = 2**64 - 1, 2**32 - 1, 2**30
+STEPS = (0, 1, 2**8 - 1, 2**16 - 1, 2**24, *(times * OBJECT + more for times in (1, 2, 3) for more in (0, 2**16)), SIZE, FULL)    # for one that rises
 OPPOSITE = {"eq": "ne", "ne": "eq", "ult": "uge", "uge": "ult", "ugt": "ule", "ule": "ugt"}
 SWAPPED = {"eq": "eq", "ne": "ne", "ult": "ugt", "ugt": "ult", "uge": "ule", "ule": "uge"}
 MODULAR = ("add", "sub", "mul", "and", "or", "xor", "shl")    # the lower half of the result depends on the lower halves
@@ -23,10 +24,13 @@ class Bounds:
     def __init__(self, name, module, shape, all_bounds):
         self.function, self.shape, self.all, self.wide = module.functions[name], shape, all_bounds, all_bounds.wide.of(name)
         self.made = {it.result: it for it in self.function.instructions() if it.result}
+        self.home = {it.result: label for label, block in shape.blocks.items() for it in block.body if it.result}
         start = SIZE if self.function.is_export else -1
         self.bounds = {it: start for it, kind in zip(self.function.names, self.function.kinds) if kind == "i64"}
         self.result = {}    # by field; None is that of a result that is a number
+        self.find_addresses()
         self.facts = {}     # by name: (block, comparison, other); also by (name, block, next block), on that branch
+        self.differences = {}    # by name: (what is left, what is taken away)
         for label, block in shape.blocks.items():
             self.note_branch(label, block.end)
             for it in block.body:
@@ -34,6 +38,29 @@ class Bounds:
         self.ends = {}      # by the next number of a loop that counts up: what it becomes at the end
         for label, inside in shape.loops.items():
             self.note_counting(label, inside)
+
+    def find_addresses(self):
+        """The sums of an address and an offset that become an address: as the module computes an address it is below 2^32."""
+        self.addresses, after = set(), {}
+        for it in self.made.values():
+            for name in it.operands() if it.form in ("address", "phi", "select", "freeze") or it.form == "binary" and it.how == "add" else ():
+                after.setdefault(name, []).append(it)
+        is_number = {name for name, it in self.made.items() if it.form == "number" and it.value not in self.wide
+                     or it.form == "load" and ADDRESS in it.line}
+        todo = list(is_number)
+        while todo:
+            for it in after.get(todo.pop(), ()):
+                if it.form != "address" and it.result not in is_number and it.kind == "i64":
+                    is_number.add(it.result)
+                    todo.append(it.result)
+        becomes, changed = set(), True
+        while changed:
+            changed = False
+            for name in is_number - becomes:
+                if any(it.form == "address" and it.result not in self.wide or it.result in becomes for it in after.get(name, ())):
+                    becomes.add(name)
+                    changed = True
+        self.addresses = {name for name in becomes if self.made[name].form == "binary"}
 
     # -- facts of places
 
@@ -81,11 +108,20 @@ class Bounds:
             self.facts.setdefault(name, []).append((place, how, other))
 
     def note_use(self, label, it):
-        """An offset into an object, and the length of a move, are below the length of the object."""
+        """An offset into an object, and the length of a move, are below the length of the object. What a difference takes away, and the parts
+        of a sum, are not above the whole, where neither wraps."""
+        if it.form == "binary" and it.kind == "i64" and it.is_upward and it.how in ("add", "sub"):
+            for name, whole in ((it.other, it.one),) if it.how == "sub" else ((it.one, it.result), (it.other, it.result)):
+                self.note(name, label, "ule", whole)
+        if it.form == "binary" and it.kind == "i64" and it.how == "sub" and not is_constant(it.one):
+            self.differences.setdefault(it.one, []).append((it.result, it.other))
         used = [it.base] if it.form in ("load", "store") else []
+        if it.form == "call" and it.callee == "@llvm.assume":
+            self.note_condition(label, it.arguments[0][1], True)
         if it.form == "call" and it.callee.startswith("@llvm.mem"):
             self.note(it.arguments[2][1], label, "ule", str(OBJECT))
-            used = []
+        elif it.form == "call":    # what a call is given is an address in an object
+            used = [name for kind, name in it.arguments if kind == "ptr" and name in self.made and " inbounds " in self.made[name].line]
         for name in used:
             while (at := self.made.get(name)) and at.form == "offset":
                 if at.is_upward:
@@ -94,17 +130,39 @@ class Bounds:
                     break
                 name = at.base
 
+    def limits(self):
+        """The parameters that are bounded wherever the function is called, since its first block would do what no module does."""
+        return {name: min(int(other) for place, how, other in self.facts[name] if self.is_at_start(place, how, other))
+                for name in self.function.names if any(self.is_at_start(*fact) for fact in self.facts.get(name, ()))}
+
+    def is_at_start(self, place, how, other):
+        return place == self.shape.first and how == "ule" and is_constant(other)
+
     # -- bounds
 
     def at(self, name, label, to=None):
         """The bound of a number in a block, or where it branches to a second one."""
-        bound = self.of(name)
+        return self.limited(name, self.of(name), label, to)
+
+    def limited(self, name, bound, label, to=None):
+        """The bound of a number, and what the facts of a place add: of the number, and of a difference from it."""
+        for difference, less in self.differences.get(name, ()):
+            limit = self.limited(difference, FULL, label, to)
+            if limit <= 2 * OBJECT and 0 <= self.of(less) <= SIZE:
+                bound = min(bound, limit + self.of(less))
         for place, how, other in self.facts.get(name, ()):
-            is_here = place == (label, to) if isinstance(place, tuple) else self.shape.dominates(place, label)
-            if bound > 0 and how in ("eq", "ult", "ule") and is_here:
+            if bound > 0 and how in ("eq", "ult", "ule") and self.holds(place, other, label, to):
                 limit = self.of(other)
                 bound = min(bound, limit - (how == "ult" and limit > 0)) if limit >= 0 else bound
         return bound
+
+    def holds(self, place, other, label, to):
+        """Whether a fact of a place holds in a block, or on a branch. In the place itself it does if what it compares with was made before it."""
+        if isinstance(place, tuple):
+            return place == (label, to)
+        if place == label:
+            return is_constant(other) or self.home.get(other) != label or to is not None
+        return self.shape.dominates(place, label)
 
     def of(self, name):
         if is_constant(name):
@@ -121,9 +179,13 @@ class Bounds:
             return 2**bits(it.kind) - 1 if it.how == "zext" else FULL
         if it.form == "binary":
             bound = self.of_binary(it, self.at(it.one, label), self.at(it.other, label))
+            bound = self.at(it.one, label) if self.is_step_down(it, label) else bound
+            bound = min(bound, SIZE) if it.result in self.addresses else bound
             return min(bound, self.of(self.ends[it.result])) if it.result in self.ends else bound
         if it.form == "number":
             return FULL if it.value in self.wide else SIZE
+        if it.form == "load":
+            return SIZE if ADDRESS in it.line else FULL
         if it.form == "phi":
             return max((self.at(value, source, label) for source, value in it.sources.items() if source in self.shape.rank), default=-1)
         if it.form == "select":
@@ -133,10 +195,31 @@ class Bounds:
         if it.form == "call":
             return self.of_call(label, it)
         if it.form == "field":
-            call = self.made.get(it.value)
-            if call is not None and call.form == "call":
-                return self.all.result_of(call.callee, int(it.index))
+            return self.of_field(it.value, it.index, frozenset())
         return FULL
+
+    def of_field(self, whole, index, seen):
+        """The bound of a field of a struct that calls give, or of one that is chosen from such."""
+        it = self.made.get(whole)
+        if it is None or it.form not in ("call", "phi", "insert"):
+            return FULL
+        if it.form == "call":
+            return self.all.result_of(it.callee, int(index))
+        if it.form == "insert":
+            return self.of_field(it.value, index, seen) if it.index != index else self.at(it.given, self.home[whole])
+        return max((self.of_field(value, index, seen | {whole}) for value in it.sources.values() if value not in seen | {whole}), default=-1)
+
+    def is_step_down(self, it, label):
+        """Whether a number is taken away from one that is not below it."""
+        if it.how == "add" and is_constant(it.other) and int(it.other) < 0:
+            by = -int(it.other)
+        elif it.how == "sub" and is_constant(it.other) and int(it.other) > 0:
+            by = int(it.other)
+        else:
+            return False
+        return any(is_constant(other) and self.holds(place, other, label, None)
+                   and {"ne": int(other) == 0 and by == 1, "eq": int(other) >= by, "ugt": int(other) + 1 >= by >= 0 <= int(other),
+                        "uge": int(other) >= by}.get(how, False) for place, how, other in self.facts.get(it.one, ()))
 
     @staticmethod
     def of_binary(it, one, other):
@@ -165,7 +248,7 @@ class Bounds:
         for label, block in self.shape.blocks.items():
             for it in block.body:
                 if it.result and self.kind_of(it) == "i64":
-                    bound = self.computed(label, it)
+                    bound = self.limited(it.result, self.computed(label, it), label)
                     if bound > self.bounds.get(it.result, -1):
                         self.bounds[it.result] = stepped(bound) if it.form == "phi" else bound
                         changed = True
@@ -218,6 +301,8 @@ class Narrow:
         self.functions = {}
         for name in order:
             self.functions[name] = Bounds(name, module, shapes[name], self)
+            module.functions[name].forget_assumptions()
+        self.note_limits()
         changed = True
         while changed:
             changed = False
@@ -225,8 +310,19 @@ class Narrow:
                 while bounds.round():
                     changed = True
         self.cut = {name: set() for name in order}
+        self.results = {name for name, bounds in self.functions.items() if not bounds.function.is_export and None in bounds.result}
         self.find_cut()
-        self.results = {name for name, bounds in self.functions.items() if not bounds.function.is_export and bounds.result.get(None, FULL) <= SIZE}
+
+    def note_limits(self):
+        """Notes at each call what the callee needs of its numbers. The functions are in an order that has callees first."""
+        for bounds in self.functions.values():
+            for label, block in bounds.shape.blocks.items():
+                for it in block.body:
+                    callee = self.functions.get(it.callee) if it.form == "call" else None
+                    limits = callee.limits() if callee else {}
+                    for name, (_, value) in zip(callee.function.names if callee else (), it.arguments if callee else ()):
+                        if name in limits:
+                            bounds.note(value, label, "ule", str(limits[name]))
 
     def result_of(self, callee, field):
         """The bound of a function's result."""
@@ -253,14 +349,34 @@ class Narrow:
         while changed:
             changed = False
             for name, bounds in self.functions.items():
-                needed = {value for block in bounds.shape.blocks.values() for it in block.body for value in self.needs(name, it)}
-                if needed & self.cut[name]:
+                needed = {value for label, block in bounds.shape.blocks.items() for it in block.body
+                          for value, place in self.needed(name, it, label) if value in self.cut[name] and bounds.at(value, *place) > SIZE}
+                if needed:
                     self.cut[name] -= needed
                     changed = True
+            whole = self.whole_results()
+            if whole:
+                self.results -= whole
+                changed = True
+
+    def whole_results(self):
+        """The functions whose result is not below 2^32, and which a call needs as a whole."""
+        return {it.callee for name, bounds in self.functions.items() for block in bounds.shape.blocks.values() for it in block.body
+                if it.form == "call" and it.callee in self.results and it.result and self.functions[it.callee].result[None] > SIZE
+                and bounds.bounds[it.result] > SIZE and it.result not in self.cut[name]}
+
+    def needed(self, name, it, label):
+        """What an instruction needs as a whole, each with the place where it does."""
+        if it.form == "phi":
+            return [] if it.result in self.cut[name] else [(value, (source, label)) for source, value in it.sources.items()
+                                                           if source in self.functions[name].shape.rank]
+        return [(value, (label,)) for value in self.needs(name, it)]
 
     def needs(self, name, it):
         """The values whose upper half an instruction needs."""
         cut = self.cut[name]
+        if it.form == "leave" and name in self.results:
+            return []
         if it.form == "address":
             return [it.value] if it.result in self.functions[name].wide else []
         if it.form == "offset" or is_lifetime(it) or it.form == "cast" and it.how == "trunc" and bits(it.new) <= 32:
@@ -276,6 +392,10 @@ class Narrow:
             return [value for parameter, (kind, value) in zip(callee.function.names, it.arguments)
                     if kind == "i64" and parameter not in self.cut[it.callee]]
         return it.operands()
+
+    def is_small(self, name, value, label):
+        """Whether a number is below 2^32 where a block uses it."""
+        return self.functions[name].at(value, label) <= SIZE
 
     def of(self, name):
         bounds = self.functions[name]

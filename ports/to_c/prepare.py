@@ -11,23 +11,25 @@ UNROLL = [word for option in ("threshold=30", "max-iteration-count-to-analyze=24
 CLANG = ("--target=x86_64-unknown-linux-gnu", "-Os", "-mllvm", "-force-attribute=optsize", "-fno-vectorize", "-fno-slp-vectorize", *UNROLL,
          "-S", "-emit-llvm", "-x", "ir", "-", "-o", "-")
 LOAD = re.compile(rf"  ({NAME}) = load ptr, ptr (\S+), align (\d+)(.*)")
+ADDRESS = "!uip_address"    # the mark of a load of an address; clang drops a mark that it does not know where it changes what a load means
 STORE = re.compile(r"  store ptr (\S+), ptr (\S+), align (\d+)")
 
 
-def without_addresses(text):
+def without_addresses(text, are_addresses=False):
     """The module with no address in memory: each is stored and loaded as a number. So clang takes no eight bytes of data for an address, which
-    has four on a processor of 32 bits."""
-    out = []
+    has four on a processor of 32 bits. In a kept module what is loaded as an address is one, and has a mark."""
+    out, node = [], 1 + max((int(it) for it in re.findall(r"^!(\d+) = ", text, re.M)), default=-1)
+    mark = f", {ADDRESS} !{node}" if are_addresses else ""
     for line in text.split("\n"):
         if found := LOAD.fullmatch(line):
             name = f"%in.{len(out)}"
-            out += [f"  {name} = load i64, ptr {found[2]}, align {found[3]}", f"  {found[1]} = inttoptr i64 {name} to ptr"]
+            out += [f"  {name} = load i64, ptr {found[2]}, align {found[3]}{mark}", f"  {found[1]} = inttoptr i64 {name} to ptr"]
         elif found := STORE.fullmatch(line):
             name = f"%out.{len(out)}"
             out += [f"  {name} = ptrtoint ptr {found[1]} to i64", f"  store i64 {name}, ptr {found[2]}, align {found[3]}"]
         else:
             out.append(line)
-    return "\n".join(out)
+    return "\n".join([*out, f"!{node} = !{{}}", ""])
 
 
 def with_switches(text):

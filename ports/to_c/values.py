@@ -132,6 +132,12 @@ class Values:
             return Text(f"pair128({int(name) % 2**64}u, {int(name) // 2**64}u)", True)
         return Text(number(int(name), bits(kind)), True)
 
+    def is_small(self, it, name):
+        """Whether an operand of 64 bits is below 2^32 where an instruction uses it."""
+        if is_constant(name):
+            return 0 <= int(name) < 2**32
+        return self.facts.narrow.is_small(self.function.name, name, self.home[it.result])
+
     @staticmethod
     def pointer(text):
         """A number as an address."""
