@@ -179,9 +179,9 @@ def cited_elsewhere():
     return cited
 
 
-# Names that two crates define: the same relation at two levels, or words of the guard's crates, of a client and of arrival that wait for
-# their own.
-KNOWN_NAMESAKES = {"Refines", "reset_by", "sent_at", "fresh", "is_of", "on_wire", "passes"}
+# Names that two crates define: the same relation at two levels, or words of the guard's crates, of a client, of arrival and of moves that
+# wait for their own.
+KNOWN_NAMESAKES = {"Refines", "reset_by", "sent_at", "fresh", "is_of", "on_wire", "passes", "BringsBytes", "KeepsU32", "Writing"}
 
 
 def namesakes(sources):
