@@ -35,9 +35,9 @@
  * connections that your program answers. Whoever reaches the node can read its pages, press its buttons and occupy
  * its ten connections: use it only on a network that you control.
  *
- * Proved of the source, if you keep the ten rules: memory safety, and the exact output of each call
- * (docs/GUARANTEE.md). Tested, and not proved: the machine code, and the inline functions. Not proved: stack, heap
- * and time.
+ * Proved of the source, if you keep the ten rules: memory safety, and the exact output of each call. So what a client
+ * receives is right, and under stated conditions its whole page arrives (docs/GUARANTEE.md). Tested, and not proved:
+ * the machine code, and the inline functions. Not proved: stack, heap and time.
  *
  * SPDX-License-Identifier: MIT OR Apache-2.0
  * Copyright 2026 The Lowunbisa authors; see LICENSE on the run-time library in each binary
