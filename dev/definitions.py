@@ -22,7 +22,8 @@ definition rests on, in this form.
 """
 # Definitions of which the first alone is printed. The trace is that of `step`, whatever it does, and the conclusion names no transition.
 # The guard chooses the events of the trace by `guarded`, and its lens shifts numbers by a hash: no conclusion depends on which.
-CLOSED = ("uip_node.specs.Node.step", "guarded_node.specs.Guarded.guarded", "sip_hash.specs.SipHash.sip_hash")
+CLOSED = ("uip_node.specs.Node.step", "guarded_node.specs.Guarded.guarded", "guarded_node.specs.Verdicts.verdict_on",
+          "sip_hash.specs.SipHash.sip_hash")
 # What is printed first of what a statement rests on: its conclusion, before its hypotheses.
 FIRST = {"node_laws.specs.TraceConforms.EveryTraceOfPagesConforms": ("node_laws.specs.TraceConforms.TraceConforms",
                                                                      "app_events.specs.Pages.IsPaged", "uip_node.specs.Laws.HasBytes")}
@@ -37,9 +38,12 @@ SECTIONS = (
     ("Arrival, retransmission and windows",
      ("node_laws.specs.LossyPeers.ArrivesUnderLoss", "node_laws.specs.Timers.RetransmitsOrResets", "node_laws.specs.Windows.WindowsAreRespected"),
      "The laws are `arrives_under_loss`, `retransmits_or_resets` and `windows_are_respected` of `node_laws`."),
-    ("Calls from C", ("uip_device.specs.Keeping.CallsConform", "frame_device.specs.FrameKeeping.FramesConform"),
-     "The laws `calls_from_c_keep_the_promise` and `frames_from_c_keep_the_promise` of `uip_c` conclude these two of the calls on a"
-     " handle: the first on a serial line and for datagrams, the second on Ethernet."),
+    ("Calls from C", ("uip_device.specs.Keeping.CallsConform", "frame_device.specs.FrameKeeping.FramesConform",
+                      "guard_laws.specs.Through.ArrivesThroughGuard"),
+     "The laws `calls_from_c_keep_the_promise` and `frames_from_c_keep_the_promise` of `uip_c` conclude the first two of the calls on"
+     " a handle: `CallsConform` on a serial line and for datagrams, `FramesConform` on Ethernet. The first law also concludes"
+     " `ArrivesOnWire` of what comes on the wire, and `TraceConforms` in its numbers (`ConformOnWire`, which `python3 dev.py trusted"
+     " text ConformOnWire` prints). The law `arrives_through_guard` of `guard_laws` is the third, for any node with a guard."),
 )
 
 
