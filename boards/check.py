@@ -26,7 +26,7 @@ NODE = fetch.SERVER[0]
 FLOOD, FLOOD_LEN = 30, 1400
 FIRST_AT_START, FIRST_OF_FLOOD = 100, 1000    # numbers of requests; those of the pings begin at 0
 ECHO_REPLY, ECHO = 0, 8
-SYN = 2                               # of the flags of TCP
+SYN, CLIENT_PORT = 2, 40000           # of the flags of TCP; of --secret
 DAMAGED = (3, 4, 6, 8, 14, 17, 18)    # the counters of uip.h that grow if a byte of a datagram was lost
 TICKS_FOR = 5                         # seconds
 
@@ -127,8 +127,10 @@ def try_two(trial, folder):
 
 
 def try_secret(trial):
-    """Without a secret the node's numbers are counts from its start (RFC 793, the ISN)."""
-    with socket.socket(socket.AF_INET, socket.SOCK_RAW, socket.IPPROTO_TCP) as seen, socket.create_connection((NODE, 80), timeout=40):
+    """Without a secret the node's numbers are counts from its start. With one they also depend on the ports and addresses (RFC 6528), so the port
+    of the client is always the same."""
+    with socket.socket(socket.AF_INET, socket.SOCK_RAW, socket.IPPROTO_TCP) as seen, \
+            socket.create_connection((NODE, 80), timeout=40, source_address=("", CLIENT_PORT)):
         seen.settimeout(5)
         while True:
             segment = seen.recv(2048)[20:]
