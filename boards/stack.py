@@ -3,8 +3,8 @@
 
     python3 boards/stack.py FOLDER PROCESSOR STACK     `make` runs it: status 1 if a firmware may need more than these bytes
 
-FOLDER has the lists, and PROCESSOR is that of board.mk. If a function calls itself or is called by its address, the depth is not known, and the
-script says so: with status 0, as the build is the reader's own.
+FOLDER has the lists, and PROCESSOR is that of board.mk. If a function calls itself or is called by its address, the depth is not known: the
+script prints that, with status 0.
 """
 import os
 import re
@@ -50,9 +50,9 @@ class Calls:
         below = [self.depth(other, (*above, name)) for other in self.calls.get(name, ())]
         return self.frames.get(name, 0) + max(below, default=0)
 
-    def deepest(self, is_wanted):
-        """That of those functions whose names are wanted."""
-        return max((self.depth(name) for name in self.frames if is_wanted(name.rsplit(":", 1)[-1])), default=0)
+    def deepest(self, is_one):
+        """That of the deepest function with such a name."""
+        return max((self.depth(name) for name in self.frames if is_one(name.rsplit(":", 1)[-1])), default=0)
 
     def greatest(self, processor):
         """That of the program with one interrupt above it."""
