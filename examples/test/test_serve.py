@@ -25,9 +25,11 @@ import time
 import tty
 import urllib.request
 
-import ping
-
 HERE = os.path.dirname(os.path.dirname(os.path.abspath(__file__)))      # the folder examples/
+sys.dont_write_bytecode = True
+sys.path.insert(0, HERE)
+import ping  # noqa: E402
+
 TOP = os.path.join(HERE, "..")
 PATIENCE = int(os.environ.get("PATIENCE", "1"))       # for a busy machine
 UIPD = os.environ.get("UIPD", os.path.join(TOP, "crates/uipd/out/uipd"))
