@@ -12,6 +12,7 @@
  *   uip_app_periodic_frame(device, slot, frame, room)        runs the timers of one slot
  *   uip_app_read(device, slot, bytes, room)                  copies what a connection has received
  *   uip_app_write(device, slot, taken, text, len, last, frame, room)      answers it by one message
+ *   uip_app_guard_counter(device, number)                    what the guard dropped and gave up
  *   uip_app_close(device)                                    frees its memory
  *   UIP_APP_MEMORY                                           the bytes of heap that a device needs
  *
@@ -187,6 +188,11 @@ uip_received uip_app_read(uip_app *device, size_t slot, void *bytes, size_t room
  */
 uip_result uip_app_write(uip_app *device, size_t slot, size_t taken, const void *text, size_t len, unsigned last,
                          unsigned char *frame, size_t room);
+
+/* Returns a counter of the guard, by its enum uip_guard_counter_id of uip.h. Status: UIP_BAD_ARGUMENT;
+ * UIP_NO_DEVICE; UIP_OK.
+ */
+uip_number uip_app_guard_counter(uip_app *device, size_t number);
 
 /* Closes a device and frees its memory. It sends nothing: all connections are lost.
  *

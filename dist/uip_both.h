@@ -12,8 +12,8 @@
  *
  *   Library     libuip_both_c.a, or uip.c with UIP_BOTH. It has these calls of uip.h: uip_open_ether, uip_protect,
  *               uip_input_frame, uip_periodic_frame, uip_tick_frames, uip_set_value, uip_hits, uip_query, uip_ticks,
- *               uip_is_idle, uip_needs_ticks, uip_counter, uip_connection and uip_close. It has no call for a serial
- *               line or for datagrams, and none of uip_app.h.
+ *               uip_is_idle, uip_needs_ticks, uip_counter, uip_guard_counter, uip_connection and uip_close. It has no
+ *               call for a serial line or for datagrams, and none of uip_app.h.
  *   Programs    examples/linux-both/ for Linux: pages, a console, and Modbus/TCP. examples/board/both.c is a firmware
  *               for qemu.
  *   Proved      Of the source, if you keep the rules: memory safety, and that each call writes exactly the frame that

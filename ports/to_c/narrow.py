@@ -7,8 +7,8 @@ from .forms import bits, is_constant, parts_of
 from .module import is_lifetime
 from .prepare import ADDRESS
 
-FULL, SIZE, OBJECT = 2**64 - 1, 2**32 - 1, 2**30
-STEPS = (0, 1, 2**8 - 1, 2**16 - 1, 2**24, *(times * OBJECT + more for times in (1, 2, 3) for more in (0, 2**16)), SIZE, FULL)    # for one that rises
+FULL, SIZE, OBJECT = 2**64 - 1, 2**32 - 1, 2**31 - 1
+STEPS = (0, 1, 2**8 - 1, 2**16 - 1, 2**24, OBJECT, OBJECT + 2**16, OBJECT + 2**24, SIZE, FULL)    # a bound that rises takes one of these
 OPPOSITE = {"eq": "ne", "ne": "eq", "ult": "uge", "uge": "ult", "ugt": "ule", "ule": "ugt"}
 SWAPPED = {"eq": "eq", "ne": "ne", "ult": "ugt", "ugt": "ult", "uge": "ule", "ule": "uge"}
 MODULAR = ("add", "sub", "mul", "and", "or", "xor", "shl")    # the lower half of the result depends on the lower halves
@@ -148,7 +148,7 @@ class Bounds:
         """The bound of a number, and what the facts of a place add: of the number, and of a difference from it."""
         for difference, less in self.differences.get(name, ()):
             limit = self.limited(difference, FULL, label, to)
-            if limit <= 2 * OBJECT and 0 <= self.of(less) <= SIZE:
+            if limit <= SIZE and 0 <= self.of(less) <= SIZE:
                 bound = min(bound, limit + self.of(less))
         for place, how, other in self.facts.get(name, ()):
             if bound > 0 and how in ("eq", "ult", "ule") and self.holds(place, other, label, to):

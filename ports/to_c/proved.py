@@ -14,7 +14,7 @@ SUMS = {"add": "Add", "sub": "Sub", "mul": "Mul"}
 BINARY = re.compile(r"(  %[\w.-]+ = (add|sub|mul)) (i\d+ \S+, \S+)")
 HEAD = re.compile(r'define (?:internal )?(?:fastcc )?(?:\w+ )*?(void|ptr|i\d+|\{[^}]*\}) @("[^"]*"|[\w.]+)\((.*)\) [^()]*\{')
 PARAMETER = re.compile(r"(ptr|i\d+|\{[^}]*\})(?: \w+| align \d+)* (%[\w.-]+)")
-OBJECT = 2**30    # no object has more bytes
+OBJECT = 2**31 - 1    # no object has more bytes
 
 # The kit's copy, whose contract wants the two areas apart. Its code asks whether they are, since the compiler knows no contract.
 COPY, COPY_SOURCE = "core::ptr::copy_drop::copy_bits", "rattle/core/src/ptr/copy_drop.rt"
