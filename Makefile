@@ -36,6 +36,7 @@ answers: $(SERVE)
 	@$(PYTHON) examples/ping.py $(SERVE) serve - 10.0.0.1
 
 run: answers
+	@[ -e "$(SITE)" ] || { echo "make run: there is no $(SITE) (SITE counts from the folder of the Makefile)"; exit 1; }
 	@echo "3 of 3  serving $(SITE) to a page that hosts the program: open http://localhost:$(PORT)"
 	@$(PYTHON) web/serve.py --port $(PORT) $(SERVE) $(SITE)
 

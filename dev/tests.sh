@@ -59,6 +59,7 @@ try 150 "examples/browse.py with a small node" python3 python3 examples/test/tes
 try 300 "the page: its client, with the device inside" node \
     env INSIDE=1 node --test --test-force-exit --test-concurrency=1 web/test/wire.test.mjs web/test/sequence.test.mjs web/test/parts.test.mjs \
     web/test/inside.test.mjs
+try 30 "docs/PAGES.md: its first page" "python3 $cc" env CC="$cc" python3 examples/first/test.py
 try 200 "docs/UIPD.md: each command, if uipd is built" python3 python3 examples/test/test_uipd.py
 try 120 "the documents against the sources" python3 python3 dev.py docs
 try 60 "dev.py finds what is planted" python3 python3 dev/test.py
