@@ -114,8 +114,9 @@ typedef char uip_needs_unsigned_of_32_bits[sizeof(unsigned) == 4 ? 1 : -1];
  *               links libgcc or compiler-rt. Header and library are of one version. Do not compile with
  *               -fpcc-struct-return or -freg-struct-return.
  *  9 STACK      There is room for the stack of each call, below that of its caller: more than the 1 kB of many
- *               start-up files. ports/README.md, "Figures", has the bytes of each call; opening on Ethernet needs the
- *               most. Add your interrupts if they share the stack. A sink adds nothing: the library has returned.
+ *               start-up files. Reserve 3 kB, and 8 kB where Ethernet is opened; ports/README.md, "Figures", has what
+ *               each call takes. Add your interrupts if they share the stack. A sink adds nothing: the library has
+ *               returned.
  * 10 PROCESSOR  The stack is aligned as the ABI demands. A compiled library, unlike uip.c, demands more of processor
  *               and memory: docs/FIRMWARE.md, "What does a compiled library need?".
  *

@@ -1,5 +1,5 @@
 #!/usr/bin/env python3
-"""Writes what the proof says of a kept module and its text does not (to_c/proved.py).
+"""Writes what the proof states of a kept module and its text does not (to_c/proved.py).
 
     python3 ports/proved.py KIT CRATES MODULE.ll OUT.json      KIT is that which proved the libraries; their MIR is in CRATES/NAME/out and KIT/rlibs
 """

@@ -7,7 +7,7 @@ NOTHING = (1, 0)    # a fact is (modulus, rest): the address leaves this rest
 
 
 def both(one, other):
-    """What two facts about an address say together."""
+    """What two facts about an address give together."""
     return max(one, other)
 
 

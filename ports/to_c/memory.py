@@ -208,7 +208,7 @@ class Memory(Values):
         self.give(it, kind, Text(text, True, reads_of(*texts), is_size=is_small))
 
     def move(self, how, aligned, to, what, length):
-        """A move or a clearing; one of fixed length says which addresses are aligned."""
+        """A move or a clearing; one of fixed length states which addresses are aligned."""
         self.flush("*")
         if found := re.fullmatch(r"(\d+)ull", length.text):
             length = Text(found[1], True)

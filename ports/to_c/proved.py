@@ -1,4 +1,4 @@
-"""What the proof says of a kept module, and its text does not: which sums do not wrap, which numbers are lengths, and which copies are apart.
+"""What the proof states of a kept module, and its text does not: which sums do not wrap, which numbers are lengths, and which copies are apart.
 
 The kit keeps the code of each library that it has proved, with its types, as MIR (mir.json in the library). There a sum that is proved not to wrap
 is `Add`, and one that may wrap is `WrapAdd`; a slice is a struct `&[]` of an address and a length. The functions here note this for each
@@ -16,7 +16,7 @@ HEAD = re.compile(r'define (?:internal )?(?:fastcc )?(?:\w+ )*?(void|ptr|i\d+|\{
 PARAMETER = re.compile(r"(ptr|i\d+|\{[^}]*\})(?: \w+| align \d+)* (%[\w.-]+)")
 OBJECT = 2**31 - 1    # no object has more bytes
 
-# The kit's copy, whose contract wants the two areas apart. Its code asks whether they are, since the compiler knows no contract.
+# The kit's copy, whose contract requires the two areas apart. Its code asks whether they are, since the compiler knows no contract.
 COPY, COPY_SOURCE = "core::ptr::copy_drop::copy_bits", "rattle/core/src/ptr/copy_drop.rt"
 COPY_CONTRACT = "requires* places { sem 𝓛 (fsep (bits_at T.row g.0 src g.1) (uninit_at (Array T.row count) dst)) }"
 MOVE = "@llvm.memmove.p0.p0.i64"
