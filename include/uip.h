@@ -294,10 +294,10 @@ uip_opened uip_open_ether(uip_device *device, const unsigned char *image, size_t
  *   Status    UIP_NO_DEVICE; UIP_BAD_ARGUMENT (it has a secret already, or its node took a datagram, or slot 0 was
  *             called; on Ethernet: or it took a frame, or any slot was called. Nothing changes); UIP_OK
  *
- * Also without a secret a device has a guard ("Connections and attacks" in docs/LIMITS.md). It drops what no host that
- * follows TCP sends, and for a SYN that finds no slot it gives up a connection: one in FIN_WAIT_2, else one in
- * SYN_RCVD, else one of another host that has four slots or more. The peer of that connection is sent nothing; its
- * next segment is answered by a RST.
+ * Also without a secret a device has a guard ("Connections and attacks" in docs/LIMITS.md). It drops a RST that is not
+ * at RCV.NXT, segments that could not be accepted, and a source that no host may have. If a SYN finds no slot, it gives
+ * up a connection: one in FIN_WAIT_2, else one in SYN_RCVD, else one of another host that has four slots or more. The
+ * peer of that connection is sent nothing; its next segment is answered by a RST.
  */
 unsigned uip_protect(uip_device *device, const unsigned char secret[16]);
 

@@ -117,9 +117,8 @@ unsigned uip_app_open(uip_app *device, const unsigned char own[4], const unsigne
  *   Status    UIP_NO_DEVICE; UIP_BAD_ARGUMENT (it has a secret already, or a frame was received or a slot was
  *             called: nothing changes); UIP_OK
  *
- * A device has a guard, also without a secret. It drops what no host that follows TCP sends: a datagram from
- * an address that no host may have, a RST that is not at RCV.NXT, and segments that could not be accepted. If
- * a SYN finds no slot, the guard gives up a connection for it: one in FIN_WAIT_2, else one in SYN_RCVD. No
+ * A device has a guard, also without a secret. It drops a datagram from an address that no host may
+ * have, a RST that is not at RCV.NXT, and segments that could not be accepted. If a SYN finds no slot, the guard gives up a connection for it: one in FIN_WAIT_2, else one in SYN_RCVD. No
  * connection of yours is given up while it is open. The peer of one that is given up is sent nothing; its
  * next segment is answered by a RST.
  *
