@@ -71,7 +71,7 @@ def main():
             wrong.append(f"{name}: {facts}")
         if module.count(" nuw ") != (text.count("= add ") if is_marked else 0):
             wrong.append(f"{name}: its sums are not as noted")
-        if [f"ule i64 %a{at}, {2**31 - 1}" in module for at in range(4)] != [at in lengths for at in range(4)]:
+        if [f"ule i64 %a{at}, {proved.LIMIT}" in module for at in range(4)] != [at in lengths for at in range(4)]:
             wrong.append(f"{name}: its lengths are not as noted")
     for text, contract, is_apart in ((COPY, proved.COPY_CONTRACT, True), (COPY, "requires sizes", False), (OTHER, proved.COPY_CONTRACT, False)):
         module, _ = noted([text], {proved.COPY: mir("Unit", []), "core::ptr::other": mir("Unit", [])}, contract)

@@ -172,12 +172,12 @@ class Module:
             return self.head(line)
         if line.startswith("target datalayout"):
             require(line == f'target datalayout = "{MODULE_LAYOUT}"', "the data layout of the module")
-        elif line.startswith("@"):
+        elif line.startswith("@") and not line.startswith("@uip_limit ="):    # which only assumptions name
             found = CONSTANT.fullmatch(line)
             require(found, "a constant of unknown form")
             self.constants[found["name"]] = (bytes_of(found["kind"], found["value"]), int(found["align"]))
         else:
-            known = line == "" or line.startswith((";", "source_filename", "!", "target triple", "attributes "))
+            known = line == "" or line.startswith((";", "@uip_limit = external global i8", "source_filename", "!", "target triple", "attributes "))
             require(known, "a line of unknown form")
         return None
 

@@ -6,6 +6,7 @@ whose upper half no use needs may be cut: an offset of an address, a length of a
 from .forms import bits, is_constant, parts_of
 from .module import is_lifetime
 from .prepare import ADDRESS
+from .proved import LIMIT
 
 FULL, SIZE, OBJECT = 2**64 - 1, 2**32 - 1, 2**31 - 1
 STEPS = (0, 1, 2**8 - 1, 2**16 - 1, 2**24, OBJECT, OBJECT + 2**16, OBJECT + 2**24, SIZE, FULL)    # a bound that rises takes one of these
@@ -132,11 +133,11 @@ class Bounds:
 
     def limits(self):
         """The parameters that are bounded wherever the function is called, since its first block would do what no module does."""
-        return {name: min(int(other) for place, how, other in self.facts[name] if self.is_at_start(place, how, other))
+        return {name: min(self.of(other) for place, how, other in self.facts[name] if self.is_at_start(place, how, other))
                 for name in self.function.names if any(self.is_at_start(*fact) for fact in self.facts.get(name, ()))}
 
     def is_at_start(self, place, how, other):
-        return place == self.shape.first and how == "ule" and is_constant(other)
+        return place == self.shape.first and how == "ule" and (is_constant(other) or other == LIMIT)
 
     # -- bounds
 
@@ -170,7 +171,7 @@ class Bounds:
         if name in ("poison", "undef"):
             return 0
         if name.startswith("ptrto"):
-            return SIZE
+            return OBJECT if name == LIMIT else SIZE
         return self.bounds.get(name, -1 if name in self.made else FULL)
 
     def computed(self, label, it):

@@ -14,7 +14,8 @@ SUMS = {"add": "Add", "sub": "Sub", "mul": "Mul"}
 BINARY = re.compile(r"(  %[\w.-]+ = (add|sub|mul)) (i\d+ \S+, \S+)")
 HEAD = re.compile(r'define (?:internal )?(?:fastcc )?(?:\w+ )*?(void|ptr|i\d+|\{[^}]*\}) @("[^"]*"|[\w.]+)\((.*)\) [^()]*\{')
 PARAMETER = re.compile(r"(ptr|i\d+|\{[^}]*\})(?: \w+| align \d+)* (%[\w.-]+)")
-OBJECT = 2**31 - 1    # no object has more bytes
+# The greatest length of an object, in an assumption: clang knows nothing of it, and narrow.py knows it for processors of 32 bits.
+LIMIT = "ptrtoint (ptr @uip_limit to i64)"
 
 # The kit's copy, whose contract requires the two areas apart. Its code asks whether they are, since the compiler knows no contract.
 COPY, COPY_SOURCE = "core::ptr::copy_drop::copy_bits", "rattle/core/src/ptr/copy_drop.rt"
@@ -130,9 +131,10 @@ def noted(text, facts):
         out.append(line)
         if at_start and re.fullmatch(r"[\w.-]+:.*", line):
             for name in at_start:
-                out += [f"  %is.{len(out)} = icmp ule i64 {name}, {OBJECT}", f"  call void @llvm.assume(i1 %is.{len(out)})"]
+                out += [f"  %is.{len(out)} = icmp ule i64 {name}, {LIMIT}", f"  call void @llvm.assume(i1 %is.{len(out)})"]
             at_start = []
     text = "\n".join(out)
     require(" nuw nuw " not in text, "a sum that is marked already")
+    text += "\n@uip_limit = external global i8\n"
     needed = {"@llvm.assume": "(i1)", MOVE.replace("memmove", "memcpy"): "(ptr, ptr, i64, i1)"}
     return text + "".join(f"\ndeclare void {name}{kinds}\n" for name, kinds in needed.items() if not re.search(rf"declare .*{name}\(", text))
