@@ -70,8 +70,9 @@ static void serve(void) {
 
 // ---- the device
 
-// Opens the device with the image of this file, opens its ports, and sets the values that its pages show first.
+// Opens the device with the image of this file, gives it a secret, opens its ports, and sets the values that its pages show first.
 static void open_device(const char *name) {
+    unsigned char secret[16];
     static const unsigned char own[4] = {10, 0, 0, 1}, mac[6] = {2, 0, 0, 0, 0, 1}, mask[4] = {255, 255, 255, 0}, router[4] = {10, 0, 0, 2};
     FILE *file = fopen(name, "rb");
     if (!file) {
@@ -85,6 +86,8 @@ static void open_device(const char *name) {
         fprintf(stderr, "uip_open_ether returned status %u %s %u\n", opened.status, opened.word, opened.entry);
         exit(1);
     }
+    random_bytes(secret, sizeof secret);
+    expect_ok(uip_protect(&device, secret));
     expect_ok(uip_listen(&device, CONSOLE_PORT));
     expect_ok(uip_listen(&device, MODBUS_PORT));
     expect_ok(uip_set_value(&device, 0, "both", 4));

@@ -13,6 +13,9 @@ int half_a_second_passed(void);
 // Waits until a frame has arrived, or half a second has passed. It may return earlier: a firmware may sleep here, or return at once.
 void wait_for_work(void);
 
+// Writes random bytes, for the secret of the device.
+void random_bytes(unsigned char *to, size_t len);
+
 // For the test under Linux: attaches the program to an interface, for a number of seconds or until SIGTERM. A firmware is always running.
 void open_driver(const char *interface, unsigned seconds);
 int is_running(void);

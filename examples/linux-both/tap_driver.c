@@ -8,6 +8,7 @@
 #include <stdlib.h>
 #include <string.h>
 #include <sys/ioctl.h>
+#include <sys/random.h>
 #include <time.h>
 #include <unistd.h>
 #include "driver.h"
@@ -45,6 +46,10 @@ void open_driver(const char *interface, unsigned seconds) {
     signal(SIGALRM, stop);
     alarm(seconds);
     due = seconds_now() + 0.5;
+}
+
+void random_bytes(unsigned char *to, size_t len) {
+    if (getrandom(to, len, 0) != (ssize_t)len) fail("getrandom");
 }
 
 int is_running(void) {
