@@ -21,9 +21,11 @@ export function lineTo({ feed, tick }, clock, period = TICK) {
   return { line: { readable, writable }, stop };
 }
 
-// `code` is node.wasm, compiled, and `image` the site. Returns the device and its line; `stop` ends the line, and so does its reader.
-export function nodeInside({ code, image, own, clock }) {
+// `code` is node.wasm, compiled, and `image` the site; with `secret`, 16 random bytes, no host can predict the numbers of the device.
+// Returns the device and its line; `stop` ends the line, and so does its reader.
+export function nodeInside({ code, image, own, clock, secret }) {
   const device = new Device(code);
   device.open(image, own);
+  if (secret) device.protect(secret);
   return { device, ...lineTo({ feed: (bytes, send) => device.feed(bytes, send), tick: send => device.tick(send) }, clock) };
 }

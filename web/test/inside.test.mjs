@@ -12,7 +12,7 @@ import { Session } from "../session.js";
 import { nodeInside } from "../inside.js";
 import { Device } from "../uip.js";
 import { pack, unpack, valuesOf } from "../site.js";
-import { UIPD, noProgram, top } from "./node_process.mjs";
+import { UIPD, noProgram, secret, top } from "./node_process.mjs";
 
 const WASM = join(top, "web/node.wasm"), skip = existsSync(WASM) ? false : `no module at ${WASM}: \`sh ports/run.sh wasm build\` builds it`;
 const code = skip || new WebAssembly.Module(readFileSync(WASM));
@@ -20,7 +20,7 @@ const image = name => new Uint8Array(readFileSync(join(top, `examples/${name}.im
 const SITE = image("site"), STATE = image("state");
 
 async function withNode({ site = SITE, faults = {}, speed = 1, own = [10, 0, 0, 1], seed = 1 }, what) {
-  const clock = new Clock(speed), { device, line, stop } = nodeInside({ code, image: site, own, clock });
+  const clock = new Clock(speed), { device, line, stop } = nodeInside({ code, image: site, own, clock, secret });
   const session = new Session(line, { clock, seed, node: own, leave: stop });
   Object.assign(session.faults, faults);
   try { return await what(session, device); } finally { await session.close(); }

@@ -1,5 +1,6 @@
 // A node at the other end of a line: the program `uipd serve` as a child process on a terminal, or the library inside this
-// process (INSIDE=1). If `uipd` is not built, uipd.mjs replaces it. UIPD and SITE name another program and image.
+// process (INSIDE=1). If `uipd` is not built, uipd.mjs replaces it. UIPD and SITE name another program and image. With PROTECTED=1
+// the library has a secret.
 import { execFileSync, spawn } from "node:child_process";
 import { existsSync, readFileSync } from "node:fs";
 import { dirname, extname, join } from "node:path";
@@ -32,9 +33,10 @@ export function startNode({ site = SITE, words = ["pace", "10000", "tty"] } = {}
 export const lineOf = child => ({ readable: Readable.toWeb(child.stdout), writable: Writable.toWeb(child.stdin) });
 
 const code = new WebAssembly.Module(readFileSync(join(here, "../node.wasm")));
+export const secret = process.env.PROTECTED && crypto.getRandomValues(new Uint8Array(16));
 
 function insideSession({ faults, speed, site = SITE, ...options }) {
-  const clock = new Clock(speed), { line, stop } = nodeInside({ code, image: new Uint8Array(readFileSync(site)), clock });
+  const clock = new Clock(speed), { line, stop } = nodeInside({ code, image: new Uint8Array(readFileSync(site)), clock, secret });
   const session = new Session(line, { clock, leave: stop, ...options });
   return Object.assign(session.faults, faults), session;
 }

@@ -16,7 +16,7 @@ import { serverByUipsRules } from "../uip_rules.js";
 import { resultOf, verdictOf } from "../verdict.js";
 import { ACK, RST, SlipReader, echoDatagram, read, slipText, tcpDatagram } from "../wire.js";
 import { startServe } from "./server.mjs";
-import { here, top, until } from "./node_process.mjs";
+import { here, secret, top, until } from "./node_process.mjs";
 
 const NONE = { complete: 0, wrong: 0, truncated: 0, retransmissions: 0, different: 0 };
 
@@ -48,7 +48,7 @@ test("each verdict has its kind and words", () => {
 // A session with the server by uIP's rules, or with the device and the same meter.
 async function withMeter({ isDevice = false, faults, speed = 1 }, what) {
   const clock = new Clock(speed), code = isDevice && new WebAssembly.Module(readFileSync(join(here, "../node.wasm")));
-  const { device, line, stop } = isDevice ? nodeInside({ code, image: meterSite(), own: [10, 0, 0, 1], clock }) : serverByUipsRules({ clock });
+  const { device, line, stop } = isDevice ? nodeInside({ code, image: meterSite(), own: [10, 0, 0, 1], clock, secret }) : serverByUipsRules({ clock });
   const stopMeter = isDevice ? runMeter(device) : () => {}, leave = () => { stopMeter(); stop(); };
   const session = new Session(line, { clock, seed: 3, leave, mss: SMALL, faultOf });
   Object.assign(session.faults, faults);

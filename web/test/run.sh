@@ -2,7 +2,7 @@
 # Tests the page of web/. Reports what it skipped, and ends with 0 if nothing failed.
 #
 #     sh web/test/run.sh            all: the client under node, the page in the browsers, planted faults that need no browser
-#     sh web/test/run.sh client     the client alone; browser: the page alone
+#     sh web/test/run.sh client     the client alone, also beside a device with a secret; browser: the page alone
 #     sh web/test/run.sh quick      the planted faults that need no browser; planted: all planted faults
 #     sh web/test/run.sh inside     what needs no program: the device inside, under node and in the browsers
 #
@@ -43,7 +43,9 @@ client() {
     export INSIDE=1
     # shellcheck disable=SC2086
     tests "the client under node, with the device inside" 600 $(suites $more)
-    unset INSIDE
+    export PROTECTED=1
+    tests "the client under node, with a device that has a secret" 600 $(suites parts transfer many inside)
+    unset INSIDE PROTECTED
 }
 # shellcheck disable=SC2046
 inside() {

@@ -7,7 +7,7 @@ import { readFileSync } from "node:fs";
 import { join } from "node:path";
 import { Session } from "../session.js";
 import { nodeInside } from "../inside.js";
-import { here } from "./node_process.mjs";
+import { here, secret } from "./node_process.mjs";
 
 const code = new WebAssembly.Module(readFileSync(join(here, "../node.wasm"))), image = new Uint8Array(readFileSync(join(here, "../site.img")));
 const FAULTS = { loss: 0.2, duplication: 0.1, reordering: 0.1, corruption: 0.1 }, STALL = 30000;
@@ -39,7 +39,7 @@ class SimulatedClock {
 }
 
 async function pages(count, seed, stall) {
-  const clock = new SimulatedClock(), { line, stop } = nodeInside({ code, image, own: [10, 0, 0, 1], clock });
+  const clock = new SimulatedClock(), { line, stop } = nodeInside({ code, image, own: [10, 0, 0, 1], clock, secret });
   const session = new Session(line, { clock, seed, leave: stop });
   Object.assign(session.faults, FAULTS);
   const measure = () => {   // as after a stall: all eight connections measured it

@@ -4,6 +4,7 @@
 //     uipd.mjs serve IMAGE ADDR [pace K] [tty]     as `uipd serve`
 //     uipd.mjs pack NAME=FILE ..                   as `uipd pack`
 //
+// With PROTECTED=1 the device has a secret, which `uipd` never has.
 // It is what is tested, never what a test takes for right.
 import { readFileSync, readSync, writeSync } from "node:fs";
 import { dirname, join } from "node:path";
@@ -28,6 +29,7 @@ function write(bytes) {
 function serve(image, address, pace, isTty) {
   const device = new Device(new WebAssembly.Module(readFileSync(WASM))), buffer = new Uint8Array(65536);
   device.open(read(image), address.split(".").map(Number));
+  if (process.env.PROTECTED) device.protect();
   for (let count = 0;;) {
     const length = readSync(0, buffer);
     if (!length && !isTty) return;
