@@ -1,4 +1,5 @@
-// An entry for libFuzzer, over the C file: a device on a serial line, with datagrams or on Ethernet, by the first byte of the input.
+// An entry for libFuzzer, over the C file: a device on a serial line, with datagrams or on Ethernet, with a secret or without one, by the
+// first byte of the input.
 //
 //     clang -g -O1 -fsanitize=fuzzer,address,undefined fuzz/libfuzzer/entry.c dist/uip.c -o out/libfuzzer
 //     out/libfuzzer -max_len=2048 -len_control=10 out/corpus
@@ -20,6 +21,7 @@ static const unsigned char image[] = "UIPSITE1\0\2"
     "\013/index.html\0\0\0\2hi"
     "\010/v.shtml\0\0\0\023<p>%! value 3\n</p>\n";
 static const unsigned char own[4] = {10, 0, 0, 1}, mac[6] = {2, 0, 0, 0, 0, 1}, mask[4] = {255, 255, 255, 0}, router[4] = {10, 0, 0, 254};
+static const unsigned char secret[16] = {7, 1, 250, 33, 98, 4, 71, 180, 26, 9, 222, 61, 140, 17, 88, 203};
 static unsigned char out[UIP_MAX_OUT], frame[UIP_MAX_FRAME];
 
 static void must(int is_so) {
@@ -107,10 +109,11 @@ int LLVMFuzzerTestOneInput(const uint8_t *data, size_t size);
 int LLVMFuzzerTestOneInput(const uint8_t *data, size_t size) {
     uip_device device = UIP_INIT;
     unsigned sum = 0;
-    int kind = size ? data[0] % 3 : 0;
+    int kind = size ? data[0] % 3 : 0, is_protected = size && data[0] / 3 % 2;
     uip_opened opened = kind < 2 ? uip_open(&device, image, sizeof image - 1, own) :
                                    uip_open_ether(&device, image, sizeof image - 1, own, mac, mask, router);
     must(opened.status == UIP_OK);
+    if (is_protected) must(uip_protect(&device, secret) == UIP_OK);
     if (size) data++, size--;
     while (size >= 2) {
         size_t len = (size_t)data[0] << 8 | data[1];
