@@ -131,6 +131,105 @@ function tenIdle(node) {
   return [client.state !== "ESTABLISHED", client.state];
 }
 
+// Ten hosts get a page, acknowledge its FIN, and never close: FIN-WAIT-2.
+function tenFinished(node) {
+  for (let i = 0; i < 10; i++) finished(node, [10, 0, 2, i + 1], 7000 + i);
+  const state = node.states.join(), client = opened(node, { irs: 5 });
+  return [client.state !== "ESTABLISHED" || !/^(FIN-WAIT-2,?){10}$/.test(state), client.state];
+}
+
+// ---- which connection is given up
+
+const host = number => [10, 0, 3, number];
+const halfOpen = (node, from, port) => node.input(tcp({ from, port, flags: SYN, seq: 9 }));
+const idle = (node, from, port) => opened(node, { from, port });
+function finished(node, from, port) {
+  const client = idle(node, from, port);
+  client.get("/state.shtml");
+}
+// It waits for an acknowledgement.
+function served(node, from, port) {
+  const client = idle(node, from, port);
+  client.isDeaf = true;
+  client.get("/state.shtml");
+}
+
+// A SYN that finds no slot, by default of another host. It must end none but the one from port 9000.
+function ends(node, fields = {}) {
+  const ports = () => node.live.map(row => row.port), before = ports();
+  node.input(tcp({ from: EVIL, port: 5000, flags: SYN, seq: 1, ...fields }));
+  const after = ports(), ended = before.filter(port => !after.includes(port));
+  return [ended.some(port => port !== 9000), `ended: ${ended.join() || "none"}`];
+}
+const tenHosts = node => { for (let i = 0; i < 10; i++) halfOpen(node, host(i), 1000 + i); };
+
+function damagedSyn(node) {
+  tenHosts(node);
+  return ends(node, { sum: 0x1234 });
+}
+
+function synToClosedPort(node) {
+  tenHosts(node);
+  return ends(node, { dport: 81 });
+}
+
+function synWithMore(node) {
+  tenHosts(node);
+  return [SYN | FIN, SYN | PSH, SYN | ACK, SYN | RST].map(flags => ends(node, { flags })).find(([did]) => did) ?? [false, "ended: none"];
+}
+
+// The first host has `count` connections, and the others fewer than four each.
+function crowd(node, count, opens) {
+  for (let i = 0; i < count; i++) opens(node, VICTIM, 4000 + i);
+  for (let i = count; i < 10; i++) idle(node, host(i % 3), 4000 + i);
+}
+
+function hostWithThree(node) {
+  crowd(node, 3, idle);
+  return ends(node);
+}
+
+function synOfItsOwnHost(node) {
+  crowd(node, 4, idle);
+  return ends(node, { from: VICTIM });
+}
+
+function servedBeforeIdle(node) {
+  crowd(node, 3, served);
+  node.input(tcp({ from: host(0), port: 4003, flags: RST, seq: 101 }));
+  idle(node, VICTIM, 9000);
+  return ends(node);
+}
+
+function handshakeBeforeFinished(node) {
+  finished(node, host(0), 9000);
+  for (let i = 1; i < 10; i++) halfOpen(node, host(i), 1000 + i);
+  return ends(node);
+}
+
+function handshakeBeforeOlder(node) {
+  halfOpen(node, host(0), 9000);
+  node.tick(10);
+  for (let i = 1; i < 10; i++) halfOpen(node, host(i), 1000 + i);
+  return ends(node);
+}
+
+function handshakeBeforeOlderByTicks(node) {
+  halfOpen(node, host(0), 9000);
+  node.tick(2);
+  for (let i = 1; i < 10; i++) halfOpen(node, host(i), 1000 + i);
+  return ends(node);
+}
+
+function finishedBeforeOlder(node) {
+  finished(node, host(0), 9000);
+  node.tick(5);
+  for (let i = 1; i < 10; i++) finished(node, host(i), 1000 + i);
+  return ends(node);
+}
+
+// ----
+
 // The RST for a port that is not served has the number that the segment named, or 0.
 function resetTells(node) {
   const rst = fields => read(node.input(tcp({ from: EVIL, port: 80, dport: 81, seq: 5, ...fields }))[0]).seq;
@@ -166,15 +265,35 @@ const ATTACKS = {
   "LAND: own address and port": land,
   "TIME-WAIT answers a bare ACK": waitingAnswers,
   "ten idle connections of one host lock clients out": tenIdle,
+  "ten finished connections lock clients out": tenFinished,
+  "a SYN with a wrong checksum ends a connection": damagedSyn,
+  "a SYN to a closed port ends a connection": synToClosedPort,
+  "a SYN with another flag ends a connection": synWithMore,
+  "a SYN ends one of three connections of a host": hostWithThree,
+  "a SYN in a host's name ends a connection of it": synOfItsOwnHost,
+  "a SYN ends a page on its way, beside an idle connection": servedBeforeIdle,
+  "a SYN ends a handshake, beside a finished connection": handshakeBeforeFinished,
+  "a SYN ends a handshake, beside one whose SYN-ACK was sent again": handshakeBeforeOlder,
+  "a SYN ends a handshake, beside one older by two ticks": handshakeBeforeOlderByTicks,
+  "a SYN ends a finished connection, beside an older one": finishedBeforeOlder,
   "the RST of a closed port tells a number": resetTells,
   "two hosts have near numbers": nearNumbers,
 };
+
+// A device that does not answer an honest client as it should is found too.
+function outcome(attack, node) {
+  try {
+    return attack(node);
+  } catch (error) {
+    return [true, error.message];
+  }
+}
 
 // Tries all attacks, and returns the names of those that work.
 function tried(options, isTold) {
   const works = [];
   for (const [name, attack] of Object.entries(ATTACKS)) {
-    const node = new Node(options), [did, what] = attack(node);
+    const node = new Node(options), [did, what] = outcome(attack, node);
     node.close();
     if (did) works.push(name);
     if (isTold) console.log(`${did ? "WORKS" : "fails"}  ${name}: ${what}`);

@@ -1,77 +1,104 @@
-// A device of the library by lines of text, for attacks.mjs and known.mjs: one command a line on standard input, one answer a line.
+// A device of the library by lines of text, for attacks.mjs and known.mjs: one command a line comes in, and one answer a line goes out.
 //
 //     open OWN IMAGE       protect SECRET       input DATAGRAM       tick SLOT       rows       hits NAME
 //
-// All arguments are in hexadecimal, except SLOT. The answer is a datagram that was sent, or "-"; `rows` answers with the ten rows.
-#include <stdio.h>
-#include <stdlib.h>
-#include <string.h>
+// All arguments are in hexadecimal, except SLOT, which is one digit. The answer is a datagram that was sent, or "-"; `rows` answers with the
+// ten rows. After a mistake it answers "? WHAT", and takes no more commands. The lines come by standard input and output, or, with m4.c, by
+// the port of a Cortex-M4.
 #include "uip.h"
 
-enum { LONGEST = 1 << 21 };
+enum { LONGEST = 1 << 15 };
 static char line[LONGEST];
-static unsigned char bytes[LONGEST / 2], out[UIP_MAX_DATAGRAM];
+static unsigned char image[LONGEST / 2], bytes[LONGEST / 2], out[UIP_MAX_DATAGRAM];
 static uip_device device = UIP_INIT;
 
-static void fail(const char *what) { fprintf(stderr, "device: %s\n", what), exit(2); }
+#ifdef M4
+int get_byte(void);
+void put_byte(int byte);
+static void end_answer(void) { put_byte('\n'); }
+#else
+#include <stdio.h>
+static int get_byte(void) { return getchar(); }
+static void put_byte(int byte) { putchar(byte); }
+static void end_answer(void) { putchar('\n'), fflush(stdout); }
+#endif
 
-// The bytes of a number in hexadecimal; returns how many there are.
+static void put_text(const char *text) { while (*text) put_byte(*text++); }
+
+static void put_number(unsigned n) {
+    if (n > 9) put_number(n / 10);
+    put_byte('0' + (int)(n % 10));
+}
+
+static void put_hex(unsigned char byte) {
+    static const char digits[] = "0123456789abcdef";
+    put_byte(digits[byte >> 4]), put_byte(digits[byte & 15]);
+}
+
+static void fail(const char *what) {
+    put_text("? "), put_text(what), end_answer();
+    while (get_byte() >= 0) {}
+}
+
+static int is_digit(char sign) { return (sign >= '0' && sign <= '9') || (sign >= 'a' && sign <= 'f'); }
+static unsigned value_of(char sign) { return (unsigned)(sign <= '9' ? sign - '0' : sign - 'a' + 10); }
+
+// The bytes of a text in hexadecimal; returns how many there are.
 static size_t read_bytes(const char *text, unsigned char *to) {
     size_t count = 0;
-    for (unsigned byte; sscanf(text, "%2x", &byte) == 1; text += 2) to[count++] = (unsigned char)byte;
+    for (; is_digit(text[0]) && is_digit(text[1]); text += 2) to[count++] = (unsigned char)(value_of(text[0]) << 4 | value_of(text[1]));
     return count;
 }
 
 static void answer(uip_result result) {
-    if (result.status != UIP_OK) fail("a call was refused");
-    if (!result.written) printf("-");
-    for (size_t at = 0; at < result.written; at++) printf("%02x", out[at]);
+    if (result.status != UIP_OK) { fail("a call was refused"); return; }
+    if (!result.written) put_byte('-');
+    for (size_t at = 0; at < result.written; at++) put_hex(out[at]);
 }
 
-static void open_device(char *own) {
-    char *image = strchr(own, ' ');
-    unsigned char at[4];
-    if (image) *image++ = 0;
-    if (!image || read_bytes(own, at) != 4) fail("`open` has an address and an image");
-    size_t len = read_bytes(image, bytes);
-    unsigned char *kept = malloc(len);
-    if (!kept) fail("out of memory");
-    memcpy(kept, bytes, len);
-    if (uip_open(&device, kept, len, at).status != UIP_OK) fail("the image was refused");
+static void open_device(const char *words) {
+    unsigned char own[4];
+    if (read_bytes(words, own) != 4) { fail("`open` has an address and an image"); return; }
+    if (uip_open(&device, image, read_bytes(words + 9, image), own).status != UIP_OK) fail("the image was refused");
 }
 
 static void protect(const char *secret) {
-    if (read_bytes(secret, bytes) != 16) fail("a secret has 16 bytes");
-    if (uip_protect(&device, bytes) != UIP_OK) fail("the secret was refused");
+    if (read_bytes(secret, bytes) != 16 || uip_protect(&device, bytes) != UIP_OK) fail("the secret was refused");
 }
 
 static void rows(void) {
     for (size_t slot = 0; slot < UIP_SLOTS; slot++) {
         uip_row row = uip_connection(&device, slot);
-        const unsigned char *peer = row.peer;
-        printf("%u,%u.%u.%u.%u,%u ", row.state, peer[0], peer[1], peer[2], peer[3], row.port);
+        put_number(row.state), put_byte(',');
+        for (unsigned k = 0; k < 4; k++) put_number(row.peer[k]), put_byte(k < 3 ? '.' : ',');
+        put_number(row.port), put_byte(' ');
     }
 }
 
-static void obey(char *command) {
-    char *rest = strchr(command, ' ');
-    if (rest) *rest++ = 0;
-    else rest = command + strlen(command);
-    if (!strcmp(command, "open")) open_device(rest);
-    else if (!strcmp(command, "protect")) protect(rest);
-    else if (!strcmp(command, "input")) answer(uip_input(&device, bytes, read_bytes(rest, bytes), out, sizeof out));
-    else if (!strcmp(command, "tick")) answer(uip_periodic_datagram(&device, (size_t)atoi(rest), out, sizeof out));
-    else if (!strcmp(command, "rows")) rows();
-    else if (!strcmp(command, "hits")) printf("%u", uip_hits(&device, bytes, read_bytes(rest, bytes)).number);
+static int is_word(const char *command, const char *word) {
+    while (*word && *command == *word) command++, word++;
+    return !*word;
+}
+
+static void obey(const char *command) {
+    if (is_word(command, "open ")) open_device(command + 5);
+    else if (is_word(command, "protect ")) protect(command + 8);
+    else if (is_word(command, "input ")) answer(uip_input(&device, bytes, read_bytes(command + 6, bytes), out, sizeof out));
+    else if (is_word(command, "tick ")) answer(uip_periodic_datagram(&device, value_of(command[5]), out, sizeof out));
+    else if (is_word(command, "rows")) rows();
+    else if (is_word(command, "hits ")) put_number(uip_hits(&device, bytes, read_bytes(command + 5, bytes)).number);
     else fail("no such command");
 }
 
 int main(void) {
-    while (fgets(line, sizeof line, stdin)) {
-        line[strcspn(line, "\n")] = 0;
+    for (;;) {
+        size_t len = 0;
+        for (int byte; (byte = get_byte()) != '\n';) {
+            if (byte < 0) return 0;
+            if (len + 1 < LONGEST) line[len++] = (char)byte;
+        }
+        line[len] = 0;
         obey(line);
-        printf("\n");
-        fflush(stdout);
+        end_answer();
     }
-    return 0;
 }

@@ -41,8 +41,8 @@ class ProgramDevice {
   constructor(program, image, own, isProtected) {
     const folder = mkdtempSync(join(tmpdir(), "guard-")), [asked, told] = ["asked", "told"].map(name => join(folder, name));
     execFileSync("mkfifo", [asked, told]);
-    spawn("sh", ["-c", `exec ${program} <"${asked}" >"${told}"`], { stdio: ["ignore", "ignore", "inherit"] });
-    Object.assign(this, { to: openSync(asked, "w"), from: openSync(told, "r"), folder });
+    const child = spawn("sh", ["-c", `exec ${program} <"${asked}" >"${told}"`], { stdio: ["ignore", "ignore", "inherit"] });
+    Object.assign(this, { child, to: openSync(asked, "w"), from: openSync(told, "r"), folder });
     this.ask(`open ${hex(own)} ${hex(image)}`);
     if (isProtected) this.ask(`protect ${hex(SECRET)}`);
   }
@@ -56,6 +56,7 @@ class ProgramDevice {
       if (!count) throw new Error(`the device ended at: ${command.slice(0, 40)}`);
       text += part.toString("latin1", 0, count);
     }
+    if (text.startsWith("?")) throw new Error(`the device answers ${text.trim()}`);
     return text.trim();
   }
   sent(command) {
@@ -71,6 +72,7 @@ class ProgramDevice {
   close() {
     closeSync(this.to);
     closeSync(this.from);
+    this.child.kill("SIGKILL");    // a board under qemu does not end with its input
     execFileSync("rm", ["-r", this.folder]);
   }
 }
