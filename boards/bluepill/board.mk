@@ -1,3 +1,4 @@
+NAME=Blue Pill: STM32F103C8, Cortex-M3 of 48 MHz here, 20 kB of memory
 CORE=cortex-m3
 FLASH_AT=0x08000000
 FLASH_LEN=64K

@@ -1,3 +1,4 @@
+NAME=SiFive HiFive1 rev B: FE310, rv32imac
 CORE=rv32imac
 FLASH_AT=0x20010000
 FLASH_LEN=4032K

@@ -1,3 +1,4 @@
+NAME=Stellaris LM3S6965 Evaluation Board: Cortex-M3, with Ethernet
 CORE=cortex-m3
 FLASH_AT=0x00000000
 FLASH_LEN=256K

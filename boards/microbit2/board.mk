@@ -1,3 +1,4 @@
+NAME=BBC micro:bit v2: nRF52833, Cortex-M4 of 64 MHz
 CORE=cortex-m4
 FLASH_AT=0x00000000
 FLASH_LEN=512K

@@ -1,3 +1,4 @@
+NAME=qemu's board mps2-an386: Cortex-M4, with Ethernet
 CORE=cortex-m4
 FLASH_AT=0x00000000
 FLASH_LEN=4096K

@@ -1,3 +1,4 @@
+NAME=Netduino Plus 2: STM32F405, Cortex-M4 of 168 MHz
 CORE=cortex-m4
 FLASH_AT=0x08000000
 FLASH_LEN=1024K

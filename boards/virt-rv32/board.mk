@@ -1,3 +1,4 @@
+NAME=qemu's board virt: rv32imac
 CORE=rv32imac
 FLASH_AT=0x80000000
 FLASH_LEN=4096K
