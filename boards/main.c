@@ -1,5 +1,5 @@
 // A device on the serial port of a board, with the loop of support/step.c: it sleeps between the bytes. What it does with its pages is in a file
-// of its own, which defines work: lamp_pages.c, or the one that PAGES names.
+// of its own, which defines work: examples/first/first.c, or the one that PAGES names.
 #include "step.h"
 #include "site.c"                              // tools/pack.py makes it
 #define UIP_HEAP_SIZE UIP_MEMORY(SITE_IMAGE_FILES)

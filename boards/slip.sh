@@ -80,7 +80,7 @@ boot() {
         -chardev "socket,id=line,host=127.0.0.1,port=$port,server=on,wait=off,nodelay=on" -serial chardev:line -monitor none &
     pc=$!
     # shellcheck disable=SC2086
-    $(make -s -C "$here" BOARD="$board" machine | tail -1) -nic none -display none -monitor none \
+    $(make -s -C "$here" BOARD="$board" SITE="$site" machine | tail -1) -nic none -display none -monitor none \
         -chardev "socket,id=line,host=127.0.0.1,port=$port,nodelay=on,reconnect=1" -serial chardev:line &
     firmware=$!
     wait $pc

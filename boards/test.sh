@@ -18,7 +18,7 @@ wrong=0
 value() { sed -n "s/^$1=//p" "$here/$board/board.mk"; }
 fail() { echo "FAILED: $1"; wrong=1; }
 # shellcheck disable=SC2086
-make_it() { make -s -C "$here" BOARD="$board" $loop $WORDS "$@" 2>&1; }
+make_it() { make -s -C "$here" BOARD="$board" SITE="$here/../examples/site" $loop $WORDS "$@" 2>&1; }
 
 # try WORDS OF CHECK.PY [WORDS OF MAKE]: sets `found` to what was good.
 try() {
@@ -37,8 +37,8 @@ whole() {
         if told=$(make_it); then echo "built: $name: $qemu has no model of it"; else fail "$name is not built: $told"; fi
         return
     fi
-    found=''
-    try "" && { [ -n "$loop" ] || try --two BAUD=115200; } && echo "passed: $name: ${found#; }"
+    found='' out=$here/out/test/$name
+    try "" "out=$out" && { [ -n "$loop" ] || try --two BAUD=115200 "out=$out" -o "$out/firmware.elf"; } && echo "passed: $name: ${found#; }"
 }
 
 # With the loop that waits, each of the flood's replies fills a ring of 64 bytes, so the port's interrupt is turned off and on.

@@ -82,13 +82,13 @@ program clang_checked clang $checked
 hard_float() {
     cat >"$room/pages.c" <<'END'
 #define work lamp_work
-#include "lamp_pages.c"
+#include "first.c"
 #undef work
 static volatile float half = 0.5f;
 void work(void) { half = half * 3.0f - 1.0f; if (half == 0.5f) lamp_work(); }
 END
     make -s -C "$top/boards" BOARD=mps2-an386 STACK=4096 "PAGES=$room/pages.c" "out=$room/board" \
-        MORE="-mfloat-abi=hard -mfpu=fpv4-sp-d16 -I$top/boards" run &&
+        MORE="-mfloat-abi=hard -mfpu=fpv4-sp-d16 -I$top/examples/first" run &&
         arm-none-eabi-readelf -A "$room/board/firmware.elf" | grep -q "Tag_ABI_VFP_args: VFP registers"
 }
 if [ -w /dev/net/tun ]; then

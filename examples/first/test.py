@@ -55,9 +55,9 @@ def main():
         faults.append("first.c does not compile")
     faults += first_on_a_pc()
     if len(sys.argv) > 1:
-        words = ["make", "-C", "boards", f"BOARD={sys.argv[1]}", "run", "SITE=../examples/first/pages", "PAGES=../examples/first/first.c"]
+        words = ["make", "-C", "boards", f"BOARD={sys.argv[1]}", "run", "SITE=examples/first/pages", "PAGES=examples/first/first.c"]
         words += ['TRY=sh -c "' + ASK.replace("$", "\\$$") + '"']
-        out = subprocess.run(words, cwd=TOP, check=False, stdout=subprocess.PIPE, text=True).stdout
+        out = subprocess.run(words, cwd=TOP, env={**os.environ, "PWD": TOP}, check=False, stdout=subprocess.PIPE, text=True).stdout
         seen = [line[len("<p>The lamp is "):] for line in out.splitlines() if line.startswith("<p>The lamp is ")]
         if seen != ["off.", "on.", "on.", "off."]:
             faults.append(f"the pages show {seen}")
