@@ -44,7 +44,7 @@ client() {
     # shellcheck disable=SC2086
     tests "the client under node, with the device inside" 600 $(suites $more)
     export PROTECTED=1
-    tests "the client under node, with a device that has a secret" 600 $(suites parts transfer many inside)
+    tests "the client under node, with a device that has a secret" 600 $(suites parts stalls transfer many inside)
     unset INSIDE PROTECTED
 }
 # shellcheck disable=SC2046

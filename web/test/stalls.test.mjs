@@ -64,5 +64,6 @@ for (const [name, stall] of [["a client that never stalls", 0], ["a client that 
     t.diagnostic(`${retransmissions} retransmissions, ${retried} retried`);
     assert.deepEqual([complete + truncated, wrong, different], [1000, 0, 0]);
     assert.ok(truncated < 4, `${truncated}`);   // eight losses in a row: one of 20,000 pages
-    assert.ok(retried < 10, `${retried}`);
+    // Twelve runs with six seeds: 7 on average, 16 at most. Without the client's bound 277 and 285 of the client that stalled.
+    assert.ok(retried < 40, `${retried}`);
   });
