@@ -90,7 +90,7 @@ chosen:
   %e8 = xor i64 %e7, %in2
   %q4 = getelementptr i8, ptr %p, i64 4
   %load = load i32, ptr %q4, align 4
-  %big = or i32 %load, -16777216
+  %big = or i32 %load, -8
   %y = zext i32 %big to i64
   %long = and i64 %x, 15
   %sum = add nuw i64 %y, %long
