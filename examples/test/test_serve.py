@@ -4,8 +4,8 @@
     python3 examples/test/test_serve.py [PROGRAM]              PROGRAM is a built examples/serve.c; out/uip, which make builds, if none is given
     python3 examples/test/test_serve.py --lines PROGRAM ..     the recorded lines alone, to each of these programs
 
-The replies on recorded lines are compared with those of the built `uipd` (UIPD names another one), or else, if node is here, with those
-of web/node.wasm.
+The replies on recorded lines are compared with those of the built `uipd` (UIPD names another one), and with a pace, or without `uipd`, with
+those of web/node.wasm, if node is here.
 """
 import base64
 import glob
@@ -114,17 +114,23 @@ def recorded(programs, room):
     if not has_uipd and not has_node:
         print("skipped: recorded lines: neither uipd nor node is here to compare with")
         return
+    # With `pace` the initial sequence numbers are others than those that a recorded line acknowledges. So the guard acts, which uipd has not.
+    count = 0
     for line, site, more in lines + own:
-        if has_uipd:
-            expected = written(words(UIPD, *more, site=site), line)
-        else:
+        if has_uipd and not more:
+            expected = written(words(UIPD, site=site), line)
+        elif has_node:
             to = os.path.join(room, "expected")
             subprocess.run(["node", "--input-type=module", "-e", BY_WASM, site, line, to, *more[1:]], cwd=TOP, check=True)
             with open(to, "rb") as file:
                 expected = file.read()
+        else:
+            continue
+        count += 1
         for program in programs:
             see(written(words(program, *more, site=site), line) == expected, f"{program}: other bytes for {os.path.basename(line)} {' '.join(more)}")
-    print(f"recorded lines: {len(lines + own)} compared with {'uipd' if has_uipd else 'web/node.wasm'}")
+    with_what = " and ".join(name for name, is_here in (("uipd", has_uipd), ("web/node.wasm", has_node)) if is_here)
+    print(f"recorded lines: {count} of {len(lines + own)} compared with {with_what}")
 
 
 # ---- lines that are open
