@@ -155,7 +155,7 @@ test("1,000 pages, a fifth lost, a tenth repeated, reordered and damaged", { ski
     assert.ok(truncated < 10);
   }));
 
-// What a node sends for a line that it gets in pieces of so many bytes, without ticks.
+// What a node sends for a line that it gets in pieces of n bytes, without ticks.
 function output(site, line, pace) {
   const device = new Device(code), out = [], send = text => out.push(text);
   device.open(site);
